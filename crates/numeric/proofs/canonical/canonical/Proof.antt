@@ -1,0 +1,18 @@
+-- `canonical::canonical` meets its contract: only nan differs from itself. Assumes nothing.
+use mathlib.Core.Path.{sym, subst}
+use borrow.Author.Needs.{needs}
+use lib.Dec.{T}
+use lib.Ieee.{ofBits, div, neg}
+use lib.Ieee.Compare.{differs-from-itself}
+use Rattle.numeric.proofs.canonical.canonical.Statement.{statement}
+use Rattle.numeric.proofs.canonical.canonical.Tie as tie
+
+returns : tie.Need-returns
+unfolding ofBits div neg
+returns c = sym (differs-from-itself _ (subst T (sym (c .if1 .taken)) tt))
+
+returns-2 : tie.Need-returns-2
+returns-2 c = search needs
+
+pub canonical-spec : {M : Type 1} → statement M
+canonical-spec = tie.close (tie.spec returns returns-2)

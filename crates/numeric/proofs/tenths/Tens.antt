@@ -1,0 +1,134 @@
+-- Ten times a fraction, cut to a whole number: downwards and upwards, by any fraction of the same size. Assumes nothing.
+use mathlib.Core.Path.{_≡_, refl, sym, ap, _∙_, subst}
+use mathlib.Core.Bool.{Bool, true, false, false≢true, true≢false}
+use Prim.Native.Nat.{ℕ, zero, suc, _+_, _-_, _*_, _/_, _%_, _^_, _≤_, _<_}
+use native.Mathlib.Nat.{le-refl, le-trans, le-of-eq, le-of-suc-le-suc, le-antisymm, lt-of-lt-of-le, lt-of-le-of-lt, mul-one, one-mul, mul-comm, mul-assoc, mul-right-comm, mul-le-mul-right, le-of-mul-le-mul-right, eq-of-mul-eq-mul-right, zero-mul, suc-mul, mul-pos, div-le-self, div-eq-of-lt, div-lt-iff-lt-mul, zero-lt-suc}
+use native.Mathlib.Omega.{arith}
+use lib.IntN.{ℤ, pos, negsuc, negℤ, _-ℤ_, +ℤ-idl}
+use lib.Dec.{T, ltb, ltb→lt, lit<}
+use lib.Pow.{pow-pos, pow-mono, shl-exact}
+use lib.Ieee.{Float, nan, inf, fin, up, down, lt}
+use lib.Ieee.Fits.{up-pos, down-pos}
+use lib.Ieee.Digits.{Equals}
+use lib.Ieee.Nearest.{div-same}
+use lib.Ieee.Positive.{first-pos}
+use borrow.Author.Tests.{ltb-true, ltb-false}
+use mir.Syntax.{w64}
+use mir.Val.{SFits}
+use Rattle.numeric.specs.Tenths.{ceiling, tenthsOf, ScaledOf}
+use Rattle.numeric.proofs.tenths.Size.{Within}
+
+-- ---- the ceiling: the smallest q with a ≤ q * b
+spread : (a b qb : ℕ) → 0 < b → a ≤ qb → a + (b - 1) < b + qb
+spread a b qb h k = omega arith
+
+gather : (a b qb : ℕ) → 0 < b → a + (b - 1) < b + qb → a ≤ qb
+gather a b qb h k = omega arith
+
+sucs : (q b : ℕ) → suc q * b ≡ b + q * b
+sucs q b = suc-mul q b ∙ swap (q * b) b
+  where
+    swap : (x y : ℕ) → x + y ≡ y + x
+    swap x y = omega arith
+
+ceiling-le : (a b q : ℕ) → 0 < b → a ≤ q * b → ceiling a b ≤ q
+unfolding ceiling
+ceiling-le a b q B h = le-of-suc-le-suc (div-lt-iff-lt-mul B .1 (subst (λ (z : ℕ). a + (b - 1) < z) (sym (sucs q b)) (spread a b (q * b) B h)))
+
+ceiling-ge : (a b : ℕ) → 0 < b → a ≤ ceiling a b * b
+unfolding ceiling
+ceiling-ge a b B =
+    let q = (a + (b - 1)) / b in
+    gather a b (q * b) B (subst (λ (z : ℕ). a + (b - 1) < z) (sucs q b) (div-lt-iff-lt-mul B .0 (le-refl (suc q))))
+
+ceiling-mono : (a b c d : ℕ) → 0 < b → 0 < d → a * d ≡ c * b → ceiling a b ≤ ceiling c d
+ceiling-mono a b c d B D e =
+    let q = ceiling c d in
+    ceiling-le a b q B (le-of-mul-le-mul-right (le-trans (le-of-eq e) (le-trans (mul-le-mul-right b (ceiling-ge c d D)) (le-of-eq (mul-right-comm q d b)))) D)
+
+pub ceiling-same : (a b c d : ℕ) → 0 < b → 0 < d → a * d ≡ c * b → ceiling a b ≡ ceiling c d
+ceiling-same a b c d B D e = le-antisymm (ceiling-mono a b c d B D e) (ceiling-mono c d a b D B (sym e))
+
+below-pred : (b : ℕ) → 0 < b → 0 + (b - 1) < b
+below-pred b h = omega arith
+
+pub ceiling-zero : (a b : ℕ) → 0 < b → a ≡ 0 → ceiling a b ≡ 0
+unfolding ceiling
+ceiling-zero a b B e = ap (λ (z : ℕ). (z + (b - 1)) / b) e ∙ div-eq-of-lt (below-pred b B)
+
+-- a fraction above 0 and at most 1
+pub ceiling-one : (a b : ℕ) → 0 < a → a ≤ b → ceiling a b ≡ 1
+ceiling-one a b A h =
+    let B : 0 < b = lt-of-lt-of-le A h in
+    le-antisymm (ceiling-le a b 1 B (subst (λ (z : ℕ). a ≤ z) (sym (one-mul b)) h)) (first-pos (ceiling a b) b (lt-of-lt-of-le A (ceiling-ge a b B)))
+
+-- ---- the code's numbers
+pub ten-lt : (d s : ℕ) → d < 2 ^ 53 → 56 < s → 10 * d < 2 ^ s
+ten-lt d s h g = lt-of-lt-of-le (ten d h) (pow-mono g)
+  where
+    ten : (d : ℕ) → d < 2 ^ 53 → 10 * d < 2 ^ 57
+    ten d h = omega arith
+
+pub floor-lt : (d s : ℕ) → d < 2 ^ 53 → 10 * d / 2 ^ s < 2 ^ 58
+floor-lt d s h = lt-of-le-of-lt (div-le-self (10 * d) (2 ^ s)) (ten d h)
+  where
+    ten : (d : ℕ) → d < 2 ^ 53 → 10 * d < 2 ^ 58
+    ten d h = omega arith
+
+-- 1 << s does not lose its bit, and it is above 0 and at most 2 ^ 56
+pub unit-is : (s : ℕ) → s ≤ 56 → 1 * 2 ^ s % 2 ^ 64 ≡ 2 ^ s
+unit-is s h = shl-exact {a = 1} 1 s 64 (lit< tt) (room s h) ∙ one-mul (2 ^ s)
+  where
+    room : (s : ℕ) → s ≤ 56 → 1 + s ≤ 64
+    room s h = omega arith
+
+pub unit-le : (s : ℕ) → s ≤ 56 → 2 ^ s ≤ 2 ^ 56
+unit-le s h = pow-mono h
+
+-- ---- from the size to the answer
+scale : (m u s d D : ℕ) → m * u * s ≡ D * d → 10 * D * d ≡ 10 * (m * u) * s
+scale m u s d D e = mul-assoc 10 D d ∙ ap (λ (z : ℕ). 10 * z) (sym e) ∙ sym (mul-assoc 10 (m * u) s)
+
+no-size : (a D d : ℕ) → a ≡ 0 → 0 < d → a ≡ D * d → D ≡ 0
+no-size a zero d z p e = refl
+no-size a (suc D) d z p e = absurd (clash a (suc D * d) z e (mul-pos (zero-lt-suc D) p))
+  where
+    clash : (a b : ℕ) → a ≡ 0 → a ≡ b → 0 < b → ⊥
+    clash a b p q h = omega arith
+
+sum-zero : (a b : ℕ) → ltb 0 (a + b) ≡ false → a ≡ 0
+sum-zero a b h = let k = ltb-false 0 (a + b) h in only a b k
+  where
+    only : (a b : ℕ) → a + b ≤ 0 → a ≡ 0
+    only a b k = omega arith
+
+pub down-case : (v : Float) (D s : ℕ) → Within v → ScaledOf v D s → lt v (fin false 0 (pos 0)) ≡ false → pos (10 * D / 2 ^ s) ≡ tenthsOf v
+unfolding lt tenthsOf
+down-case nan D s w r h = absurd w
+down-case (inf t) D s w r h = absurd w
+down-case (fin false m e) D s w r h = ap pos (div-same (10 * D) (2 ^ s) (10 * (m * up e)) (down e) (pow-pos s) (down-pos e) (scale m (up e) (2 ^ s) (down e) D (r .value)))
+down-case (fin true m e) D s w r h =
+    let z : m * up e ≡ 0 = sym (mul-one (m * up e)) ∙ sum-zero (m * up e * 1) (0 * 1 * down e) h in
+    let d : D ≡ 0 = no-size (m * up e * 2 ^ s) D (down e) (ap (λ (x : ℕ). x * 2 ^ s) z ∙ zero-mul (2 ^ s)) (down-pos e) (r .value) in
+    ap pos (ap (λ (x : ℕ). 10 * x / 2 ^ s) d ∙ div-eq-of-lt (pow-pos s)) ∙ sym (ap (λ (x : ℕ). negℤ (pos x)) (ceiling-zero (10 * (m * up e)) (down e) (down-pos e) (ap (λ (x : ℕ). 10 * x) z)))
+
+pub up-case : (v : Float) (D s : ℕ) → Within v → ScaledOf v D s → lt v (fin false 0 (pos 0)) ≡ true → negℤ (pos (ceiling (10 * D) (2 ^ s))) ≡ tenthsOf v
+unfolding lt tenthsOf
+up-case nan D s w r h = absurd w
+up-case (inf t) D s w r h = absurd w
+up-case (fin true m e) D s w r h = ap (λ (x : ℕ). negℤ (pos x)) (ceiling-same (10 * D) (2 ^ s) (10 * (m * up e)) (down e) (pow-pos s) (down-pos e) (scale m (up e) (2 ^ s) (down e) D (r .value)))
+up-case (fin false m e) D s w r h = absurd (none (m * up e * 1) (0 * 1 * down e) (zero-mul (down e)) (ltb-true (m * up e * 1) (0 * 1 * down e) h))
+  where
+    none : (a b : ℕ) → b ≡ 0 → a < b → ⊥
+    none a b p q = omega arith
+
+-- ---- minus a whole number, at an i64
+pub minus-fits : (q : ℕ) → q < 2 ^ 58 → SFits w64 (negℤ (pos q))
+minus-fits zero h = record { sfits = pow-pos 63 }
+minus-fits (suc q) h = record { sfits = room q h }
+  where
+    room : (q : ℕ) → suc q < 2 ^ 58 → q < 2 ^ 63
+    room q h = omega arith
+
+pub zero-minus : (q : ℕ) → pos 0 -ℤ pos q ≡ negℤ (pos q)
+zero-minus q = +ℤ-idl (negℤ (pos q))

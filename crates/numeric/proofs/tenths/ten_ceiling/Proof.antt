@@ -1,0 +1,66 @@
+-- `tenths::ten_ceiling` meets its contract. Assumes nothing.
+use mathlib.Core.Path.{_≡_, refl, sym, ap, subst}
+use Prim.Native.Nat.{ℕ, _+_, _-_, _*_, _/_, _%_, _^_, _≤_, _<_}
+use native.Mathlib.Nat.{le-of-lt, lt-of-le-of-lt, div-le-self}
+use native.Mathlib.Omega.{arith}
+use borrow.Author.Needs.{needs}
+use lib.Dec.{lit<}
+use lib.Pow.{pow-pos}
+use mir.Syntax.{w64}
+use mir.Val.{Fits}
+use Rattle.numeric.specs.Tenths.{ceiling, CutTo}
+use Rattle.numeric.proofs.tenths.Tens.{ten-lt, ceiling-zero, ceiling-one, unit-is, unit-le}
+use Rattle.numeric.proofs.tenths.ten_ceiling.Statement.{statement}
+use Rattle.numeric.proofs.tenths.ten_ceiling.Tie as tie
+use Rattle.numeric.proofs.tenths.ten_ceiling.Reads as reads
+use Rattle.numeric.proofs.tenths.ten_ceiling.Lts as lts
+
+-- the sum that is shifted, below 2 ^ 58
+sum-lt : (d u : ℕ) → d < 2 ^ 53 → u ≤ 2 ^ 56 → 10 * d + (u - 1) < 2 ^ 58
+sum-lt d u h k = omega arith
+
+above-zero : (d : ℕ) → (d ≡ 0 → ⊥) → 0 < 10 * d
+above-zero d h = omega arith
+
+returns : tie.Need-returns
+returns c = record { equal = sym (ceiling-zero (10 * c .before .args .digits) (2 ^ c .before .args .shift) (pow-pos (c .before .args .shift)) (ap (λ (z : ℕ). 10 * z) (c .if1 .taken))); small = lit< tt }
+
+returns-2 : tie.Need-returns-2
+returns-2 c =
+    let d = c .before .before .args .digits in
+    let s = c .before .before .args .shift in
+    record { equal = sym (ceiling-one (10 * d) (2 ^ s) (above-zero d (c .before .if1 .left)) (le-of-lt (ten-lt d s (c .before .before .pre) (c .if2 .taken)))); small = lit< tt }
+
+mul-result : tie.Need-mul-result
+mul-result c = search needs
+
+shl-result : tie.Need-shl-result
+shl-result c = search needs
+
+sub-result : tie.Need-sub-result
+sub-result c =
+    let s = c .before .before .args .shift in
+    subst (λ (z : ℕ). 1 ≤ z) (sym (unit-is s (c .if2 .left))) (pow-pos s)
+
+add-result : tie.Need-add-result
+add-result c =
+    let d = c .before .before .args .digits in
+    let s = c .before .before .args .shift in
+    subst (λ (z : ℕ). Fits w64 (10 * d + (z - 1))) (sym (unit-is s (c .if2 .left))) record { fits = wide (10 * d + (2 ^ s - 1)) (sum-lt d (2 ^ s) (c .before .before .pre) (unit-le s (c .if2 .left))) }
+  where
+    wide : (n : ℕ) → n < 2 ^ 58 → n < 2 ^ 64
+    wide n h = omega arith
+
+shr-result : tie.Need-shr-result
+shr-result c = search needs
+
+returns-3 : tie.Need-returns-3
+unfolding ceiling
+returns-3 c =
+    let d = c .before .before .args .digits in
+    let s = c .before .before .args .shift in
+    subst (λ (z : ℕ). CutTo (ceiling (10 * d) (2 ^ s)) ((10 * d + (z - 1)) / 2 ^ s)) (sym (unit-is s (c .if2 .left)))
+    record { equal = refl; small = lt-of-le-of-lt (div-le-self (10 * d + (2 ^ s - 1)) (2 ^ s)) (sum-lt d (2 ^ s) (c .before .before .pre) (unit-le s (c .if2 .left))) }
+
+pub ten-ceiling-spec : {M : Type 1} → statement M
+ten-ceiling-spec = tie.close (tie.spec returns returns-2 mul-result shl-result sub-result add-result shr-result returns-3)

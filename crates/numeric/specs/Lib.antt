@@ -1,0 +1,6 @@
+pub mod Near
+pub mod TotalOrder
+pub mod RoundTiesEven
+pub mod Tenths
+pub mod Logistic
+pub mod LogisticRule

@@ -1,0 +1,66 @@
+// The functions of `numeric` under C names, for the host tests alone.
+ghost use mathlib.Core.Path.{_≡_};
+ghost use lib.Ieee as Ieee;
+ghost use lib.Ieee.{binary64};
+ghost use Rattle.numeric.specs.Near.{absOf, isNear};
+ghost use Rattle.numeric.specs.TotalOrder.{totalOrder};
+ghost use Rattle.numeric.specs.RoundTiesEven.{roundTiesEven};
+ghost use Rattle.numeric.specs.Tenths.{tenthsOf, InTenthsRange};
+ghost use Rattle.numeric.specs.Logistic.{logisticAt};
+
+#[no_mangle]
+pub extern "C" fn numeric_abs(x: f64) -> f64
+    ensures { λ r. ⌜ r ≡ absOf x ⌝ }
+{
+    numeric::near::abs(x)
+}
+
+#[no_mangle]
+pub extern "C" fn numeric_near(a: f64, b: f64, margin: f64) -> bool
+    ensures { λ r. ⌜ r ≡ isNear margin a b ⌝ }
+{
+    numeric::near::near(a, b, margin)
+}
+
+#[no_mangle]
+pub extern "C" fn numeric_total_order(a: f64, b: f64) -> bool
+    ensures { λ r. ⌜ r ≡ totalOrder a b ⌝ }
+{
+    numeric::order::total_order(a, b)
+}
+
+#[no_mangle]
+pub extern "C" fn numeric_round_ties_even(x: f64) -> f64
+    ensures { λ r. ⌜ r ≡ roundTiesEven x ⌝ }
+{
+    numeric::round::round_ties_even(x)
+}
+
+#[no_mangle]
+pub extern "C" fn numeric_tenths(x: f64) -> i64
+    requires { ⌜ InTenthsRange x ⌝ }
+    ensures { λ r. ⌜ r ≡ tenthsOf x ⌝ }
+{
+    numeric::tenths::tenths(x)
+}
+
+#[no_mangle]
+pub extern "C" fn numeric_logistic(n: usize) -> f64
+    ensures { λ r. ⌜ r ≡ logisticAt n ⌝ }
+{
+    numeric::logistic::logistic(n)
+}
+
+#[no_mangle]
+pub extern "C" fn numeric_canonical(x: f64) -> f64
+    ensures { λ r. ⌜ r ≡ x ⌝ }
+{
+    numeric::canonical::canonical(x)
+}
+
+#[no_mangle]
+pub extern "C" fn numeric_bits(x: f64) -> u64
+    ensures { λ r. ⌜ r ≡ Ieee.toBits binary64 x ⌝ }
+{
+    numeric::canonical::bits(x)
+}

@@ -1,0 +1,36 @@
+#!/usr/bin/env python3
+"""Prints the original's logistic_exp at steps 0 to 299 as bit patterns, for tests/numeric/data/logistic_exp.txt.
+
+usage: logistic_vectors.py ORACLE    (the program that `cargo build --release` makes of the oracle)
+"""
+import re
+import subprocess
+import sys
+
+STEPS = 300
+HEADER = (
+    "# The original's logistic_exp at steps 0 to 299, the bits of an f64 a line. "
+    "Made by `tools/logistic_vectors.py ORACLE`; stored, as exp may differ from system to system."
+)
+
+
+def ask(oracle):
+    """The oracle's answers, one a step, from exp itself instead of the oracle's own table."""
+    requests = ["raw on"] + [f"table {n}" for n in range(STEPS)]
+    run = subprocess.run([oracle], input="\n".join(requests) + "\n", capture_output=True, text=True, check=True)
+    return run.stdout.splitlines()
+
+
+def main():
+    if len(sys.argv) != 2:
+        sys.exit(__doc__)
+    answers = ask(sys.argv[1])
+    assert len(answers) == STEPS, f"{len(answers)} answers to {STEPS} requests"
+    for n, answer in enumerate(answers):
+        assert re.fullmatch("[0-9a-f]{16}", answer), f"step {n}: {answer!r}"
+    print(HEADER)
+    print("\n".join(answers))
+
+
+if __name__ == "__main__":
+    main()
