@@ -1,16 +1,15 @@
 -- Sizes: `Bounded x B` says that x is finite and at most the whole number B in size. Each operation's result is bounded by what its exact result is bounded by, as long as that is a whole number up to 2 ^ 53:
 -- such a number is a value of the format, and rounding keeps the order. Assumes nothing.
-use mathlib.Core.Path.{_≡_, refl, sym, ap, _∙_, subst}
-use mathlib.Core.Logic.{_⊎_, inl, inr}
-use mathlib.Core.Bool.{Bool, true, false, not, _&&_, _||_, Bool·beq, cond, true≢false, false≢true}
-use Prim.Native.Nat.{ℕ, zero, suc, _+_, _-_, _*_, _/_, _^_, _≤_, _<_, zero-le}
-use native.Mathlib.Nat.{le-trans, le-of-eq, le-of-lt, lt-of-le-of-lt, lt-of-lt-of-le, zero-lt-suc, mul-one, one-mul, zero-mul, mul-comm, mul-assoc, mul-right-comm, mul-left-comm, mul-mul-mul-comm, mul-le-mul, mul-le-mul-left, mul-le-mul-right, le-of-mul-le-mul-right, mul-pos, mul-lt-mul-of-pos-right, add-mul}
+use mathlib.Core.Path.{_≡_, sym, ap, _∙_, subst}
+use mathlib.Core.Logic.{inl, inr}
+use mathlib.Core.Bool.{Bool, true, false, _&&_, _||_, Bool·beq, cond, true≢false}
+use Prim.Native.Nat.{ℕ, zero, suc, _+_, _-_, _*_, _^_, _≤_, _<_}
+use native.Mathlib.Nat.{le-trans, le-of-eq, lt-of-le-of-lt, zero-lt-suc, mul-one, one-mul, zero-mul, mul-comm, mul-assoc, mul-right-comm, mul-mul-mul-comm, mul-le-mul, mul-le-mul-right, le-of-mul-le-mul-right, mul-pos, mul-lt-mul-of-pos-right, add-mul}
 use native.Mathlib.Omega.{arith}
 use lib.IntN.{ℤ, pos}
-use lib.Dec.{T, ltb, eqb, ltb→lt, lt→ltb, eqb→eq, nltb→le, eqb·suc-zero}
-use lib.Pow.{pow-pos}
+use lib.Dec.{T, ltb, eqb, ltb→lt, lt→ltb, eqb→eq, eqb·suc-zero}
 use lib.Ieee.{Float, nan, inf, fin, binary64, fits, unlike, up, down, lt, le, below, round, neg, sum, add, sub, mul, div}
-use lib.Ieee.Fits.{and-l, and-r, up-pos, down-pos, eq→eqb}
+use lib.Ieee.Fits.{and-l, up-pos, down-pos}
 use lib.Ieee.Exact.{HasValue}
 use lib.Ieee.Order.{round-mono}
 use lib.Ieee.Back.{round-whole}

@@ -2,7 +2,7 @@
 use mathlib.Core.Path.{_≡_, refl, sym, ap, _∙_, subst}
 use mathlib.Core.Logic.{inl, inr}
 use mathlib.Core.Bool.{Bool, true, false, not, _&&_, _||_, Bool·beq, cond, true≢false, false≢true}
-use Prim.Native.Nat.{ℕ, zero, suc, _+_, _-_, _*_, _/_, _^_, _<_}
+use Prim.Native.Nat.{ℕ, zero, suc, _+_, _-_, _*_, _/_, _^_}
 use native.Mathlib.Omega.{arith}
 use lib.Dec.{T, ltb, eqb, lt→ltb, eqb→eq}
 use lib.Ieee.{Float, nan, inf, fin, binary64, prec, emax, low, up, down, size, odd, units, le, below, level, round, neg}

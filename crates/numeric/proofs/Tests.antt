@@ -1,7 +1,7 @@
 -- Small laws of tests, that is of Bools. Assumes nothing.
 use mathlib.Core.Path.{_≡_, refl}
 use mathlib.Core.Logic.{_⊎_, inl, inr}
-use mathlib.Core.Bool.{Bool, true, false, _&&_, _||_}
+use mathlib.Core.Bool.{Bool, true, false, _||_}
 use lib.Dec.{T}
 
 pub or-split : (a b : Bool) → T (a || b) → T a ⊎ T b

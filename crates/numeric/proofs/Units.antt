@@ -1,20 +1,20 @@
 -- Two finite values that fit, each as a sign and a whole number of units of the smallest value: the order, and the sum.
 -- A signed number is a pair of naturals, what is above zero and what is below: `plus s u` and `minus s u`, one of which is 0. So that x ≤ y is plus x + minus y ≤ plus y + minus x, which `omega` reads.
 -- Assumes nothing.
-use mathlib.Core.Path.{_≡_, refl, sym, ap, _∙_, subst}
+use mathlib.Core.Path.{_≡_, refl, sym, ap, _∙_}
 use mathlib.Core.Logic.{_⊎_, inl, inr}
-use mathlib.Core.Bool.{Bool, true, false, not, _&&_, _||_, Bool·beq, cond}
+use mathlib.Core.Bool.{Bool, true, false, _&&_, _||_, Bool·beq, cond}
 use Prim.Native.Nat.{ℕ, zero, suc, _+_, _-_, _*_, _^_, _≤_, _<_}
 use native.Mathlib.Nat.{le-of-lt, le-of-eq, add-mul, mul-comm, mul-sub, mul-pos, zero-mul, eq-of-mul-eq-mul-right}
 use native.Mathlib.Omega.{arith}
-use lib.IntN.{ℤ, pos, negsuc}
-use lib.Dec.{T, ltb, leb, eqb, ltb→lt, lt→ltb, nltb→le, eqb→eq}
+use lib.IntN.{ℤ}
+use lib.Dec.{T, ltb, eqb, ltb→lt, lt→ltb, eqb→eq}
 use lib.Pow.{pow-pos}
-use lib.Ieee.{Float, nan, inf, fin, binary64, low, up, down, fits, lt, le, eq, below, level, round, sum, add}
-use lib.Ieee.Fits.{and-l, and-r, down-pos, eq→eqb}
-use lib.Ieee.Scale.{finite, round-same}
+use lib.Ieee.{Float, fin, binary64, low, up, down, fits, le, below, level, round, sum, add}
+use lib.Ieee.Fits.{and-l, and-r, down-pos}
+use lib.Ieee.Scale.{round-same}
 use Rattle.numeric.proofs.Tests.{or-split, same-test}
-use Rattle.numeric.proofs.order.Rank.{ex, held, cross, lt-to, lt-from, eq-to, eq-from}
+use Rattle.numeric.proofs.order.Rank.{ex, held, cross, lt-to, lt-from, eq-to}
 
 abbrev pub L : ℕ
 L = 2 ^ low binary64

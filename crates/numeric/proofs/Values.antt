@@ -1,8 +1,8 @@
 -- What fitting the format says of a value's digits and exponent, and when a value is zero. Assumes nothing.
-use mathlib.Core.Path.{_≡_, refl, sym, ap, _∙_, subst}
+use mathlib.Core.Path.{_≡_, refl, sym, ap, _∙_}
 use mathlib.Core.Logic.{inl, inr}
-use mathlib.Core.Bool.{Bool, true, false, not, _&&_, _||_}
-use Prim.Native.Nat.{ℕ, zero, suc, _+_, _*_, _^_, _≤_, _<_}
+use mathlib.Core.Bool.{true, false, not, _&&_, _||_}
+use Prim.Native.Nat.{ℕ, zero, suc, _*_, _^_, _≤_, _<_}
 use native.Mathlib.Nat.{zero-mul, mul-one, one-mul, mul-pos, zero-lt-suc, pow-succ', le-of-lt, le-of-eq, eq-or-lt-of-le}
 use native.Mathlib.Omega.{arith}
 use lib.IntN.{ℤ, pos, negsuc}
@@ -73,8 +73,8 @@ finite-between lo (inf false) hi p q h k = absurd (below-all hi q k)
 finite-between lo (fin s m e) hi p q h k = tt
 
 -- a value of the format that passed a test of range is a number, and a number is no NaN
-pub range-number : {lo x hi : Float} → T (finite lo) → T (finite hi) → T (fits binary64 x) → T (le lo x) → T (le x hi) → Number x
-range-number {lo} {x} {hi} p q f h k = record { is-finite = finite-between lo x hi p q h k; is-held = f }
+pub range-number : (lo x hi : Float) → T (finite lo) → T (finite hi) → T (fits binary64 x) → T (le lo x) → T (le x hi) → Number x
+range-number lo x hi p q f h k = record { is-finite = finite-between lo x hi p q h k; is-held = f }
 
 no-nan : (x : Float) → T (finite x) → T (not (isNan x))
 unfolding isNan

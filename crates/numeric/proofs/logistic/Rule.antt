@@ -1,12 +1,11 @@
 -- T(2) is 0.5, T falls strictly, and D(n + 1) / D(n) is within its bracket: one test that antt computes over the whole table. Assumes nothing.
 use mathlib.Core.Path.{_≡_, refl}
 use mathlib.Core.Bool.{Bool, _&&_}
-use Prim.Native.Nat.{ℕ, suc, _+_, _*_, _<_}
-use native.Mathlib.Numerals.{add-one}
+use Prim.Native.Nat.{ℕ, suc, _*_, _<_}
 use lib.Dec.{T, ltb, ltb→lt}
 use lib.IntN.{negsuc}
-use lib.ListN.{length, getD}
-use lib.Ieee.{Float, fin, binary64, ofBits, lt, Format}
+use lib.ListN.{getD}
+use lib.Ieee.{Float, fin, binary64, ofBits, lt}
 use lib.Ieee.Fits.{and-l, and-r}
 use lib.Ieee.Positive.{num, den, positive}
 use mathlib.Core.Bool.{false}

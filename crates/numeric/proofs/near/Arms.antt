@@ -1,19 +1,17 @@
 -- The three arms of `abs`: below zero, zero, and neither. Assumes nothing.
 use mathlib.Core.Path.{_≡_, refl, sym, ap, _∙_, subst}
 use mathlib.Core.Bool.{Bool, true, false, _&&_, _||_, Bool·beq, true≢false, false≢true}
-use mathlib.Core.Logic.{inl, inr}
-use Prim.Native.Nat.{ℕ, zero, suc, _+_, _*_, _^_, _<_}
-use native.Mathlib.Nat.{zero-mul, mul-one, mul-pos, zero-lt-suc, lt-irrefl, one-mul, pow-succ'}
+use Prim.Native.Nat.{ℕ, zero, suc, _+_, _*_}
+use native.Mathlib.Nat.{zero-mul}
 use native.Mathlib.Omega.{arith}
-use lib.IntN.{ℤ, pos, negsuc}
-use lib.Dec.{T, ltb, eqb, eqb→eq, ltb→lt, lt→ltb}
-use lib.Pow.{pow-pos}
-use lib.Ieee.{Float, nan, inf, fin, binary64, up, down, neg, lt, eq, fits, below, level}
-use lib.Ieee.Fits.{and-l, up-pos, eq→eqb}
+use lib.IntN.{ℤ, pos}
+use lib.Dec.{T, ltb, eqb, eqb→eq}
+use lib.Ieee.{Float, nan, inf, fin, binary64, up, down, neg, lt, eq, fits}
+use lib.Ieee.Fits.{and-l, eq→eqb}
 use borrow.Author.Tests.{ltb-true, ltb-false}
 use Rattle.numeric.specs.Near.{absOf}
 use Rattle.numeric.proofs.Tests.{or-r}
-use Rattle.numeric.proofs.Values.{zero64, none-below, not-zero, cross-pos, cross-zero, flat}
+use Rattle.numeric.proofs.Values.{zero64, none-below, not-zero, cross-pos, flat}
 
 pub abs-below : (x : Float) → lt x zero64 ≡ true → neg x ≡ absOf x
 unfolding lt neg absOf

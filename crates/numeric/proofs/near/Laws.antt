@@ -1,9 +1,9 @@
 -- Near, of finite values: it is symmetric, and of three values in order the middle one is near the first if the last is. The margin may be any value.
 -- Both go by the distance of the two values in units of the smallest value, which the difference rounds. Assumes nothing.
 use mathlib.Core.Path.{_≡_, refl, sym, ap, _∙_, subst}
-use mathlib.Core.Bool.{Bool, true, false, not, _&&_, _||_, Bool·beq, cond, true≢false}
+use mathlib.Core.Bool.{Bool, true, false, not, _&&_, cond, true≢false}
 use Prim.Native.Nat.{ℕ, zero, suc, _+_, _-_, _*_, _≤_, _<_}
-use native.Mathlib.Nat.{mul-le-mul-right, mul-pos, zero-lt-suc, zero-mul, le-of-eq, le-trans}
+use native.Mathlib.Nat.{mul-le-mul-right, mul-pos, zero-lt-suc, zero-mul}
 use native.Mathlib.Omega.{arith}
 use lib.IntN.{ℤ}
 use lib.Dec.{T, ltb, eqb, ltb→lt, nltb→le, eqb→eq}

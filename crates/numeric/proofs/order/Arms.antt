@@ -1,14 +1,12 @@
 -- The four answers of `total_order`. Assumes nothing.
 use mathlib.Core.Path.{_≡_, refl, sym, ap, _∙_, subst}
-use mathlib.Core.Logic.{_⊎_, inl, inr}
+use mathlib.Core.Logic.{inl, inr}
 use mathlib.Core.Bool.{Bool, true, false, not, _&&_, _||_, Bool·beq, true≢false, false≢true}
-use Prim.Native.Nat.{ℕ, zero, suc, _*_, _<_}
-use native.Mathlib.Nat.{zero-mul, mul-one, mul-pos, zero-lt-suc, lt-irrefl}
-use native.Mathlib.Omega.{arith}
+use Prim.Native.Nat.{zero, suc, _*_}
 use lib.IntN.{ℤ, pos}
 use lib.Dec.{T, eqb, eqb→eq}
 use lib.Ieee.{Float, nan, inf, fin, binary64, up, down, lt, le, eq, div}
-use lib.Ieee.Fits.{and-l, and-r, and-i, up-pos, down-pos, eq→eqb}
+use lib.Ieee.Fits.{and-l, and-r, and-i, eq→eqb}
 use Rattle.numeric.specs.TotalOrder.{negative, totalOrder}
 use Rattle.numeric.proofs.Tests.{or-split, or-r}
 use Rattle.numeric.proofs.Values.{zero64, one64, not-zero, cross-pos, cross-zero}

@@ -1,12 +1,11 @@
 -- On the finite values that fit, totalOrder is a total order: reflexive and total, antisymmetric, transitive. Assumes nothing.
 use mathlib.Core.Path.{_≡_, sym, subst}
 use mathlib.Core.Logic.{_⊎_, inl, inr}
-use Prim.Native.Nat.{ℕ, _≤_, _<_}
+use Prim.Native.Nat.{_≤_, _<_}
 use native.Mathlib.Nat.{le-trans, le-antisymm, le-of-lt}
 use lib.Dec.{T, leb, leb→le, le→leb, nleb→lt}
 use mathlib.Core.Bool.{Bool, true, false, not}
-use lib.Ieee.{Float, binary64, fits}
-use lib.Ieee.Scale.{finite}
+use lib.Ieee.{Float}
 use Rattle.numeric.specs.TotalOrder.{totalOrder}
 use Rattle.numeric.proofs.order.Rank.{key, keyed, key-inj}
 use Rattle.numeric.proofs.Values.{Number}

@@ -1,16 +1,16 @@
 -- A natural number for each finite value that fits, in the total order: `key`. A value that is not negative has `mid` plus its size in units of the smallest value, and a negative one lies as far below.
 -- `keyed`: totalOrder x y is the test key x ≤ key y. `key-inj`: two values with one key are one value. Assumes nothing.
 use mathlib.Core.Path.{_≡_, refl, sym, ap, _∙_, subst}
-use mathlib.Core.Logic.{_⊎_, inl, inr}
-use mathlib.Core.Bool.{Bool, true, false, not, _&&_, _||_, Bool·beq}
-use Prim.Native.Nat.{ℕ, zero, suc, _+_, _-_, _*_, _/_, _%_, _^_, _≤_, _<_, zero-le}
-use native.Mathlib.Nat.{le-of-lt, le-of-eq, le-of-suc-le-suc, eq-or-lt-of-le, lt-of-lt-of-le, lt-of-not-le, lt-irrefl, zero-lt-suc, zero-mul, mul-one, one-mul, mul-pos, mul-comm, mul-assoc, mul-left-comm, mul-right-comm, mul-lt-mul-of-pos-right, lt-of-mul-lt-mul-right, eq-of-mul-eq-mul-right, pow-succ', pow-suc}
+use mathlib.Core.Logic.{inl, inr}
+use mathlib.Core.Bool.{Bool, true, false, not, _&&_, _||_}
+use Prim.Native.Nat.{ℕ, zero, suc, _+_, _-_, _*_, _%_, _^_, _≤_, _<_, zero-le}
+use native.Mathlib.Nat.{le-of-lt, le-of-eq, le-of-suc-le-suc, eq-or-lt-of-le, lt-of-lt-of-le, lt-of-not-le, lt-irrefl, zero-lt-suc, zero-mul, mul-one, mul-pos, mul-comm, mul-assoc, mul-left-comm, mul-right-comm, mul-lt-mul-of-pos-right, lt-of-mul-lt-mul-right, eq-of-mul-eq-mul-right, pow-succ', pow-suc}
 use native.Mathlib.Omega.{arith}
 use lib.IntN.{ℤ, pos, negsuc}
 use lib.Dec.{T, leb, ltb, eqb, leb→le, le→leb, ltb→lt, lt→ltb, eqb→eq}
 use lib.Pow.{pow-add, pow-pos, pow-lt}
 use lib.Ieee.{Float, nan, inf, fin, binary64, prec, emax, low, up, down, fits, lt, eq, below, level}
-use lib.Ieee.Fits.{and-l, and-r, and-i, up-pos, down-pos, eq→eqb}
+use lib.Ieee.Fits.{and-l, and-r, down-pos, eq→eqb}
 use lib.Ieee.Scale.{finite}
 use lib.Ieee.Digits.{back}
 use Rattle.numeric.specs.TotalOrder.{totalOrder}

@@ -1,15 +1,15 @@
 -- A value of 2 ^ 52 or more in size is whole, and rounding to a whole number changes nothing. Assumes nothing.
 use mathlib.Core.Path.{_≡_, refl, sym, ap, _∙_, subst}
-use mathlib.Core.Bool.{Bool, true, false, _&&_, true≢false, false≢true}
-use Prim.Native.Nat.{ℕ, zero, suc, _+_, _*_, _/_, _%_, _^_, _≤_, _<_, zero-le, compare}
-use native.Mathlib.Nat.{le-trans, le-of-eq, lt-of-le-of-lt, lt-irrefl, mul-one, one-mul, mul-comm, mul-assoc, mul-le-mul-left, mul-lt-mul-of-pos-right, div-one, mod-one, zero-mul, zero-lt-suc, pow-succ'}
+use mathlib.Core.Bool.{Bool, true, false, _&&_, false≢true}
+use Prim.Native.Nat.{ℕ, zero, suc, _+_, _*_, _%_, _^_, _≤_, _<_, zero-le, compare}
+use native.Mathlib.Nat.{le-trans, le-of-eq, mul-one, mul-comm, mul-assoc, mul-lt-mul-of-pos-right, div-one, mod-one, zero-mul, zero-lt-suc}
 use native.Mathlib.Omega.{arith}
 use lib.IntN.{ℤ, pos, negsuc}
 use lib.Dec.{T, leb, ltb, eqb, ltb→lt}
 use lib.Pow.{pow-add, pow-pos, pow-mono}
-use lib.Ieee.{Float, nan, inf, fin, binary64, prec, emax, low, up, down, nearest, round, lt, fits, below}
+use lib.Ieee.{Float, nan, inf, fin, binary64, low, up, down, nearest, round, lt, fits, below}
 use lib.Ieee.Fits.{and-l, and-r, round-fits}
-use lib.Ieee.Exact.{HasValue, round-exact}
+use lib.Ieee.Exact.{round-exact}
 use lib.Ieee.Back.{whole-unique}
 use lib.Ieee.Nearest.{closest}
 use borrow.Author.Tests.{ltb-false, le-ltb}

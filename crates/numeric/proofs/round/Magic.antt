@@ -1,15 +1,15 @@
 -- x + 2 ^ 52 - 2 ^ 52, each rounded, for a positive x below 2 ^ 52: the whole number nearest to x, a tie to the even one. Assumes nothing.
 use mathlib.Core.Path.{_≡_, refl, sym, ap, _∙_, subst}
-use mathlib.Core.Bool.{Bool, true, false, not, _&&_, cond, true≢false, false≢true}
+use mathlib.Core.Bool.{Bool, true, false, cond, true≢false, false≢true}
 use Prim.Native.Nat.{ℕ, zero, suc, _+_, _-_, _*_, _/_, _%_, _^_, _≤_, _<_, compare, Ordering, Ordering·lt, Ordering·eq, Ordering·gt}
-use native.Mathlib.Nat.{le-trans, le-of-eq, le-of-lt, lt-of-lt-of-le, lt-of-le-of-lt, lt-of-not-le, not-le-of-lt, le-antisymm, le-add-left, mul-one, mul-comm, mul-assoc, mul-right-comm, add-mul, mul-le-mul-right, mul-lt-mul-of-pos-right, eq-of-mul-eq-mul-right, mul-pos, add-sub-cancel, le-div-iff-mul-le, div-lt-iff-lt-mul, add-mul-div-right, add-mul-mod-self-right, zero-lt-suc, zero-mul, one-mul, suc-add, pow-succ'}
+use native.Mathlib.Nat.{le-trans, le-of-eq, lt-of-lt-of-le, lt-of-le-of-lt, lt-of-not-le, not-le-of-lt, le-add-left, mul-one, mul-comm, mul-assoc, mul-right-comm, add-mul, mul-le-mul-right, mul-lt-mul-of-pos-right, eq-of-mul-eq-mul-right, mul-pos, le-div-iff-mul-le, div-lt-iff-lt-mul, add-mul-div-right, add-mul-mod-self-right, zero-lt-suc, zero-mul, one-mul, suc-add, pow-succ'}
 use native.Mathlib.Omega.{arith}
 use lib.IntN.{ℤ, pos, negsuc}
-use lib.Dec.{T, ltb, eqb, ltb→lt, eqb→eq, lit≤, lit<}
+use lib.Dec.{T, ltb, ltb→lt, eqb→eq, lit<}
 use borrow.Author.Tests.{ltb-false}
 use lib.Pow.{pow-add, pow-pos, pow-mono}
-use lib.Ieee.{Float, nan, inf, fin, binary64, prec, emax, low, up, down, size, nearest, odd, units, round, neg, sum, add, sub, lt, fits}
-use lib.Ieee.Digits.{size-lt, size-le, size-reaches}
+use lib.Ieee.{Float, nan, inf, fin, binary64, low, up, down, size, nearest, units, round, neg, sum, add, sub, lt, fits}
+use lib.Ieee.Digits.{size-lt, size-le}
 use lib.Ieee.Fits.{round-is, core, up-pos, down-pos, nearest-le}
 use lib.Ieee.Exact.{HasValue, units-val}
 use lib.Ieee.Nearest.{closest, closest-same}

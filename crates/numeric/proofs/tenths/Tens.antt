@@ -1,15 +1,14 @@
 -- Ten times a fraction, cut to a whole number: downwards and upwards, by any fraction of the same size. Assumes nothing.
 use mathlib.Core.Path.{_≡_, refl, sym, ap, _∙_, subst}
-use mathlib.Core.Bool.{Bool, true, false, false≢true, true≢false}
+use mathlib.Core.Bool.{true, false}
 use Prim.Native.Nat.{ℕ, zero, suc, _+_, _-_, _*_, _/_, _%_, _^_, _≤_, _<_}
-use native.Mathlib.Nat.{le-refl, le-trans, le-of-eq, le-of-suc-le-suc, le-antisymm, lt-of-lt-of-le, lt-of-le-of-lt, mul-one, one-mul, mul-comm, mul-assoc, mul-right-comm, mul-le-mul-right, le-of-mul-le-mul-right, eq-of-mul-eq-mul-right, zero-mul, suc-mul, mul-pos, div-le-self, div-eq-of-lt, div-lt-iff-lt-mul, zero-lt-suc}
+use native.Mathlib.Nat.{le-refl, le-trans, le-of-eq, le-of-suc-le-suc, le-antisymm, lt-of-lt-of-le, lt-of-le-of-lt, mul-one, one-mul, mul-assoc, mul-right-comm, mul-le-mul-right, le-of-mul-le-mul-right, zero-mul, suc-mul, mul-pos, div-le-self, div-eq-of-lt, div-lt-iff-lt-mul, zero-lt-suc}
 use native.Mathlib.Omega.{arith}
-use lib.IntN.{ℤ, pos, negsuc, negℤ, _-ℤ_, +ℤ-idl}
-use lib.Dec.{T, ltb, ltb→lt, lit<}
+use lib.IntN.{pos, negℤ, _-ℤ_, +ℤ-idl}
+use lib.Dec.{ltb, lit<}
 use lib.Pow.{pow-pos, pow-mono, shl-exact}
 use lib.Ieee.{Float, nan, inf, fin, up, down, lt}
-use lib.Ieee.Fits.{up-pos, down-pos}
-use lib.Ieee.Digits.{Equals}
+use lib.Ieee.Fits.{down-pos}
 use lib.Ieee.Nearest.{div-same}
 use lib.Ieee.Positive.{first-pos}
 use borrow.Author.Tests.{ltb-true, ltb-false}

@@ -1,7 +1,6 @@
 -- `canonical::bits` meets its contract: only nan differs from itself, and its pattern is the one that the logic writes. Assumes nothing.
 use mathlib.Core.Path.{_≡_, refl, sym, ap, _∙_, subst}
-use mathlib.Core.Bool.{Bool, false, not}
-use Prim.Native.Nat.{ℕ}
+use mathlib.Core.Bool.{false, not}
 use lib.Dec.{T}
 use lib.Ieee.{Float, nan, inf, fin, binary64, ne, isNan, toBits}
 use lib.Ieee.Compare.{differs-from-itself, nan-differs}

@@ -1,16 +1,12 @@
 -- `logistic::logistic` meets its contract: the array is the list of the bit patterns, each read as a float. Assumes nothing.
 use mathlib.Core.Path.{sym, ap}
-use Prim.Native.Nat.{ℕ}
 use borrow.Author.Needs.{needs}
-use native.Mathlib.Omega.{arith}
-use lib.ListN.{length, getD, List·getD-eq-default}
-use lib.Ieee.{Float, nan, binary64, ofBits}
+use lib.ListN.{List·getD-eq-default}
+use lib.Ieee.{nan, binary64, ofBits}
 use Rattle.numeric.specs.Logistic.{tableBits, logisticAt}
 use Rattle.numeric.proofs.logistic.Pairs.{mapped-at}
 use Rattle.numeric.proofs.logistic.logistic.Statement.{statement}
 use Rattle.numeric.proofs.logistic.logistic.Tie as tie
-use Rattle.numeric.proofs.logistic.logistic.Reads as reads
-use Rattle.numeric.proofs.logistic.logistic.Lts as lts
 
 mul-result : tie.Need-mul-result
 mul-result c = search needs

@@ -1,14 +1,11 @@
 -- `tenths::size_of` meets its contract: the fields of the bit pattern are the size. Assumes nothing.
-use mathlib.Core.Path.{_≡_, sym, subst}
+use mathlib.Core.Path.{sym, subst}
 use borrow.Author.Needs.{needs}
-use borrow.Author.Tests.{eqb-false}
 use lib.Dec.{T}
-use lib.Ieee.{Float, binary64, fits}
+use lib.Ieee.{binary64, fits}
 use Rattle.numeric.proofs.tenths.Size.{Within, within, no-nan, scaled-low, scaled-high, exp-room}
 use Rattle.numeric.proofs.tenths.size_of.Statement.{statement}
 use Rattle.numeric.proofs.tenths.size_of.Tie as tie
-use Rattle.numeric.proofs.tenths.size_of.Reads as reads
-use Rattle.numeric.proofs.tenths.size_of.Lts as lts
 
 near : (c : tie.Start) → Within (c .args .x)
 near c = within (c .args .x) (c .pre)

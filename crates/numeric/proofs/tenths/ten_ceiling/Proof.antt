@@ -1,6 +1,6 @@
 -- `tenths::ten_ceiling` meets its contract. Assumes nothing.
 use mathlib.Core.Path.{_≡_, refl, sym, ap, subst}
-use Prim.Native.Nat.{ℕ, _+_, _-_, _*_, _/_, _%_, _^_, _≤_, _<_}
+use Prim.Native.Nat.{ℕ, _+_, _-_, _*_, _/_, _^_, _≤_, _<_}
 use native.Mathlib.Nat.{le-of-lt, lt-of-le-of-lt, div-le-self}
 use native.Mathlib.Omega.{arith}
 use borrow.Author.Needs.{needs}
@@ -12,8 +12,6 @@ use Rattle.numeric.specs.Tenths.{ceiling, CutTo}
 use Rattle.numeric.proofs.tenths.Tens.{ten-lt, ceiling-zero, ceiling-one, unit-is, unit-le}
 use Rattle.numeric.proofs.tenths.ten_ceiling.Statement.{statement}
 use Rattle.numeric.proofs.tenths.ten_ceiling.Tie as tie
-use Rattle.numeric.proofs.tenths.ten_ceiling.Reads as reads
-use Rattle.numeric.proofs.tenths.ten_ceiling.Lts as lts
 
 -- the sum that is shifted, below 2 ^ 58
 sum-lt : (d u : ℕ) → d < 2 ^ 53 → u ≤ 2 ^ 56 → 10 * d + (u - 1) < 2 ^ 58

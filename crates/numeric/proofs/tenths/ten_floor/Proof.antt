@@ -6,8 +6,6 @@ use lib.Dec.{lit<}
 use Rattle.numeric.proofs.tenths.Tens.{ten-lt, floor-lt}
 use Rattle.numeric.proofs.tenths.ten_floor.Statement.{statement}
 use Rattle.numeric.proofs.tenths.ten_floor.Tie as tie
-use Rattle.numeric.proofs.tenths.ten_floor.Reads as reads
-use Rattle.numeric.proofs.tenths.ten_floor.Lts as lts
 
 returns : tie.Need-returns
 returns c = record { equal = sym (div-eq-of-lt (ten-lt (c .before .args .digits) (c .before .args .shift) (c .before .pre) (c .if1 .taken))); small = lit< tt }

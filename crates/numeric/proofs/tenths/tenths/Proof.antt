@@ -1,6 +1,6 @@
 -- `tenths::tenths` meets its contract: the size of x, ten times it, cut downwards or upwards, and the sign. Assumes nothing.
 use mathlib.Core.Path.{_≡_, sym, ap, _∙_, subst}
-use Prim.Native.Nat.{ℕ, _*_, _/_, _^_, _<_}
+use Prim.Native.Nat.{ℕ, _^_, _<_}
 use native.Mathlib.Nat.{lt-of-lt-of-le}
 use borrow.Author.Needs.{needs}
 use lib.Dec.{lit≤}
@@ -13,8 +13,6 @@ use Rattle.numeric.proofs.tenths.Size.{within}
 use Rattle.numeric.proofs.tenths.Tens.{up-case, down-case, minus-fits, zero-minus}
 use Rattle.numeric.proofs.tenths.tenths.Statement.{statement}
 use Rattle.numeric.proofs.tenths.tenths.Tie as tie
-use Rattle.numeric.proofs.tenths.tenths.Reads as reads
-use Rattle.numeric.proofs.tenths.tenths.Lts as lts
 
 read : (q : ℕ) → q < 2 ^ 58 → toZ w64 q ≡ pos q
 read q h = toZ-pos w64 q (lt-of-lt-of-le h (lit≤ tt))
