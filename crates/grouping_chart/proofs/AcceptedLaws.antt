@@ -1,0 +1,122 @@
+-- What is known of an accepted chart: its size, its lengths, and each of its objects; and that every chart of which this is known is accepted.
+use mathlib.Core.Path.{_≡_, refl, sym, subst, _∙_}
+use mathlib.Core.List.{List, [], _∷_}
+use mathlib.Core.Bool.{Bool, true, false, cond}
+use Prim.Native.Nat.{ℕ, zero, suc, _+_, _≤_, _<_}
+use native.Mathlib.Omega.{arith}
+use borrow.Author.Tests.{ltb-false, le-leb, leb-true, eqb-true}
+use lib.Dec.{T, eqb, leb}
+use lib.ListN.{length, getD}
+use lib.Ieee.{Float, nan}
+use Rattle.grouping_chart.specs.declared.object.ObjectIndex.{ObjectIndex}
+use Rattle.grouping_chart.specs.declared.chart.Verdict.{Verdict}
+use Rattle.grouping_chart.specs.declared.chart.Verdict.the-variants.{Accepted, Refused}
+use Rattle.grouping_chart.specs.Chart.{Chart, SameLengths, even}
+use Rattle.grouping_chart.specs.Refusal.{timeGood, ratioGood, objectRefusal, firstRefused, verdict}
+use Rattle.grouping_chart.proofs.RefusalLaws.{all-even, verdict-objects}
+
+-- an object that is not refused
+pub record GoodObject (k : ℕ) (s d r : Float) : Type 0 where
+  pub kind : k ≤ 2
+  pub start : T (timeGood s)
+  pub delta : T (timeGood d)
+  pub ratio : T (ratioGood r)
+
+-- a chart that is not refused, in a call whose slices are not short
+pub record GoodChart (c : Chart) (short : Bool) : Type 0 where
+  pub few : length (c .kinds) ≤ 16384
+  pub room : short ≡ false
+  pub lengths : SameLengths (length (c .kinds)) (c .starts) (c .deltas) (c .ratios)
+  pub objects : (i : ℕ) (z : Float) → i < length (c .kinds)
+      → GoodObject (getD (c .kinds) i 0) (getD (c .starts) i z) (getD (c .deltas) i z) (getD (c .ratios) i z)
+
+pub good-kind : {k : ℕ} {s d r : Float} → GoodObject k s d r → leb k 2 ≡ true
+good-kind {k} g = le-leb k 2 (g .kind)
+
+-- ---- an object
+
+T-of : (b : Bool) → b ≡ true → T b
+T-of b e = subst T (sym e) tt
+
+of-T : (b : Bool) → T b → b ≡ true
+of-T true t = refl
+of-T false t = absurd t
+
+tests-passed : (a b c d : Bool) → _≡_ {A = ℕ} (cond a (cond b (cond c (cond d 0 7) 6) 5) 4) 0 → (a ≡ true) × ((b ≡ true) × ((c ≡ true) × (d ≡ true)))
+tests-passed true true true true e = (refl, (refl, (refl, refl)))
+tests-passed true true true false e = absurd (omega arith)
+tests-passed true true false d e = absurd (omega arith)
+tests-passed true false c d e = absurd (omega arith)
+tests-passed false b c d e = absurd (omega arith)
+
+pub object-good : (k : ℕ) (s d r : Float) → objectRefusal k s d r ≡ 0 → GoodObject k s d r
+unfolding objectRefusal
+object-good k s d r e =
+    let t = tests-passed (leb k 2) (timeGood s) (timeGood d) (ratioGood r) e in
+    record { kind = leb-true k 2 (t .0); start = T-of _ (t .1 .0); delta = T-of _ (t .1 .1 .0); ratio = T-of _ (t .1 .1 .1) }
+
+pub good-object : {k : ℕ} {s d r : Float} → GoodObject k s d r → objectRefusal k s d r ≡ 0
+unfolding objectRefusal
+good-object {k} {s} {d} {r} g = rw (le-leb k 2 (g .kind), of-T (timeGood s) (g .start), of-T (timeGood d) (g .delta), of-T (ratioGood r) (g .ratio))
+
+-- ---- all objects
+
+-- an accepted verdict after a test that refuses where it fails, and after one that refuses where it holds
+test-held : (b : Bool) (later : Verdict) (n : ℕ) (at : ObjectIndex) → cond b later (Refused n at) ≡ Accepted → (b ≡ true) × (later ≡ Accepted)
+test-held true later n at e = (refl, e)
+test-held false later n at e = absurd (let z : _≡_ {A = ℕ} 0 1 = cc in omega arith)
+
+test-failed : (b : Bool) (v : Verdict) (n : ℕ) (at : ObjectIndex) → cond b (Refused n at) v ≡ Accepted → (b ≡ false) × (v ≡ Accepted)
+test-failed true v n at e = absurd (let z : _≡_ {A = ℕ} 0 1 = cc in omega arith)
+test-failed false v n at e = (refl, e)
+
+objects-good : (j : ℕ) (ks : List ℕ) (ss ds rs : List Float) → SameLengths (length ks) ss ds rs → firstRefused j ks ss ds rs ≡ Accepted
+    → (i : ℕ) (z : Float) → i < length ks → GoodObject (getD ks i 0) (getD ss i z) (getD ds i z) (getD rs i z)
+unfolding firstRefused
+objects-good j [] ss ds rs same e i z h = absurd (omega arith)
+objects-good j (k ∷ ks) [] ds rs same e i z h = absurd (omega (arith, same .start))
+objects-good j (k ∷ ks) (s ∷ ss) [] rs same e i z h = absurd (omega (arith, same .delta))
+objects-good j (k ∷ ks) (s ∷ ss) (d ∷ ds) [] same e i z h = absurd (omega (arith, same .ratio))
+objects-good j (k ∷ ks) (s ∷ ss) (d ∷ ds) (r ∷ rs) same e zero z h =
+    object-good k s d r (eqb-true _ 0 (test-held (eqb (objectRefusal k s d r) 0) _ _ _ e .0))
+objects-good j (k ∷ ks) (s ∷ ss) (d ∷ ds) (r ∷ rs) same e (suc i) z h =
+    objects-good (j + 1) ks ss ds rs (record { start = omega (arith, same .start); delta = omega (arith, same .delta); ratio = omega (arith, same .ratio) }) (test-held (eqb (objectRefusal k s d r) 0) _ _ _ e .1) i z (omega arith)
+
+good-objects : (j : ℕ) (ks : List ℕ) (ss ds rs : List Float)
+    → ((i : ℕ) (z : Float) → i < length ks → GoodObject (getD ks i 0) (getD ss i z) (getD ds i z) (getD rs i z))
+    → firstRefused j ks ss ds rs ≡ Accepted
+unfolding firstRefused
+good-objects j [] ss ds rs g = refl
+good-objects j (k ∷ ks) [] ds rs g = refl
+good-objects j (k ∷ ks) (s ∷ ss) [] rs g = refl
+good-objects j (k ∷ ks) (s ∷ ss) (d ∷ ds) [] g = refl
+good-objects j (k ∷ ks) (s ∷ ss) (d ∷ ds) (r ∷ rs) g =
+    let here : objectRefusal k s d r ≡ 0 = good-object (g 0 nan (omega arith)) in
+    let later : firstRefused (j + 1) ks ss ds rs ≡ Accepted = good-objects (j + 1) ks ss ds rs (λ i z h. g (suc i) z (omega arith)) in
+    rw here later
+
+-- ---- the chart
+
+all-three : (a b c : Bool) → cond a (cond b c false) false ≡ true → (a ≡ true) × ((b ≡ true) × (c ≡ true))
+all-three true true c e = (refl, (refl, e))
+all-three true false c e = absurd (let z : _≡_ {A = ℕ} 0 1 = cc in omega arith)
+all-three false b c e = absurd (let z : _≡_ {A = ℕ} 0 1 = cc in omega arith)
+
+pub even-lengths : (c : Chart) → even c ≡ true → SameLengths (length (c .kinds)) (c .starts) (c .deltas) (c .ratios)
+unfolding even
+even-lengths c e =
+    let t = all-three _ _ _ e in
+    record { start = eqb-true _ _ (t .0); delta = eqb-true _ _ (t .1 .0); ratio = eqb-true _ _ (t .1 .1) }
+
+pub accepted-good : (c : Chart) (short : Bool) → verdict c short ≡ Accepted → GoodChart c short
+unfolding verdict
+accepted-good c short e =
+    let few = test-failed _ _ _ _ e in
+    let lengths = test-held _ _ _ _ (few .1) in
+    let room = test-failed _ _ _ _ (lengths .1) in
+    let same = even-lengths c (lengths .0) in
+    record { few = ltb-false _ _ (few .0); room = room .0; lengths = same; objects = objects-good 0 _ _ _ _ same (room .1) }
+
+pub good-accepted : {c : Chart} {short : Bool} → GoodChart c short → verdict c short ≡ Accepted
+good-accepted {c} {short} g =
+    verdict-objects c short (g .few) (sym (all-even c (g .lengths))) (g .room) ∙ good-objects 0 _ _ _ _ (g .objects)

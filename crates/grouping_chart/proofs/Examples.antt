@@ -1,0 +1,106 @@
+-- Document 01's boundary charts as one list of input and outcome: `verdict` computes to each outcome.
+use mathlib.Core.Path.{_≡_, refl}
+use mathlib.Core.Bool.{Bool, true, false}
+use mathlib.Core.List.{List, [], _∷_, map}
+use Prim.Native.Nat.{ℕ}
+use lib.Ieee.{Float, binary64, ofBits, le}
+use Rattle.grouping_chart.specs.declared.chart.Verdict.{Verdict}
+use Rattle.grouping_chart.specs.declared.chart.Verdict.the-variants.{Accepted, Refused}
+use Rattle.grouping_chart.specs.Chart.{Chart, even}
+use Rattle.grouping_chart.specs.Refusal.{within, timeGood, ratioGood, objectRefusal, firstRefused, refused, verdict}
+
+-- An f64 is written by its bits, so that the next one in size is the next number.
+abbrev one : ℕ
+one = 0x3ff0_0000_0000_0000
+
+-- 16,777,216 and −16,777,216, and the next f64 beyond each
+abbrev most : ℕ
+most = 0x4170_0000_0000_0000
+
+abbrev over-most : ℕ
+over-most = 0x4170_0000_0000_0001
+
+abbrev least : ℕ
+least = 0xc170_0000_0000_0000
+
+abbrev under-least : ℕ
+under-least = 0xc170_0000_0000_0001
+
+-- 2^−24 and the next f64 below
+abbrev smallest : ℕ
+smallest = 0x3e70_0000_0000_0000
+
+abbrev under-smallest : ℕ
+under-smallest = 0x3e6f_ffff_ffff_ffff
+
+abbrev not-a-number : ℕ
+not-a-number = 0x7ff8_0000_0000_0000
+
+abbrev infinite : ℕ
+infinite = 0x7ff0_0000_0000_0000
+
+abbrev minus-infinite : ℕ
+minus-infinite = 0xfff0_0000_0000_0000
+
+record Example : Type 0 where
+  chart : Chart
+  short : Bool
+  outcome : Verdict
+
+floats : List ℕ → List Float
+floats = map (ofBits binary64)
+
+-- a call on four lists, with room
+lists : List ℕ → List ℕ → List ℕ → List ℕ → Verdict → Example
+lists kinds starts deltas ratios outcome = record {
+  chart = record { kinds = kinds; starts = floats starts; deltas = floats deltas; ratios = floats ratios };
+  short = false;
+  outcome = outcome;
+}
+
+-- a call on one object
+object : ℕ → ℕ → ℕ → ℕ → Verdict → Example
+object k s d r outcome = lists (k ∷ []) (s ∷ []) (d ∷ []) (r ∷ []) outcome
+
+examples : List Example
+examples =
+    object 0 0 0 one Accepted
+    ∷ object 1 0 0 one Accepted
+    ∷ object 2 0 0 one Accepted
+    ∷ object 3 0 0 one (refused 4)
+    ∷ object 255 not-a-number 0 one (refused 4)
+    ∷ object 0 most 0 one Accepted
+    ∷ object 0 least 0 one Accepted
+    ∷ object 0 over-most 0 one (refused 5)
+    ∷ object 0 under-least 0 one (refused 5)
+    ∷ object 0 not-a-number 0 one (refused 5)
+    ∷ object 0 infinite 0 one (refused 5)
+    ∷ object 0 minus-infinite 0 one (refused 5)
+    ∷ object 0 0 most one Accepted
+    ∷ object 0 0 least one Accepted
+    ∷ object 0 0 over-most one (refused 6)
+    ∷ object 0 0 under-least one (refused 6)
+    ∷ object 0 0 not-a-number one (refused 6)
+    ∷ object 0 0 infinite one (refused 6)
+    ∷ object 0 0 minus-infinite one (refused 6)
+    ∷ object 0 0 0 smallest Accepted
+    ∷ object 0 0 0 most Accepted
+    ∷ object 0 0 0 under-smallest (refused 7)
+    ∷ object 0 0 0 over-most (refused 7)
+    ∷ object 0 0 0 0 (refused 7)
+    ∷ object 0 0 0 not-a-number (refused 7)
+    ∷ object 0 0 0 infinite (refused 7)
+    ∷ object 0 0 0 minus-infinite (refused 7)
+    ∷ object 0 infinite infinite infinite (refused 5)
+    ∷ object 0 0 infinite infinite (refused 6)
+    ∷ lists [] [] [] [] Accepted
+    ∷ lists (0 ∷ 1 ∷ 2 ∷ []) (0 ∷ 0 ∷ 0 ∷ []) (0 ∷ 0 ∷ 0 ∷ []) (one ∷ one ∷ one ∷ []) Accepted
+    ∷ lists (0 ∷ 1 ∷ 3 ∷ []) (0 ∷ 0 ∷ 0 ∷ []) (0 ∷ infinite ∷ 0 ∷ []) (one ∷ one ∷ one ∷ []) (Refused 6 (record { 0 = 1 }))
+    ∷ lists (0 ∷ 3 ∷ []) (0 ∷ 0 ∷ []) (0 ∷ 0 ∷ []) (one ∷ []) (refused 2)
+    ∷ record { chart = record { kinds = 3 ∷ []; starts = floats (0 ∷ []); deltas = floats (0 ∷ []); ratios = floats (one ∷ []) }; short = true; outcome = refused 3 }
+    ∷ record { chart = record { kinds = 3 ∷ []; starts = []; deltas = []; ratios = [] }; short = true; outcome = refused 2 }
+    ∷ []
+
+shown : map (λ (e : Example). verdict (e .chart) (e .short)) examples ≡ map (λ (e : Example). e .outcome) examples
+unfolding examples object lists floats ofBits le within timeGood ratioGood objectRefusal firstRefused even verdict
+shown = refl

@@ -1,0 +1,4 @@
+pub mod RefusalLaws
+pub mod AcceptedLaws
+pub mod ObjectLaws
+pub mod Examples

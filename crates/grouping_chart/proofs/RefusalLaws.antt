@@ -1,0 +1,117 @@
+-- The cases of the definitions of refusals 1 to 7, one law a case: the proofs of this crate's functions and of calls on a chart cite these.
+use mathlib.Core.Path.{_≡_}
+use mathlib.Core.List.{List}
+use mathlib.Core.Bool.{Bool, true, false}
+use Prim.Native.Nat.{ℕ, _+_, _≤_, _<_}
+use native.Mathlib.Numerals.{add-one}
+use native.Mathlib.Omega.{arith}
+use borrow.Author.Tests.{lt-ltb, le-ltb, le-leb, lt-leb, eq-eqb, ne-eqb}
+use lib.ListN.{length, drop, getD, drop-of-length-le}
+use lib.Seq.{drop-cons}
+use lib.Ieee.{Float, le}
+use Rattle.grouping_chart.specs.declared.chart.Verdict.the-variants.{Accepted, Refused}
+use Rattle.grouping_chart.specs.Chart.{Chart, SameLengths, even}
+use Rattle.grouping_chart.specs.Refusal.{within, timeGood, ratioGood, objectRefusal, firstRefused, refused, verdict}
+
+-- ---- a value from lo to hi
+
+pub within-reached : (lo hi x : Float) → le lo x ≡ true → le x hi ≡ within lo hi x
+unfolding within
+within-reached lo hi x e = rw e
+
+pub within-below : (lo hi x : Float) → le lo x ≡ false → false ≡ within lo hi x
+unfolding within
+within-below lo hi x e = rw e
+
+-- ---- the number of an object's refusal
+
+module _ (s d r : Float) where
+  pub refusal-0 : timeGood s ≡ true → timeGood d ≡ true → ratioGood r ≡ true → 0 ≡ objectRefusal 0 s d r
+  unfolding objectRefusal
+  refusal-0 a b c = rw (a, b, c)
+
+  pub refusal-7 : timeGood s ≡ true → timeGood d ≡ true → ratioGood r ≡ false → 7 ≡ objectRefusal 0 s d r
+  unfolding objectRefusal
+  refusal-7 a b c = rw (a, b, c)
+
+  pub refusal-6 : timeGood s ≡ true → timeGood d ≡ false → 6 ≡ objectRefusal 0 s d r
+  unfolding objectRefusal
+  refusal-6 a b = rw (a, b)
+
+  pub refusal-5 : timeGood s ≡ false → 5 ≡ objectRefusal 0 s d r
+  unfolding objectRefusal
+  refusal-5 a = rw a
+
+  pub refusal-kind : (k : ℕ) → k ≤ 2 → objectRefusal 0 s d r ≡ objectRefusal k s d r
+  unfolding objectRefusal
+  refusal-kind k h = rw (le-leb k 2 h)
+
+  pub refusal-4 : (k : ℕ) → 2 < k → 4 ≡ objectRefusal k s d r
+  unfolding objectRefusal
+  refusal-4 k h = rw (lt-leb k 2 h)
+
+-- ---- the first refused object from object i on: it is i, or it stands later, or there is none
+
+module _ (kinds : List ℕ) (starts deltas ratios : List Float) (i : ℕ) (z : Float) (same : SameLengths (length kinds) starts deltas ratios) where
+  pub first-here : (v : ℕ) → i < length kinds → v ≡ objectRefusal (getD kinds i 0) (getD starts i z) (getD deltas i z) (getD ratios i z) → (v ≡ 0 → ⊥)
+      → Refused v (record { 0 = i }) ≡ firstRefused i (drop i kinds) (drop i starts) (drop i deltas) (drop i ratios)
+  unfolding firstRefused
+  first-here v h e n =
+      let in-starts : i < length starts = omega arith in
+      let in-deltas : i < length deltas = omega arith in
+      let in-ratios : i < length ratios = omega arith in
+      rw (drop-cons kinds i 0 h, drop-cons starts i z in-starts, drop-cons deltas i z in-deltas, drop-cons ratios i z in-ratios, ← e, ne-eqb v 0 n)
+
+  pub first-later : (v : ℕ) → i < length kinds → v ≡ objectRefusal (getD kinds i 0) (getD starts i z) (getD deltas i z) (getD ratios i z) → v ≡ 0
+      → firstRefused i (drop i kinds) (drop i starts) (drop i deltas) (drop i ratios)
+      ≡ firstRefused (i + 1) (drop (i + 1) kinds) (drop (i + 1) starts) (drop (i + 1) deltas) (drop (i + 1) ratios)
+  unfolding firstRefused
+  first-later v h e n =
+      let in-starts : i < length starts = omega arith in
+      let in-deltas : i < length deltas = omega arith in
+      let in-ratios : i < length ratios = omega arith in
+      rw (drop-cons kinds i 0 h, drop-cons starts i z in-starts, drop-cons deltas i z in-deltas, drop-cons ratios i z in-ratios, ← e, eq-eqb v 0 n, add-one i)
+
+pub first-none : (kinds : List ℕ) (starts deltas ratios : List Float) (i : ℕ) → length kinds ≤ i
+    → Accepted ≡ firstRefused i (drop i kinds) (drop i starts) (drop i deltas) (drop i ratios)
+unfolding firstRefused
+first-none kinds starts deltas ratios i h = rw (drop-of-length-le kinds h)
+
+-- ---- the chart's lengths
+
+module _ (c : Chart) where
+  pub starts-uneven : (length (c .starts) ≡ length (c .kinds) → ⊥) → false ≡ even c
+  unfolding even
+  starts-uneven a = rw (ne-eqb _ _ a)
+
+  pub deltas-uneven : length (c .starts) ≡ length (c .kinds) → (length (c .deltas) ≡ length (c .kinds) → ⊥) → false ≡ even c
+  unfolding even
+  deltas-uneven a b = rw (eq-eqb _ _ a, ne-eqb _ _ b)
+
+  pub ratios-uneven : length (c .starts) ≡ length (c .kinds) → length (c .deltas) ≡ length (c .kinds) → (length (c .ratios) ≡ length (c .kinds) → ⊥) → false ≡ even c
+  unfolding even
+  ratios-uneven a b d = rw (eq-eqb _ _ a, eq-eqb _ _ b, ne-eqb _ _ d)
+
+  pub all-even : SameLengths (length (c .kinds)) (c .starts) (c .deltas) (c .ratios) → true ≡ even c
+  unfolding even
+  all-even s = rw (eq-eqb _ _ (s .start), eq-eqb _ _ (s .delta), eq-eqb _ _ (s .ratio))
+
+-- ---- a call's verdict
+
+module _ (c : Chart) (short : Bool) where
+  pub verdict-1 : 16384 < length (c .kinds) → verdict c short ≡ refused 1
+  unfolding verdict
+  verdict-1 h = rw (lt-ltb _ _ h)
+
+  pub verdict-2 : length (c .kinds) ≤ 16384 → even c ≡ false → verdict c short ≡ refused 2
+  unfolding verdict
+  verdict-2 h e = rw (le-ltb _ _ h, e)
+
+  pub verdict-3 : length (c .kinds) ≤ 16384 → even c ≡ true → short ≡ true → verdict c short ≡ refused 3
+  unfolding verdict
+  verdict-3 h e t = rw (le-ltb _ _ h, e, t)
+
+  pub verdict-objects : length (c .kinds) ≤ 16384 → even c ≡ true → short ≡ false
+      → verdict c short ≡ firstRefused 0 (c .kinds) (c .starts) (c .deltas) (c .ratios)
+  unfolding verdict
+  verdict-objects h e t = rw (le-ltb _ _ h, e, t)

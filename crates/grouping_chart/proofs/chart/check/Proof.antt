@@ -1,0 +1,33 @@
+-- Each return is one case of the definition, in the order 1, 2, 3, then object by object.
+use mathlib.Core.Path.{sym, _∙_}
+use Rattle.grouping_chart.proofs.RefusalLaws.{verdict-1, verdict-2, verdict-3, verdict-objects}
+use Rattle.grouping_chart.proofs.AcceptedLaws.{even-lengths}
+use Rattle.grouping_chart.proofs.chart.check.Statement.{statement}
+use Rattle.grouping_chart.proofs.chart.check.Tie as tie
+
+returns : tie.Need-returns
+returns c = sym (verdict-1 _ _ (c .if1 .taken))
+
+lengths-even-requires : tie.Need-lengths-even-requires
+lengths-even-requires c κs = tt
+
+returns-2 : tie.Need-returns-2
+returns-2 c =
+    let even-true = sym (c .before .before .lengths-even .ensures) ∙ c .before .if2 .taken in
+    sym (verdict-3 _ _ (c .before .before .before .if1 .left) even-true (c .if3 .taken))
+
+check-objects-requires : tie.Need-check-objects-requires
+check-objects-requires c κs = even-lengths _ (sym (c .before .before .lengths-even .ensures) ∙ c .before .if2 .taken)
+
+returns-3 : tie.Need-returns-3
+returns-3 c =
+    let even-true = sym (c .before .before .before .lengths-even .ensures) ∙ c .before .before .if2 .taken in
+    c .check-objects .ensures ∙ sym (verdict-objects _ _ (c .before .before .before .before .if1 .left) even-true (c .before .if3 .left))
+
+returns-4 : tie.Need-returns-4
+returns-4 c = sym (verdict-2 _ _ (c .before .before .if1 .left) (sym (c .before .lengths-even .ensures) ∙ c .if2 .left))
+
+pub check-spec : {M : Type 1} → statement M
+check-spec =
+    tie.close
+    (tie.spec returns lengths-even-requires returns-2 check-objects-requires returns-3 returns-4)

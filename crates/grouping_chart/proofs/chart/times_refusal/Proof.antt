@@ -1,0 +1,46 @@
+-- Each return is one case of the definition, by what the tests before it answered.
+use mathlib.Core.Path.{sym, _∙_}
+use Rattle.grouping_chart.proofs.RefusalLaws.{refusal-0, refusal-7, refusal-6, refusal-5}
+use Rattle.grouping_chart.proofs.chart.times_refusal.Statement.{statement}
+use Rattle.grouping_chart.proofs.chart.times_refusal.Tie as tie
+
+time-good-requires : tie.Need-time-good-requires
+time-good-requires c κs = tt
+
+time-good-requires-2 : tie.Need-time-good-requires-2
+time-good-requires-2 c κs = tt
+
+ratio-good-requires : tie.Need-ratio-good-requires
+ratio-good-requires c κs = tt
+
+returns : tie.Need-returns
+returns c =
+    let at-delta = c .before .before in
+    let at-start = at-delta .before .before in
+    refusal-0 _ _ _ (sym (at-start .before .time-good .ensures) ∙ at-start .if1 .taken) (sym (at-delta .before .time-good2 .ensures) ∙ at-delta .if2 .taken) (sym (c .before .ratio-good .ensures) ∙ c .if3 .taken)
+
+returns-2 : tie.Need-returns-2
+returns-2 c =
+    let at-delta = c .before .before in
+    let at-start = at-delta .before .before in
+    refusal-7 _ _ _ (sym (at-start .before .time-good .ensures) ∙ at-start .if1 .taken) (sym (at-delta .before .time-good2 .ensures) ∙ at-delta .if2 .taken) (sym (c .before .ratio-good .ensures) ∙ c .if3 .left)
+
+returns-3 : tie.Need-returns-3
+returns-3 c =
+    let at-start = c .before .before in
+    refusal-6 _ _ _ (sym (at-start .before .time-good .ensures) ∙ at-start .if1 .taken) (sym (c .before .time-good2 .ensures) ∙ c .if2 .left)
+
+returns-4 : tie.Need-returns-4
+returns-4 c = refusal-5 _ _ _ (sym (c .before .time-good .ensures) ∙ c .if1 .left)
+
+pub times-refusal-spec : {M : Type 1} → statement M
+times-refusal-spec =
+    tie.close
+    (tie.spec
+    time-good-requires
+    time-good-requires-2
+    ratio-good-requires
+    returns
+    returns-2
+    returns-3
+    returns-4)

@@ -1,0 +1,31 @@
+-- Document 01: "A chart is four lent slices of one length n: kind (0 Center, 1 Rim, 2 NonHit), start and delta in milliseconds, and ratio (all three f64). n is 0 to 16,384."
+use Prim.Native.Nat.{ℕ}
+use mathlib.Core.Path.{_≡_}
+use mathlib.Core.Bool.{Bool, false, cond}
+use mathlib.Core.List.{List}
+use lib.Dec.{eqb}
+use lib.ListN.{length}
+use lib.Ieee.{Float}
+
+pub record Chart : Type 0 where
+  pub kinds : List ℕ
+  pub starts : List Float
+  pub deltas : List Float
+  pub ratios : List Float
+
+-- n, counted on the kind slice
+abbrev pub size : Chart → ℕ
+size c = length (c .kinds)
+
+abbrev pub largest : ℕ
+largest = 16384
+
+-- the four slices are of one length
+unfoldable pub even : Chart → Bool
+even c = cond (eqb (length (c .starts)) (size c)) (cond (eqb (length (c .deltas)) (size c)) (eqb (length (c .ratios)) (size c)) false) false
+
+-- the three lists of times and ratios are n long
+pub record SameLengths (n : ℕ) (starts deltas ratios : List Float) : Type 0 where
+  pub start : length starts ≡ n
+  pub delta : length deltas ≡ n
+  pub ratio : length ratios ≡ n

@@ -1,0 +1,3 @@
+pub mod Object
+pub mod Chart
+pub mod Refusal

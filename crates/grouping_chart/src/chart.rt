@@ -1,0 +1,102 @@
+// Refusals 1 to 7: of the chart's size and lengths, and object by object.
+ghost use mathlib.Core.Path.{_≡_};
+ghost use lib.ListN.{length};
+ghost use Rattle.grouping_chart.specs.Chart.{SameLengths, even};
+ghost use Rattle.grouping_chart.specs.Refusal.{timeGood, ratioGood, objectRefusal, firstRefused, verdict};
+use crate::object::ObjectIndex;
+
+// Whether a call is accepted; else the first refusal that applies and its place.
+pub enum Verdict {
+    Accepted,
+    Refused(u8, ObjectIndex),
+}
+
+fn time_good(time: f64) -> bool
+    ensures { λ r. ⌜ r ≡ timeGood time ⌝ }
+{
+    if -16777216.0 <= time {
+        return time <= 16777216.0;
+    }
+    false
+}
+
+fn ratio_good(ratio: f64) -> bool
+    ensures { λ r. ⌜ r ≡ ratioGood ratio ⌝ }
+{
+    if 0.000000059604644775390625 <= ratio {
+        return ratio <= 16777216.0;
+    }
+    false
+}
+
+fn times_refusal(start: f64, delta: f64, ratio: f64) -> u8
+    ensures { λ r. ⌜ r ≡ objectRefusal 0 start delta ratio ⌝ }
+{
+    if time_good(start) {
+        if time_good(delta) {
+            if ratio_good(ratio) {
+                return 0;
+            }
+            return 7;
+        }
+        return 6;
+    }
+    5
+}
+
+// The number of an object's refusal, or 0.
+pub fn object_refusal(kind: u8, start: f64, delta: f64, ratio: f64) -> u8
+    ensures { λ r. ⌜ r ≡ objectRefusal kind start delta ratio ⌝ }
+{
+    match kind {
+        0 | 1 | 2 => times_refusal(start, delta, ratio),
+        _ => 4,
+    }
+}
+
+fn check_objects(kind: &[u8], start: &[f64], delta: &[f64], ratio: &[f64]) -> Verdict
+    requires { ⌜ SameLengths (length (now kind)) (now start) (now delta) (now ratio) ⌝ }
+    ensures { λ r. ⌜ r ≡ firstRefused 0 (now (kind .entry)) (now (start .entry)) (now (delta .entry)) (now (ratio .entry)) ⌝ }
+{
+    let mut at = ObjectIndex(0);
+    while at.0 < kind.len() {
+        let i = at.0;
+        let number = object_refusal(kind[i], start[i], delta[i], ratio[i]);
+        if number != 0 {
+            return Verdict::Refused(number, at);
+        }
+        at = ObjectIndex(i + 1);
+    }
+    Verdict::Accepted
+}
+
+fn lengths_even(kind: &[u8], start: &[f64], delta: &[f64], ratio: &[f64]) -> bool
+    ensures { λ r. ⌜ r ≡ even (record { kinds = now (kind .entry); starts = now (start .entry); deltas = now (delta .entry); ratios = now (ratio .entry) }) ⌝ }
+{
+    if start.len() != kind.len() {
+        return false;
+    }
+    if delta.len() != kind.len() {
+        return false;
+    }
+    if ratio.len() != kind.len() {
+        return false;
+    }
+    true
+}
+
+// Refusals 1 to 7 of a call on a chart; `short` says that an answer or work slice is too short for it.
+pub fn check(kind: &[u8], start: &[f64], delta: &[f64], ratio: &[f64], short: bool) -> Verdict
+    ensures { λ r. ⌜ r ≡ verdict (record { kinds = now (kind .entry); starts = now (start .entry); deltas = now (delta .entry); ratios = now (ratio .entry) }) short ⌝ }
+{
+    if 16384 < kind.len() {
+        return Verdict::Refused(1, ObjectIndex(0));
+    }
+    if lengths_even(kind, start, delta, ratio) {
+        if short {
+            return Verdict::Refused(3, ObjectIndex(0));
+        }
+        return check_objects(kind, start, delta, ratio);
+    }
+    Verdict::Refused(2, ObjectIndex(0))
+}

@@ -1,0 +1,3 @@
+// What a chart is, which charts are refused, and the two counters of an object.
+pub mod chart;
+pub mod object;

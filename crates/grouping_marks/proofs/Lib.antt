@@ -1,0 +1,5 @@
+pub mod OverLaws
+pub mod FillLaws
+pub mod ScanLaws
+pub mod MarksLaws
+pub mod PassLaws

@@ -1,0 +1,76 @@
+-- The loop's invariant: the table's entries at the first i numbers are stored over the front.
+use native.Mathlib.Omega.{arith}
+use Prim.Native.Nat.{_-_}
+use mathlib.Core.Path.{sym}
+use lib.ListN.{length}
+use Rattle.grouping_marks.specs.Scan.{gathered}
+use Rattle.grouping_marks.proofs.FillLaws.{Fill, fill-start-front, fill-turn-front, fill-end-front, length-gathered, getD-gathered}
+use Rattle.grouping_marks.proofs.fill.gather.Statement.{statement}
+use Rattle.grouping_marks.proofs.fill.gather.Tie as tie
+
+abbrev Inv-loop : tie.InvT-loop
+Inv-loop table idx out₀ i₀ out i = Fill (gathered table idx) (length idx) 0 out₀ out i
+
+abbrev μ-loop : tie.MeasureT-loop
+μ-loop table idx out₀ i₀ out i = length idx - i
+
+loop-holds : tie.Need-loop-holds Inv-loop μ-loop
+loop-holds c = fill-start-front _ _ _ (length-gathered _ _) (c .pre .0)
+
+mul-j : tie.Need-mul-j Inv-loop μ-loop
+mul-j c = omega arith
+
+shared-slice-read-j : tie.Need-shared-slice-read-j Inv-loop μ-loop
+shared-slice-read-j c = omega arith
+
+cast-j : tie.Need-cast-j Inv-loop μ-loop
+cast-j c = omega (arith, c .shared-slice-known .given (c .before .before .loop .i))
+
+mul-out : tie.Need-mul-out Inv-loop μ-loop
+mul-out c = omega (arith, c .before .before .before .pre .1 (c .before .before .loop .i) (c .before .loop-test .taken))
+
+shared-slice-read-out : tie.Need-shared-slice-read-out Inv-loop μ-loop
+shared-slice-read-out c = c .before .before .before .before .pre .1 (c .before .before .before .loop .i) (c .before .before .loop-test .taken)
+
+mul-out-2 : tie.Need-mul-out-2 Inv-loop μ-loop
+mul-out-2 c = omega arith
+
+slice-write-out : tie.Need-slice-write-out Inv-loop μ-loop
+slice-write-out c = omega arith
+
+add-i : tie.Need-add-i Inv-loop μ-loop
+add-i c = omega arith
+
+loop-less : tie.Need-loop-less Inv-loop μ-loop
+loop-less c = omega arith
+
+loop-again : tie.Need-loop-again Inv-loop μ-loop
+loop-again c =
+    let h = c .before .before .loop-test .taken in
+    fill-turn-front 0 (c .before .before .before .loop .inv) h (sym (getD-gathered _ _ (c .before .before .before .loop .i) h))
+
+same-length : tie.Need-same-length Inv-loop μ-loop
+same-length c = c .before .loop .inv .long
+
+returns : tie.Need-returns Inv-loop μ-loop
+returns c = fill-end-front (c .before .loop .inv) (c .loop-test .left)
+
+pub gather-spec : {M : Type 1} → statement M
+gather-spec =
+    tie.close
+    (tie.spec
+    Inv-loop
+    μ-loop
+    loop-holds
+    mul-j
+    shared-slice-read-j
+    cast-j
+    mul-out
+    shared-slice-read-out
+    mul-out-2
+    slice-write-out
+    add-i
+    loop-less
+    loop-again
+    same-length
+    returns)

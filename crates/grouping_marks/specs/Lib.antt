@@ -1,0 +1,4 @@
+pub mod Over
+pub mod Scan
+pub mod Marks
+pub mod Passes
