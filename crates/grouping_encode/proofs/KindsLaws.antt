@@ -1,0 +1,111 @@
+-- From the encoder's tables to the six answers: the tables have room for every number that is looked up, and what is looked up is the definition's list. Assumes nothing.
+use mathlib.Core.Path.{_≡_, refl, sym, ap, _∙_, subst}
+use mathlib.Core.List.{List, _++_}
+use Prim.Native.Nat.{ℕ, _+_, _*_, _≤_, _<_}
+use native.Mathlib.Omega.{arith}
+use lib.Dec.{lit≤}
+use lib.ListN.{length, take, drop, getD, replicate, length-replicate}
+use Rattle.grouping_marks.specs.Over.{over, part}
+use Rattle.grouping_marks.specs.Scan.{gathered}
+use Rattle.grouping_marks.specs.Marks.{groupCount, groupNumbers, groupPlaces}
+use Rattle.grouping_color.specs.MonoStreak.{streakMarks, streakOf}
+use Rattle.grouping_color.specs.Preprocessor.{patternsOpen, hitsOpen, hitCount, hitIntervals, streakPlaceOf, patternOf, patternPlaceOf, hitOf, intervalOf}
+use Rattle.grouping_color.specs.Passes.{Outside, Tables}
+use Rattle.grouping_color.specs.declared.preprocessor.Counts.{Counts}
+use Rattle.grouping_color.proofs.BoundLaws.{length-streakOf, length-patternOf, streak-below, pattern-below, hit-below, patternOf-below, hit-interval-byte}
+use Rattle.grouping_encode.specs.Encode.{searchLimit}
+use Rattle.grouping_encode.specs.Passes.{Below, PatternsRoom, PatternsSpread, HitsRoom, HitsSpread, AnswerRoom, Encoded}
+use Rattle.grouping_encode.proofs.SpreadLaws.{written-front}
+
+-- zeros over two lists that agree past them
+over-same : (m : ℕ) (old new : List ℕ) → drop m new ≡ drop m old → over (replicate m 0) new ≡ over (replicate m 0) old
+unfolding over
+over-same m old new e =
+    let l : length (replicate {A = ℕ} m 0) ≡ m = length-replicate m 0 in
+    ap (λ (i : ℕ). replicate m 0 ++ drop i new) l ∙ ap (λ (xs : List ℕ). replicate m 0 ++ xs) e ∙ ap (λ (i : ℕ). replicate m 0 ++ drop i old) (sym l)
+
+module _ (kinds w₀ w : List ℕ) (k : Counts) (t : Tables searchLimit kinds w₀ w k) where
+  abbrev n : ℕ
+  n = length kinds
+
+  below-of : (m c d : ℕ) (xs ys : List ℕ) → xs ≡ ys → c ≡ d → ((i : ℕ) → i < m → getD ys i 0 < d) → Below m xs c
+  below-of m c d xs ys e f b = record { below = λ i h. subst (λ (z : ℕ). getD xs i 0 < z) (sym f) (subst (λ (zs : List ℕ). getD zs i 0 < d) (sym e) (b i h)) }
+
+  streaks-below : Below n (part 0 n w) (k .streaks)
+  streaks-below = below-of n (k .streaks) (groupCount (streakMarks kinds)) (part 0 n w) (streakOf kinds) (t .streak) (t .count-s) (streak-below kinds)
+
+  hits-below : Below (k .patterns) (part n (k .patterns) w) (k .hits)
+  hits-below =
+      below-of (k .patterns) (k .hits) (hitCount kinds) (part n (k .patterns) w) (groupNumbers (hitsOpen kinds)) (t .hit) (t .count-h)
+      (λ i h. hit-below kinds i (subst (λ (z : ℕ). i < z) (t .count-p) h))
+
+  bytes : (j : ℕ) → getD (part (7 * n) (k .hits) w) j 0 < 256
+  bytes j = subst (λ (zs : List ℕ). getD zs j 0 < 256) (sym (t .interval)) (hit-interval-byte kinds searchLimit (lit≤ tt) j)
+
+  -- what was looked up, by the definitions
+  streakPlaces : gathered (part (4 * n) (k .streaks) w) (part 0 n w) ≡ streakPlaceOf kinds
+  unfolding streakPlaceOf
+  streakPlaces i = gathered (t .streak-place i) (t .streak i)
+
+  patterns : gathered (part (3 * n) (k .streaks) w) (part 0 n w) ≡ patternOf kinds
+  unfolding patternOf
+  patterns i = gathered (t .pattern i) (t .streak i)
+
+  pub patterns-room : (streak place pattern outer hit interval : List ℕ) → AnswerRoom n streak place pattern outer hit interval w₀ → PatternsRoom n k w streak place pattern
+  patterns-room streak place pattern outer hit interval r = record {
+    few = r .few;
+    streaks = t .few-s;
+    tables = subst (λ (l : ℕ). 8 * n ≤ l) (sym (t .outside .same)) (r .tables);
+    streak-room = r .streak-room;
+    place-room = r .streak-place-room;
+    pattern-room = r .pattern-room;
+    in-table = streaks-below;
+  }
+
+  module _ (streak₀ streak place₀ place pattern₀ pattern : List ℕ) (p : PatternsSpread n k w streak₀ streak place₀ place pattern₀ pattern) where
+    -- the front of the pattern slice
+    pattern-front : take n pattern ≡ patternOf kinds
+    pattern-front = written-front (patternOf kinds) pattern₀ pattern n (length-patternOf kinds) (p .patterns ∙ ap (λ (xs : List ℕ). over xs pattern₀) patterns)
+
+    patterns-below : Below n (take n pattern) (k .patterns)
+    patterns-below = below-of n (k .patterns) (groupCount (patternsOpen kinds)) (take n pattern) (patternOf kinds) pattern-front (t .count-p) (patternOf-below kinds)
+
+    pub hits-room : (outer hit interval : List ℕ) → AnswerRoom n streak₀ place₀ pattern₀ outer hit interval w₀ → length pattern ≡ length pattern₀ → HitsRoom n k w pattern outer hit interval
+    hits-room outer hit interval r e = record {
+      few = r .few;
+      patterns = t .few-p;
+      hits = t .few-h;
+      tables = subst (λ (l : ℕ). 8 * n ≤ l) (sym (t .outside .same)) (r .tables);
+      pattern-room = subst (λ (l : ℕ). n ≤ l) (sym e) (r .pattern-room);
+      place-room = r .pattern-place-room;
+      hit-room = r .hit-room;
+      interval-room = r .interval-room;
+      in-patterns = patterns-below;
+      in-hits = hits-below;
+      bytes = bytes;
+    }
+
+    module _ (outer₀ outer hit₀ hit interval₀ interval work : List ℕ) (h : HitsSpread n k w pattern outer₀ outer hit₀ hit interval₀ interval) (z : work ≡ over (replicate (8 * n) 0) w) where
+      outers : gathered (part (2 * n) (k .patterns) w) (take n pattern) ≡ patternPlaceOf kinds
+      unfolding patternPlaceOf
+      outers i = gathered (t .pattern-place i) (pattern-front i)
+
+      found : gathered (part n (k .patterns) w) (take n pattern) ≡ hitOf kinds
+      unfolding hitOf
+      found i = gathered (t .hit i) (pattern-front i)
+
+      intervals : gathered (part (7 * n) (k .hits) w) (gathered (part n (k .patterns) w) (take n pattern)) ≡ intervalOf searchLimit kinds
+      unfolding intervalOf
+      intervals i = gathered (t .interval i) (found i)
+
+      pub encoded : Encoded kinds streak₀ streak place₀ place pattern₀ pattern outer₀ outer hit₀ hit interval₀ interval w₀ work (k .hits)
+      encoded = record {
+        counted = t .count-h;
+        streaks = p .streaks ∙ ap (λ (xs : List ℕ). over xs streak₀) (t .streak);
+        streak-places = p .places ∙ ap (λ (xs : List ℕ). over xs place₀) streakPlaces;
+        patterns = p .patterns ∙ ap (λ (xs : List ℕ). over xs pattern₀) patterns;
+        pattern-places = h .places ∙ ap (λ (xs : List ℕ). over xs outer₀) outers;
+        hits = h .hits ∙ ap (λ (xs : List ℕ). over xs hit₀) found;
+        intervals = h .intervals ∙ ap (λ (xs : List ℕ). over xs interval₀) intervals;
+        cleared = z ∙ over-same (8 * n) w₀ w (t .outside .beyond);
+      }

@@ -1,0 +1,3 @@
+pub mod SpreadLaws
+pub mod EncodeLaws
+pub mod KindsLaws

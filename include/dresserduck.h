@@ -1,0 +1,72 @@
+/* Dresserduck: which stretches of a drum chart swap colour, computed by proved code.
+ *
+ * A slice is a pointer and a count of elements. A pointer is aligned for its element and not null, also where the count is 0.
+ * No two slices of one call may overlap, but for slices that are only read.
+ *
+ * A chart is four slices of one length n, from 0 to 16,384:
+ *   kind   0 Center, 1 Rim, 2 NonHit
+ *   start  in milliseconds, finite and within +-16,777,216
+ *   delta  in milliseconds, finite and within +-16,777,216
+ *   ratio  from 2^-24 to 2^24
+ *
+ * Every call answers every input: `refusal` is 0 and the answer slices are filled, or `refusal` is the number of the first
+ * refusal that applies, `place` is where, and every lent slice is as it was. On acceptance an answer slice has its answers
+ * in the first n places and keeps what it held past them.
+ */
+#ifndef DRESSERDUCK_H
+#define DRESSERDUCK_H
+
+#include <stddef.h>
+#include <stdint.h>
+
+#ifdef __cplusplus
+extern "C" {
+#endif
+
+/* The refusals, in the order in which they are tested: 1, 2, 3, then object by object 4, 5, 6, 7.
+ * `place` is the object's number from 0 for 4 to 7, and 0 for the others. */
+enum {
+    DRESSERDUCK_ACCEPTED = 0,
+    DRESSERDUCK_TOO_MANY_OBJECTS = 1, /* host: n is over 16,384, counted on the kind slice */
+    DRESSERDUCK_LENGTHS_DIFFER = 2,   /* host: the four input slices are not of one length */
+    DRESSERDUCK_SLICE_TOO_SHORT = 3,  /* host: an answer slice has fewer than n places, or a work slice too few */
+    DRESSERDUCK_BAD_KIND = 4,         /* chart: a kind above 2 */
+    DRESSERDUCK_BAD_START = 5,        /* chart: a start that is not finite or outside +-16,777,216 */
+    DRESSERDUCK_BAD_DELTA = 6,        /* chart: a delta that is not finite or outside +-16,777,216 */
+    DRESSERDUCK_BAD_RATIO = 7         /* chart: a ratio below 2^-24, above 2^24, or NaN */
+};
+
+enum { DRESSERDUCK_LARGEST_CHART = 16384 };
+
+/* How many places the two work slices need for n objects. On acceptance that many are left 0 and +0.0. */
+static inline size_t dresserduck_work_places(size_t n) { return 8 * n; }
+static inline size_t dresserduck_scratch_places(size_t n) { return n; }
+
+typedef struct dresserduck_encoded {
+    uint64_t refusal;
+    uint64_t place;
+    uint64_t hit_patterns; /* how many hit patterns the chart has; 0 on refusal */
+} dresserduck_encoded;
+
+/* Per object: its streak and the streak's place in its alternating pattern; its alternating pattern and that one's place in
+ * its hit pattern; its hit pattern; and the hit pattern's repetition interval, 1 to 15, or 17 for none. All numbers and
+ * places count from 0. */
+dresserduck_encoded dresserduck_encode(
+    const uint8_t *kind, size_t kind_count,
+    const double *start, size_t start_count,
+    const double *delta, size_t delta_count,
+    const double *ratio, size_t ratio_count,
+    uint16_t *streak, size_t streak_count,
+    uint16_t *streak_place, size_t streak_place_count,
+    uint16_t *pattern, size_t pattern_count,
+    uint16_t *pattern_place, size_t pattern_place_count,
+    uint16_t *hit, size_t hit_count,
+    uint8_t *interval, size_t interval_count,
+    uint16_t *work, size_t work_count,
+    double *scratch, size_t scratch_count);
+
+#ifdef __cplusplus
+}
+#endif
+
+#endif
