@@ -3,7 +3,6 @@ use mathlib.Core.Path.{_≡_, refl, sym, ap, _∙_}
 use mathlib.Core.Bool.{Bool, true, false, _||_, true≢false}
 use mathlib.Core.List.{List}
 use Prim.Native.Nat.{ℕ, _*_, _≤_}
-use lib.Dec.{ltb}
 use lib.ListN.{length, replicate}
 use lib.Ieee.{Float, binary64, ofBits}
 use borrow.Author.Tests.{ltb-false}
@@ -15,7 +14,6 @@ use Rattle.grouping_chart.specs.declared.chart.Verdict.{Verdict}
 use Rattle.grouping_chart.specs.declared.chart.Verdict.the-variants.{Accepted, Refused}
 use Rattle.grouping_chart.proofs.AcceptedLaws.{accepted-good}
 use Rattle.grouping_color.specs.Preprocessor.{hitCount}
-use Rattle.grouping_encode.specs.declared.Encoding.{Encoding}
 use Rattle.grouping_encode.specs.declared.Encoding.the-variants as answer
 use Rattle.grouping_encode.specs.Encode.{Memory, Outcome, short, filled, outcomeBy, encodeOutcome}
 use Rattle.grouping_encode.specs.Passes.{AnswerRoom, Encoded}

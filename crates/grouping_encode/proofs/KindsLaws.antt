@@ -1,28 +1,21 @@
 -- From the encoder's tables to the six answers: the tables have room for every number that is looked up, and what is looked up is the definition's list. Assumes nothing.
-use mathlib.Core.Path.{_≡_, refl, sym, ap, _∙_, subst}
-use mathlib.Core.List.{List, _++_}
-use Prim.Native.Nat.{ℕ, _+_, _*_, _≤_, _<_}
-use native.Mathlib.Omega.{arith}
+use mathlib.Core.Path.{_≡_, sym, ap, _∙_, subst}
+use mathlib.Core.List.{List}
+use Prim.Native.Nat.{ℕ, _*_, _≤_, _<_}
 use lib.Dec.{lit≤}
-use lib.ListN.{length, take, drop, getD, replicate, length-replicate}
+use lib.ListN.{length, take, getD, replicate, length-replicate}
 use Rattle.grouping_marks.specs.Over.{over, part}
 use Rattle.grouping_marks.specs.Scan.{gathered}
-use Rattle.grouping_marks.specs.Marks.{groupCount, groupNumbers, groupPlaces}
+use Rattle.grouping_marks.specs.Marks.{groupCount, groupNumbers}
+use Rattle.grouping_marks.proofs.OverLaws.{over-agree}
 use Rattle.grouping_color.specs.MonoStreak.{streakMarks, streakOf}
-use Rattle.grouping_color.specs.Preprocessor.{patternsOpen, hitsOpen, hitCount, hitIntervals, streakPlaceOf, patternOf, patternPlaceOf, hitOf, intervalOf}
-use Rattle.grouping_color.specs.Passes.{Outside, Tables}
+use Rattle.grouping_color.specs.Preprocessor.{patternsOpen, hitsOpen, hitCount, streakPlaceOf, patternOf, patternPlaceOf, hitOf, intervalOf}
+use Rattle.grouping_color.specs.Passes.{Tables}
 use Rattle.grouping_color.specs.declared.preprocessor.Counts.{Counts}
-use Rattle.grouping_color.proofs.BoundLaws.{length-streakOf, length-patternOf, streak-below, pattern-below, hit-below, patternOf-below, hit-interval-byte}
+use Rattle.grouping_color.proofs.BoundLaws.{streakPlaceOf-looked, patternOf-looked, patternPlaceOf-looked, hitOf-looked, intervalOf-looked, length-patternOf, streak-below, hit-below, patternOf-below, hit-interval-byte}
 use Rattle.grouping_encode.specs.Encode.{searchLimit}
 use Rattle.grouping_encode.specs.Passes.{Below, PatternsRoom, PatternsSpread, HitsRoom, HitsSpread, AnswerRoom, Encoded}
 use Rattle.grouping_encode.proofs.SpreadLaws.{written-front}
-
--- zeros over two lists that agree past them
-over-same : (m : ℕ) (old new : List ℕ) → drop m new ≡ drop m old → over (replicate m 0) new ≡ over (replicate m 0) old
-unfolding over
-over-same m old new e =
-    let l : length (replicate {A = ℕ} m 0) ≡ m = length-replicate m 0 in
-    ap (λ (i : ℕ). replicate m 0 ++ drop i new) l ∙ ap (λ (xs : List ℕ). replicate m 0 ++ xs) e ∙ ap (λ (i : ℕ). replicate m 0 ++ drop i old) (sym l)
 
 module _ (kinds w₀ w : List ℕ) (k : Counts) (t : Tables searchLimit kinds w₀ w k) where
   abbrev n : ℕ
@@ -44,12 +37,10 @@ module _ (kinds w₀ w : List ℕ) (k : Counts) (t : Tables searchLimit kinds w�
 
   -- what was looked up, by the definitions
   streakPlaces : gathered (part (4 * n) (k .streaks) w) (part 0 n w) ≡ streakPlaceOf kinds
-  unfolding streakPlaceOf
-  streakPlaces i = gathered (t .streak-place i) (t .streak i)
+  streakPlaces = (λ i. gathered (t .streak-place i) (t .streak i)) ∙ streakPlaceOf-looked kinds
 
   patterns : gathered (part (3 * n) (k .streaks) w) (part 0 n w) ≡ patternOf kinds
-  unfolding patternOf
-  patterns i = gathered (t .pattern i) (t .streak i)
+  patterns = (λ i. gathered (t .pattern i) (t .streak i)) ∙ patternOf-looked kinds
 
   pub patterns-room : (streak place pattern outer hit interval : List ℕ) → AnswerRoom n streak place pattern outer hit interval w₀ → PatternsRoom n k w streak place pattern
   patterns-room streak place pattern outer hit interval r = record {
@@ -87,16 +78,13 @@ module _ (kinds w₀ w : List ℕ) (k : Counts) (t : Tables searchLimit kinds w�
 
     module _ (outer₀ outer hit₀ hit interval₀ interval work : List ℕ) (h : HitsSpread n k w pattern outer₀ outer hit₀ hit interval₀ interval) (z : work ≡ over (replicate (8 * n) 0) w) where
       outers : gathered (part (2 * n) (k .patterns) w) (take n pattern) ≡ patternPlaceOf kinds
-      unfolding patternPlaceOf
-      outers i = gathered (t .pattern-place i) (pattern-front i)
+      outers = (λ i. gathered (t .pattern-place i) (pattern-front i)) ∙ patternPlaceOf-looked kinds
 
       found : gathered (part n (k .patterns) w) (take n pattern) ≡ hitOf kinds
-      unfolding hitOf
-      found i = gathered (t .hit i) (pattern-front i)
+      found = (λ i. gathered (t .hit i) (pattern-front i)) ∙ hitOf-looked kinds
 
       intervals : gathered (part (7 * n) (k .hits) w) (gathered (part n (k .patterns) w) (take n pattern)) ≡ intervalOf searchLimit kinds
-      unfolding intervalOf
-      intervals i = gathered (t .interval i) (found i)
+      intervals = (λ i. gathered (t .interval i) (found i)) ∙ intervalOf-looked kinds searchLimit
 
       pub encoded : Encoded kinds streak₀ streak place₀ place pattern₀ pattern outer₀ outer hit₀ hit interval₀ interval w₀ work (k .hits)
       encoded = record {
@@ -107,5 +95,5 @@ module _ (kinds w₀ w : List ℕ) (k : Counts) (t : Tables searchLimit kinds w�
         pattern-places = h .places ∙ ap (λ (xs : List ℕ). over xs outer₀) outers;
         hits = h .hits ∙ ap (λ (xs : List ℕ). over xs hit₀) found;
         intervals = h .intervals ∙ ap (λ (xs : List ℕ). over xs interval₀) intervals;
-        cleared = z ∙ over-same (8 * n) w₀ w (t .outside .beyond);
+        cleared = z ∙ over-agree (replicate (8 * n) 0) w w₀ (8 * n) (length-replicate (8 * n) 0) (t .outside .beyond);
       }

@@ -1,23 +1,13 @@
 -- Looking numbers up in the encoder's tables: every number is below its table's size, and what is looked up is `gathered`. Assumes nothing.
-use mathlib.Core.Path.{_≡_, refl, sym, ap, _∙_, subst}
+use mathlib.Core.Path.{_≡_, sym, ap, _∙_, subst}
 use mathlib.Core.List.{List}
-use Prim.Native.Nat.{ℕ, _+_, _-_, _*_, _≤_, _<_}
-use native.Mathlib.Omega.{arith}
+use Prim.Native.Nat.{ℕ, _+_, _-_, _≤_, _<_}
 use lib.ListN.{length, take, drop, getD}
-use lib.Seq.{length-take-le}
 use Rattle.grouping_marks.specs.Over.{over, part}
 use Rattle.grouping_marks.specs.Scan.{gathered}
-use Rattle.grouping_marks.proofs.OverLaws.{front, length-part}
-use Rattle.grouping_marks.proofs.FillLaws.{length-gathered, getD-gathered}
+use Rattle.grouping_marks.proofs.OverLaws.{front, length-part, lent-part}
+use Rattle.grouping_marks.proofs.FillLaws.{getD-gathered}
 use Rattle.grouping_encode.specs.Passes.{Below}
-
--- a part as the code lends it
-pub lent-part : (a s : ℕ) (w : List ℕ) → take (a + s - a) (drop a w) ≡ part a s w
-unfolding part
-lent-part a s w = ap (λ (k : ℕ). take k (drop a w)) (cut a s)
-  where
-    cut : (a s : ℕ) → a + s - a ≡ s
-    cut a s = omega arith
 
 -- the front of a slice that was written over
 pub written-front : (numbers old new : List ℕ) (n : ℕ) → length numbers ≡ n → new ≡ over numbers old → take n new ≡ numbers

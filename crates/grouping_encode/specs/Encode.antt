@@ -1,6 +1,6 @@
 -- Document 01, "Calls and what they fill", encode: what it answers, and what every lent slice holds afterwards.
 use Prim.Native.Nat.{ℕ, _*_}
-use mathlib.Core.Bool.{Bool, true, false, _||_}
+use mathlib.Core.Bool.{Bool, _||_}
 use mathlib.Core.List.{List}
 use lib.Dec.{ltb}
 use lib.ListN.{length, replicate}

@@ -1,6 +1,6 @@
 -- What the passes of encode ask and leave: the encoder's tables, looked up object by object.
 use mathlib.Core.Path.{_≡_}
-use Prim.Native.Nat.{ℕ, _+_, _*_, _≤_, _<_}
+use Prim.Native.Nat.{ℕ, _*_, _≤_, _<_}
 use mathlib.Core.List.{List}
 use lib.ListN.{length, take, getD, replicate}
 use Rattle.grouping_marks.specs.Over.{over, part}

@@ -1,9 +1,8 @@
 // The call encode: per object six numbers, and the number of hit patterns.
 ghost use mathlib.Core.Path.{_≡_};
-ghost use Prim.Native.Nat.{_*_, _≤_};
+ghost use Prim.Native.Nat.{_*_};
 ghost use lib.ListN.{length};
-ghost use Rattle.grouping_chart.specs.Chart.{Chart};
-ghost use Rattle.grouping_encode.specs.Encode.{Memory, Outcome, short, encodeOutcome};
+ghost use Rattle.grouping_encode.specs.Encode.{Outcome, short, encodeOutcome};
 ghost use Rattle.grouping_encode.specs.Passes.{PatternsRoom, PatternsSpread, HitsRoom, HitsSpread, AnswerRoom, Encoded};
 
 use grouping_chart::chart::Verdict;

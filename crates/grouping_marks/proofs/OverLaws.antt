@@ -140,3 +140,20 @@ module _ {A : Type 0} where
   unread a g w i j d h r =
       ⊎-elim (λ b. getD-put-before a (take i g) w j d (omega arith) b)
       (λ b. let e : length (take i g) ≡ i = length-take-le i g h in getD-put-after a (take i g) w j d (omega arith) (omega arith))
+
+  -- old lists that agree past what is written
+  pub over-agree : (new old old′ : List A) (n : ℕ) → length new ≡ n → drop n old ≡ drop n old′ → over new old ≡ over new old′
+  unfolding over
+  over-agree new old old′ n l e = ap (λ (k : ℕ). new ++ drop k old) l ∙ ap (λ (xs : List A). new ++ xs) e ∙ ap (λ (k : ℕ). new ++ drop k old′) (sym l)
+
+  -- a part as code lends it, from a to a + n, and from the front
+  pub lent-part : (a n : ℕ) (w : List A) → take (a + n - a) (drop a w) ≡ part a n w
+  unfolding part
+  lent-part a n w = ap (λ (k : ℕ). take k (drop a w)) (cut a n)
+    where
+      cut : (a n : ℕ) → a + n - a ≡ n
+      cut a n = omega arith
+
+  pub lent-front : (n : ℕ) (w : List A) → take n w ≡ part 0 n w
+  unfolding part
+  lent-front n w = refl

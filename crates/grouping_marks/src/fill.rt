@@ -1,7 +1,7 @@
 // Filling a lent slice from its front: copies, look-ups and zeros.
 ghost use mathlib.Core.Path.{_≡_};
 ghost use Prim.Native.Nat.{ℕ, _≤_, _<_};
-ghost use lib.ListN.{length, take, getD, replicate};
+ghost use lib.ListN.{length, getD, replicate};
 ghost use lib.Ieee as Ieee;
 ghost use lib.Ieee.{binary64};
 ghost use Rattle.grouping_marks.specs.Over.{over};

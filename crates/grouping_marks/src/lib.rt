@@ -1,9 +1,7 @@
 // Groups by marks, inside one lent slice: a pass reads the marks in one region and writes what follows of them in another.
 ghost use mathlib.Core.Path.{_≡_};
-ghost use Prim.Native.Nat.{ℕ, _+_, _*_, _≤_, _<_};
-ghost use lib.ListN.{length, take, getD, replicate};
-ghost use Rattle.grouping_marks.specs.Over.{over, put, part};
-ghost use Rattle.grouping_marks.specs.Scan.{gathered};
+ghost use Prim.Native.Nat.{_+_, _≤_, _<_};
+ghost use Rattle.grouping_marks.specs.Over.{put, part};
 ghost use Rattle.grouping_marks.specs.Marks.{opened, placeAt, groupCount, groupNumbers, groupPlaces, groupSizes, groupFirsts};
 ghost use Rattle.grouping_marks.specs.Passes.{Room};
 

@@ -7,56 +7,41 @@ use Rattle.dresserduck.specs.declared.Encoded.{Encoded}
 use borrow.Author.Needs.{needs}
 use Rattle.dresserduck.proofs.dresserduck_encode.Statement.{statement}
 use Rattle.dresserduck.proofs.dresserduck_encode.Tie as tie
-use Rattle.dresserduck.proofs.dresserduck_encode.Reads as reads
-use Rattle.dresserduck.proofs.dresserduck_encode.Lts as lts
-use Rattle.dresserduck.proofs.encoded_of.Reads as encoded-of-reads
-use Rattle.grouping_encode.proofs.encode.Reads as encode-reads
 
 for-host : {a : Encoding} {m : Memory} {r : Encoded} (o : Outcome) → r ≡ encodedOf a → _≡_ {A = Outcome} (record { answer = a; memory = m }) o → _≡_ {A = HostOutcome Encoded Memory} (record { answer = r; memory = m }) (encodeForHost o)
 unfolding encodeForHost
 for-host {m} o e f = (λ t. record { answer = e t; memory = m }) ∙ ap encodeForHost f
 
--- src/lib.rt:56:9
 encode-requires : tie.Need-encode-requires
 encode-requires c κs = search needs
 
--- src/lib.rt:70:5
 encoded-of-requires : tie.Need-encoded-of-requires
 encoded-of-requires c κs = search needs
 
--- src/lib.rt:36:1
 same-length : tie.Need-same-length
 same-length c = search needs
 
--- src/lib.rt:36:1
 same-length-2 : tie.Need-same-length-2
 same-length-2 c = search needs
 
--- src/lib.rt:36:1
 same-length-3 : tie.Need-same-length-3
 same-length-3 c = search needs
 
--- src/lib.rt:36:1
 same-length-4 : tie.Need-same-length-4
 same-length-4 c = search needs
 
--- src/lib.rt:36:1
 same-length-5 : tie.Need-same-length-5
 same-length-5 c = search needs
 
--- src/lib.rt:36:1
 same-length-6 : tie.Need-same-length-6
 same-length-6 c = search needs
 
--- src/lib.rt:36:1
 same-length-7 : tie.Need-same-length-7
 same-length-7 c = search needs
 
--- src/lib.rt:36:1
 same-length-8 : tie.Need-same-length-8
 same-length-8 c = search needs
 
--- src/lib.rt:36:1
 returns : tie.Need-returns
 returns c = for-host _ (c .encoded-of .ensures) (c .before .before .before .before .before .before .before .before .before .before .before .before .before .before .before .before .before .encode .ensures)
 

@@ -4,27 +4,20 @@ use Rattle.dresserduck.specs.Host.{encodedOf}
 use borrow.Author.Needs.{needs}
 use Rattle.dresserduck.proofs.encoded_of.Statement.{statement}
 use Rattle.dresserduck.proofs.encoded_of.Tie as tie
-use Rattle.dresserduck.proofs.encoded_of.Reads as reads
-use Rattle.dresserduck.proofs.encoded_of.Lts as lts
 
--- src/lib.rt:20:24
 enum-known-answer : tie.Need-enum-known-answer
 enum-known-answer c = search needs
 
--- src/lib.rt:25:27
 enum-known-answer-2 : tie.Need-enum-known-answer-2
 enum-known-answer-2 c = search needs
 
--- src/lib.rt:28:26
 cast-t8 : tie.Need-cast-t8
 cast-t8 c = search needs
 
--- src/lib.rt:16:1
 returns : tie.Need-returns
 unfolding encodedOf
 returns c = ap encodedOf (sym (c .before .answer .given .1))
 
--- src/lib.rt:16:1
 returns-2 : tie.Need-returns-2
 unfolding encodedOf
 returns-2 c = ap encodedOf (sym (c .before .answer2 .given .1))

@@ -1,33 +1,23 @@
+-- `encode` meets its contract: the verdict of the definition is the one that the tests gave, and each case leaves its outcome. Assumes nothing.
 use Rattle.grouping_chart.specs.Chart.{Chart}
 use Rattle.grouping_encode.specs.Encode.{Memory}
 use Rattle.grouping_encode.proofs.EncodeLaws.{verdict-is, refused-outcome, done-outcome, has-room, answer-room, filled-is}
 use borrow.Author.Needs.{needs}
 use Rattle.grouping_encode.proofs.encode.Statement.{statement}
 use Rattle.grouping_encode.proofs.encode.Tie as tie
-use Rattle.grouping_encode.proofs.encode.Reads as reads
-use Rattle.grouping_encode.proofs.encode.Lts as lts
-use Rattle.grouping_chart.proofs.chart.check.Reads as check-reads
-use Rattle.grouping_encode.proofs.encode_kinds.Reads as encode-kinds-reads
-use Rattle.grouping_encode.proofs.too_short.Reads as too-short-reads
-use Rattle.grouping_marks.proofs.fill.clear_floats.Reads as clear-floats-reads
 
--- src/lib.rt:134:9
 too-short-requires : tie.Need-too-short-requires
 too-short-requires c κs = search needs
 
--- src/lib.rt:135:11
 check-requires : tie.Need-check-requires
 check-requires c κs = search needs
 
--- src/lib.rt:136:26
 enum-known-number : tie.Need-enum-known-number
 enum-known-number c = search needs
 
--- src/lib.rt:140:17
 enum-told : tie.Need-enum-told
 enum-told c = search needs
 
--- src/lib.rt:138:17
 encode-kinds-requires : tie.Need-encode-kinds-requires
 encode-kinds-requires c κs = 
     let a = c .before .before .before .before .before .before .before .before .before .before .before .before .before .before .before .before .before .before .before .before .before .before .before .before .before .before .before .before .before .before .before .args in
@@ -36,7 +26,6 @@ encode-kinds-requires c κs =
     let v = verdict-is ch m _ _ _ (c .before .before .before .before .before .before .before .before .before .before .too-short .ensures) (c .before .before .before .before .before .before .before .before .before .check .ensures) (c .before .before .before .before .before .before .before .enum-told .given .1) in
     answer-room ch m v
 
--- src/lib.rt:148:13
 clear-floats-requires : tie.Need-clear-floats-requires
 clear-floats-requires c κs = 
     let a = c .before .before .before .before .before .before .before .before .before .before .before .before .before .before .before .before .before .before .before .before .before .before .before .before .before .before .before .before .before .before .before .before .before .before .before .before .before .before .before .before .before .before .before .before .before .before .before .args in
@@ -45,39 +34,30 @@ clear-floats-requires c κs =
     let v = verdict-is ch m _ _ _ (c .before .before .before .before .before .before .before .before .before .before .before .before .before .before .before .before .before .before .before .before .before .before .before .before .before .before .too-short .ensures) (c .before .before .before .before .before .before .before .before .before .before .before .before .before .before .before .before .before .before .before .before .before .before .before .before .before .check .ensures) (c .before .before .before .before .before .before .before .before .before .before .before .before .before .before .before .before .before .before .before .before .before .before .before .enum-told .given .1) in
     has-room ch m v .scratch
 
--- src/lib.rt:114:1
 same-length : tie.Need-same-length
 same-length c = search needs
 
--- src/lib.rt:114:1
 same-length-2 : tie.Need-same-length-2
 same-length-2 c = search needs
 
--- src/lib.rt:114:1
 same-length-3 : tie.Need-same-length-3
 same-length-3 c = search needs
 
--- src/lib.rt:114:1
 same-length-4 : tie.Need-same-length-4
 same-length-4 c = search needs
 
--- src/lib.rt:114:1
 same-length-5 : tie.Need-same-length-5
 same-length-5 c = search needs
 
--- src/lib.rt:114:1
 same-length-6 : tie.Need-same-length-6
 same-length-6 c = search needs
 
--- src/lib.rt:114:1
 same-length-7 : tie.Need-same-length-7
 same-length-7 c = search needs
 
--- src/lib.rt:114:1
 same-length-8 : tie.Need-same-length-8
 same-length-8 c = search needs
 
--- src/lib.rt:114:1
 returns : tie.Need-returns
 returns c = 
     let a = c .before .before .before .before .before .before .before .before .before .before .before .before .before .before .before .before .before .before .before .before .before .before .before .before .before .args in
@@ -86,39 +66,30 @@ returns c =
     let v = verdict-is ch m _ _ _ (c .before .before .before .before .too-short .ensures) (c .before .before .before .check .ensures) (c .before .number .given .1) in
     refused-outcome ch m _ _ v
 
--- src/lib.rt:114:1
 same-length-9 : tie.Need-same-length-9
 same-length-9 c = search needs
 
--- src/lib.rt:114:1
 same-length-10 : tie.Need-same-length-10
 same-length-10 c = search needs
 
--- src/lib.rt:114:1
 same-length-11 : tie.Need-same-length-11
 same-length-11 c = search needs
 
--- src/lib.rt:114:1
 same-length-12 : tie.Need-same-length-12
 same-length-12 c = search needs
 
--- src/lib.rt:114:1
 same-length-13 : tie.Need-same-length-13
 same-length-13 c = search needs
 
--- src/lib.rt:114:1
 same-length-14 : tie.Need-same-length-14
 same-length-14 c = search needs
 
--- src/lib.rt:114:1
 same-length-15 : tie.Need-same-length-15
 same-length-15 c = search needs
 
--- src/lib.rt:114:1
 same-length-16 : tie.Need-same-length-16
 same-length-16 c = search needs
 
--- src/lib.rt:114:1
 returns-2 : tie.Need-returns-2
 returns-2 c = 
     let a = c .before .before .before .before .before .before .before .before .before .before .before .before .before .before .before .before .before .before .before .before .before .before .before .before .before .before .before .before .before .before .before .before .before .before .before .before .before .before .before .before .before .before .before .before .before .before .before .before .before .before .args in

@@ -4,62 +4,43 @@ use Rattle.grouping_encode.proofs.KindsLaws.{patterns-room, hits-room, 
 use borrow.Author.Needs.{needs}
 use Rattle.grouping_encode.proofs.encode_kinds.Statement.{statement}
 use Rattle.grouping_encode.proofs.encode_kinds.Tie as tie
-use Rattle.grouping_encode.proofs.encode_kinds.Reads as reads
-use Rattle.grouping_encode.proofs.encode_kinds.Lts as lts
-use Rattle.grouping_color.proofs.preprocessor.encode_colors.Reads as encode-colors-reads
-use Rattle.grouping_encode.proofs.spread_hits.Reads as spread-hits-reads
-use Rattle.grouping_encode.proofs.spread_patterns.Reads as spread-patterns-reads
-use Rattle.grouping_marks.proofs.fill.clear.Reads as clear-reads
 
--- src/lib.rt:112:9
 encode-colors-requires : tie.Need-encode-colors-requires
 encode-colors-requires c κs = search needs
 
--- src/lib.rt:113:5
 spread-patterns-requires : tie.Need-spread-patterns-requires
 spread-patterns-requires c κs = patterns-room _ _ _ _ (c .before .before .before .before .before .before .encode-colors .ensures) _ _ _ _ _ _ (c .before .before .before .before .before .before .before .before .before .before .before .before .before .before .before .before .pre)
 
--- src/lib.rt:114:5
 spread-hits-requires : tie.Need-spread-hits-requires
 spread-hits-requires c κs = hits-room _ _ _ _ (c .before .before .before .before .before .before .before .before .before .before .before .before .before .before .before .before .before .before .encode-colors .ensures) _ _ _ _ _ _ (c .before .before .before .before .before .before .before .before .before .before .before .spread-patterns .ensures) _ _ _ (c .before .before .before .before .before .before .before .before .before .before .before .before .before .before .before .before .before .before .before .before .before .before .before .before .before .before .before .before .pre) (c .before .before .before .before .before .before .before .before .before .before .before .spread-patterns .kept .1 .1 .1 .1 .1 .0)
 
--- src/lib.rt:115:23
 mul-clear : tie.Need-mul-clear
 mul-clear c = omega (arith, c .before .before .before .before .before .before .before .before .before .before .before .before .before .before .before .before .before .before .before .before .before .before .before .before .before .before .before .before .before .before .before .before .before .before .before .before .pre)
 
--- src/lib.rt:115:5
 clear-requires : tie.Need-clear-requires
 clear-requires c κs = omega (arith, c .before .before .before .before .before .before .before .before .before .before .before .before .before .before .before .before .before .before .before .before .before .before .before .before .before .before .before .before .before .before .before .before .before .before .before .before .pre, c .before .before .before .before .before .before .before .before .before .before .before .before .before .before .before .before .before .before .before .before .before .before .before .before .before .before .encode-colors .ensures .outside)
 
--- src/lib.rt:98:1
 same-length : tie.Need-same-length
 same-length c = search needs
 
--- src/lib.rt:98:1
 same-length-2 : tie.Need-same-length-2
 same-length-2 c = search needs
 
--- src/lib.rt:98:1
 same-length-3 : tie.Need-same-length-3
 same-length-3 c = search needs
 
--- src/lib.rt:98:1
 same-length-4 : tie.Need-same-length-4
 same-length-4 c = search needs
 
--- src/lib.rt:98:1
 same-length-5 : tie.Need-same-length-5
 same-length-5 c = search needs
 
--- src/lib.rt:98:1
 same-length-6 : tie.Need-same-length-6
 same-length-6 c = search needs
 
--- src/lib.rt:98:1
 same-length-7 : tie.Need-same-length-7
 same-length-7 c = search needs
 
--- src/lib.rt:98:1
 returns : tie.Need-returns
 returns c = encoded _ _ _ _ (c .before .before .before .before .before .before .before .before .before .before .before .before .before .before .before .before .before .before .before .before .before .before .before .before .before .before .before .before .before .encode-colors .ensures) _ _ _ _ _ _ (c .before .before .before .before .before .before .before .before .before .before .before .before .before .before .before .before .before .before .before .before .before .before .spread-patterns .ensures) _ _ _ _ _ _ _ (c .before .before .before .before .before .before .before .before .before .before .spread-hits .ensures) (c .before .before .clear .ensures)
 

@@ -1,70 +1,54 @@
-use mathlib.Core.Path.{_≡_, refl, sym, _∙_}
+-- `spread_patterns` meets its contract: the copied front is the streak table, and each look-up stays within its table. Assumes nothing.
+use mathlib.Core.Path.{_≡_, sym, ap, _∙_}
 use mathlib.Core.List.{List}
-use Prim.Native.Nat.{ℕ, _+_, _*_, _≤_}
+use Prim.Native.Nat.{ℕ, _*_, _≤_}
 use native.Mathlib.Omega.{arith}
 use lib.ListN.{length, take, length-take}
 use lib.Seq.{length-take-le}
 use Rattle.grouping_marks.specs.Over.{over, part}
-use Rattle.grouping_marks.proofs.OverLaws.{length-part}
-use Rattle.grouping_encode.proofs.SpreadLaws.{lent-part, written-front, within-table, looked-up, below-gathered}
+use Rattle.grouping_marks.proofs.OverLaws.{length-part, lent-front}
+use Rattle.grouping_encode.proofs.SpreadLaws.{written-front, within-table, looked-up}
 use borrow.Author.Needs.{needs}
 use Rattle.grouping_encode.proofs.spread_patterns.Statement.{statement}
 use Rattle.grouping_encode.proofs.spread_patterns.Tie as tie
-use Rattle.grouping_encode.proofs.spread_patterns.Reads as reads
-use Rattle.grouping_encode.proofs.spread_patterns.Lts as lts
-use Rattle.grouping_marks.proofs.fill.copy.Reads as copy-reads
-use Rattle.grouping_marks.proofs.fill.gather.Reads as gather-reads
 
 -- the front of the copied slice
 streak-front : (n : ℕ) (work old new : List ℕ) → n ≤ length work → new ≡ over (take n work) old → take n new ≡ part 0 n work
-unfolding part
-streak-front n work old new h e = written-front (take n work) old new n (length-take-le n work h) e
+streak-front n work old new h e = written-front (take n work) old new n (length-take-le n work h) e ∙ lent-front n work
 
--- src/lib.rt:71:16
 slice-aggregate-copy : tie.Need-slice-aggregate-copy
 slice-aggregate-copy c = sym (length-take-le _ _ (omega arith))
 
--- src/lib.rt:71:5
 copy-requires : tie.Need-copy-requires
 copy-requires c κs = simp length-take (omega arith)
 
--- src/lib.rt:72:24
 mul-gather : tie.Need-mul-gather
 mul-gather c = search needs
 
--- src/lib.rt:72:31
 mul-gather-2 : tie.Need-mul-gather-2
 mul-gather-2 c = search needs
 
--- src/lib.rt:72:31
 add-gather : tie.Need-add-gather
 add-gather c = search needs
 
--- src/lib.rt:72:18
 mul-gather-3 : tie.Need-mul-gather-3
 mul-gather-3 c = search needs
 
--- src/lib.rt:72:18
 sub-gather : tie.Need-sub-gather
 sub-gather c = search needs
 
--- src/lib.rt:72:18
 part-gather-start : tie.Need-part-gather-start
 part-gather-start c = search needs
 
--- src/lib.rt:72:18
 part-gather-end : tie.Need-part-gather-end
 part-gather-end c = search needs
 
--- src/lib.rt:72:43
 slice-reshare-prefix-gather : tie.Need-slice-reshare-prefix-gather
 slice-reshare-prefix-gather c = search needs
 
--- src/lib.rt:72:43
 slice-aggregate-gather : tie.Need-slice-aggregate-gather
 slice-aggregate-gather c = sym (length-take-le _ _ (omega arith))
 
--- src/lib.rt:72:5
 gather-requires : tie.Need-gather-requires
 gather-requires c κs = 
     let st = c .before .before .before .before .before .before .before .before .before .before .before .before in
@@ -76,43 +60,33 @@ gather-requires c κs =
       within-table (4 * n) s n work _ (part 0 n work) (streak-front n work _ _ (omega (arith, st .pre)) (c .before .before .before .before .before .copy .ensures)) (length-part 0 n work (omega (arith, st .pre))) (omega (arith, st .pre)) (st .pre .in-table),
     )
 
--- src/lib.rt:73:24
 mul-gather-4 : tie.Need-mul-gather-4
 mul-gather-4 c = search needs
 
--- src/lib.rt:73:31
 mul-gather-5 : tie.Need-mul-gather-5
 mul-gather-5 c = search needs
 
--- src/lib.rt:73:31
 add-gather-2 : tie.Need-add-gather-2
 add-gather-2 c = search needs
 
--- src/lib.rt:73:18
 mul-gather-6 : tie.Need-mul-gather-6
 mul-gather-6 c = search needs
 
--- src/lib.rt:73:18
 sub-gather-2 : tie.Need-sub-gather-2
 sub-gather-2 c = search needs
 
--- src/lib.rt:73:18
 part-gather-start-2 : tie.Need-part-gather-start-2
 part-gather-start-2 c = search needs
 
--- src/lib.rt:73:18
 part-gather-end-2 : tie.Need-part-gather-end-2
 part-gather-end-2 c = search needs
 
--- src/lib.rt:73:43
 slice-reshare-prefix-gather-2 : tie.Need-slice-reshare-prefix-gather-2
 slice-reshare-prefix-gather-2 c = search needs
 
--- src/lib.rt:73:43
 slice-aggregate-gather-2 : tie.Need-slice-aggregate-gather-2
 slice-aggregate-gather-2 c = sym (length-take-le _ _ (omega arith))
 
--- src/lib.rt:73:5
 gather-requires-2 : tie.Need-gather-requires-2
 gather-requires-2 c κs = 
     let st = c .before .before .before .before .before .before .before .before .before .before .before .before .before .before .before .before .before .before in
@@ -124,21 +98,16 @@ gather-requires-2 c κs =
       within-table (3 * n) s n work _ (part 0 n work) (streak-front n work _ _ (omega (arith, st .pre)) (c .before .before .before .before .before .before .before .before .before .before .before .copy .ensures)) (length-part 0 n work (omega (arith, st .pre))) (omega (arith, st .pre)) (st .pre .in-table),
     )
 
--- src/lib.rt:59:1
 same-length : tie.Need-same-length
 same-length c = search needs
 
--- src/lib.rt:59:1
 same-length-2 : tie.Need-same-length-2
 same-length-2 c = search needs
 
--- src/lib.rt:59:1
 same-length-3 : tie.Need-same-length-3
 same-length-3 c = search needs
 
--- src/lib.rt:59:1
 returns : tie.Need-returns
-unfolding part
 returns c = 
     let st = c .before .before .before .before .before .before .before .before .before .before .before .before .before .before .before .before .before .before .before .before .before in
     let n = st .args .n in
@@ -146,7 +115,7 @@ returns c =
     let work = st .args .work .now in
     let f = streak-front n work _ _ (omega (arith, st .pre)) (c .before .before .before .before .before .before .before .before .before .before .before .before .before .before .copy .ensures) in
     record {
-      streaks = c .before .before .before .before .before .before .before .before .before .before .before .before .before .before .copy .ensures;
+      streaks = c .before .before .before .before .before .before .before .before .before .before .before .before .before .before .copy .ensures ∙ ap (λ (xs : List ℕ). over xs (st .args .streak .now)) (lent-front n work);
       places = looked-up (4 * n) s work _ (part 0 n work) _ _ f (c .before .before .before .before .before .before .before .before .gather .ensures);
       patterns = looked-up (3 * n) s work _ (part 0 n work) _ _ f (c .before .before .gather2 .ensures);
     }

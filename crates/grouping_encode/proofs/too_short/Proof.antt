@@ -7,8 +7,6 @@ use borrow.Author.Tests.{lt-ltb, le-ltb}
 use Rattle.grouping_encode.specs.Encode.{short}
 use Rattle.grouping_encode.proofs.too_short.Statement.{statement}
 use Rattle.grouping_encode.proofs.too_short.Tie as tie
-use Rattle.grouping_encode.proofs.too_short.Reads as reads
-use Rattle.grouping_encode.proofs.too_short.Lts as lts
 
 or-skip : (a b : Bool) → a ≡ false → b ≡ (a || b)
 or-skip true b p = absurd (true≢false p)
@@ -21,42 +19,34 @@ wide-short l n h = omega arith
 wide-enough : (l n : ℕ) → n ≤ l / 8 → 8 * n ≤ l
 wide-enough l n h = omega arith
 
--- src/lib.rt:34:9
 returns : tie.Need-returns
 unfolding short
 returns c = simp (lt-ltb _ _ (c .if1 .taken))
 
--- src/lib.rt:37:9
 returns-2 : tie.Need-returns-2
 unfolding short
 returns-2 c = simp (le-ltb _ _ (c .before .if1 .left), lt-ltb _ _ (c .if2 .taken))
 
--- src/lib.rt:40:9
 returns-3 : tie.Need-returns-3
 unfolding short
 returns-3 c = simp (le-ltb _ _ (c .before .before .if1 .left), le-ltb _ _ (c .before .if2 .left), lt-ltb _ _ (c .if3 .taken))
 
--- src/lib.rt:43:9
 returns-4 : tie.Need-returns-4
 unfolding short
 returns-4 c = simp (le-ltb _ _ (c .before .before .before .if1 .left), le-ltb _ _ (c .before .before .if2 .left), le-ltb _ _ (c .before .if3 .left), lt-ltb _ _ (c .if4 .taken))
 
--- src/lib.rt:46:9
 returns-5 : tie.Need-returns-5
 unfolding short
 returns-5 c = simp (le-ltb _ _ (c .before .before .before .before .if1 .left), le-ltb _ _ (c .before .before .before .if2 .left), le-ltb _ _ (c .before .before .if3 .left), le-ltb _ _ (c .before .if4 .left), lt-ltb _ _ (c .if5 .taken))
 
--- src/lib.rt:49:9
 returns-6 : tie.Need-returns-6
 unfolding short
 returns-6 c = simp (le-ltb _ _ (c .before .before .before .before .before .if1 .left), le-ltb _ _ (c .before .before .before .before .if2 .left), le-ltb _ _ (c .before .before .before .if3 .left), le-ltb _ _ (c .before .before .if4 .left), le-ltb _ _ (c .before .if5 .left), lt-ltb _ _ (c .if6 .taken))
 
--- src/lib.rt:53:9
 returns-7 : tie.Need-returns-7
 unfolding short
 returns-7 c = simp (le-ltb _ _ (c .before .before .before .before .before .before .if1 .left), le-ltb _ _ (c .before .before .before .before .before .if2 .left), le-ltb _ _ (c .before .before .before .before .if3 .left), le-ltb _ _ (c .before .before .before .if4 .left), le-ltb _ _ (c .before .before .if5 .left), le-ltb _ _ (c .before .if6 .left), lt-ltb _ _ (wide-short _ _ (c .if7 .taken)))
 
--- src/lib.rt:20:1
 returns-8 : tie.Need-returns-8
 unfolding short
 returns-8 c =

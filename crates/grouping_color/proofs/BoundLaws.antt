@@ -1,0 +1,147 @@
+-- How long the six lists are, one number an object, and how far the numbers go: each is below its level's count, and an interval is below the search limit or one above it.
+use mathlib.Core.Path.{_≡_, refl, _∙_}
+use mathlib.Core.Logic.{_⊎_, inl, inr, ⊎-elim}
+use mathlib.Core.Bool.{Bool, true, false, cond}
+use mathlib.Core.List.{List}
+use Prim.Native.Nat.{ℕ, zero, suc, _+_, _-_, _≤_, _<_}
+use native.Mathlib.Omega.{arith}
+use borrow.Author.Tests.{ltb-true, ltb-false}
+use lib.Dec.{leb, ltb}
+use lib.ListN.{length, getD, List·getD-eq-default}
+use Rattle.grouping_marks.specs.Scan.{gathered}
+use Rattle.grouping_marks.specs.Marks.{groupCount, groupNumbers, groupPlaces}
+use Rattle.grouping_marks.proofs.FillLaws.{getD-tabulate, length-gathered, getD-gathered}
+use Rattle.grouping_marks.proofs.MarksLaws.{length-numbers, numbers-below, length-sizes, length-firsts}
+use Rattle.grouping_color.specs.MonoStreak.{streakMarks, streakOf, streakLengths}
+use Rattle.grouping_color.specs.AlternatingMonoPattern.{coupled}
+use Rattle.grouping_color.specs.RepeatingHitPatterns.{matches, nearestMatch, intervalAt, intervals}
+use Rattle.grouping_color.specs.Preprocessor.{patternsOpen, firstLengths, streakCounts, patternTypes, hitsOpen, hitCount, hitSizes, hitFirsts, hitSeconds, hitIntervals, streakPlaceOf, patternOf, patternPlaceOf, hitOf, intervalOf}
+use Rattle.grouping_color.proofs.LengthLaws.{length-streakMarks, length-patternMarks, length-coupled, length-hitMarks, length-intervals}
+
+-- ---- intervals
+
+module _ (limit : ℕ) (s f t : List ℕ) where
+  nearest-range : (h more k : ℕ) → more + k ≤ limit
+      → (nearestMatch s f t (limit + 1) h more k < limit) ⊎ (nearestMatch s f t (limit + 1) h more k ≡ limit + 1)
+  unfolding nearestMatch
+  nearest-range h zero k l = inr refl
+  nearest-range h (suc more) k l = by (leb k h) (matches s f t (h - k) h) (nearest-range h more (suc k) (omega arith))
+    where
+      by : (a b : Bool) → (nearestMatch s f t (limit + 1) h more (suc k) < limit) ⊎ (nearestMatch s f t (limit + 1) h more (suc k) ≡ limit + 1)
+        → (cond a (cond b k (nearestMatch s f t (limit + 1) h more (suc k))) (limit + 1) < limit)
+        ⊎ (cond a (cond b k (nearestMatch s f t (limit + 1) h more (suc k))) (limit + 1) ≡ limit + 1)
+      by true true u = inl (omega arith)
+      by true false u = u
+      by false b u = inr refl
+
+intervalAt-range : (limit : ℕ) (s f t : List ℕ) (h : ℕ) → (intervalAt limit s f t h < limit) ⊎ (intervalAt limit s f t h ≡ limit + 1)
+unfolding intervalAt nearestMatch
+intervalAt-range zero s f t h = inr refl
+intervalAt-range (suc l) s f t h = nearest-range (suc l) s f t h (suc l - 1) 1 (omega arith)
+
+-- an interval is below the limit, or one above it: the limit itself never occurs
+pub interval-range : (limit : ℕ) (s f t : List ℕ) (j : ℕ) → j < length s → (getD (intervals limit s f t) j 0 < limit) ⊎ (getD (intervals limit s f t) j 0 ≡ limit + 1)
+unfolding intervals
+interval-range limit s f t j h = rw (getD-tabulate (intervalAt limit s f t) (length s) j 0 h) (intervalAt-range limit s f t j)
+
+pub interval-byte : (limit : ℕ) (s f t : List ℕ) → limit ≤ 254 → (j : ℕ) → getD (intervals limit s f t) j 0 < 256
+interval-byte limit s f t l j = by (ltb j (length s)) refl
+  where
+    by : (b : Bool) → ltb j (length s) ≡ b → getD (intervals limit s f t) j 0 < 256
+    by true e = ⊎-elim (λ u. omega arith) (λ u. omega arith) (interval-range limit s f t j (ltb-true _ _ e))
+    by false e =
+        let o : length (intervals limit s f t) ≤ j = omega (arith, length-intervals limit s f t, ltb-false j (length s) e) in
+        rw (List·getD-eq-default (intervals limit s f t) 0 o) (omega arith)
+
+-- ---- the levels of a chart's kinds
+
+module _ (kinds : List ℕ) where
+  pub length-streakOf : length (streakOf kinds) ≡ length kinds
+  unfolding streakOf
+  length-streakOf = length-numbers (streakMarks kinds) ∙ length-streakMarks kinds
+
+  lengths-even : length (patternsOpen kinds) ≡ length (streakLengths kinds)
+  unfolding patternsOpen
+  lengths-even = length-patternMarks (streakLengths kinds)
+
+  pub length-patternsOpen : length (patternsOpen kinds) ≡ groupCount (streakMarks kinds)
+  unfolding streakLengths
+  length-patternsOpen = lengths-even ∙ length-sizes (streakMarks kinds)
+
+  pub length-hitsOpen : length (hitsOpen kinds) ≡ groupCount (patternsOpen kinds)
+  unfolding hitsOpen firstLengths
+  length-hitsOpen =
+      length-hitMarks (coupled (firstLengths kinds) (streakCounts kinds) (patternTypes kinds)) ∙ length-coupled (firstLengths kinds) (streakCounts kinds) (patternTypes kinds)
+      ∙ length-firsts (patternsOpen kinds) (streakLengths kinds) (omega (arith, lengths-even))
+
+  pub length-hitIntervals : (limit : ℕ) → length (hitIntervals limit kinds) ≡ hitCount kinds
+  unfolding hitIntervals hitSizes hitCount
+  length-hitIntervals limit = length-intervals limit (hitSizes kinds) (hitFirsts kinds) (hitSeconds kinds) ∙ length-sizes (hitsOpen kinds)
+
+  -- each number is below its level's count
+  pub streak-below : (i : ℕ) → i < length kinds → getD (streakOf kinds) i 0 < groupCount (streakMarks kinds)
+  unfolding streakOf
+  streak-below i h = numbers-below (streakMarks kinds) i (omega (arith, length-streakMarks kinds))
+
+  pub pattern-below : (j : ℕ) → j < groupCount (streakMarks kinds) → getD (groupNumbers (patternsOpen kinds)) j 0 < groupCount (patternsOpen kinds)
+  pattern-below j h = numbers-below (patternsOpen kinds) j (omega (arith, length-patternsOpen))
+
+  pub hit-below : (j : ℕ) → j < groupCount (patternsOpen kinds) → getD (groupNumbers (hitsOpen kinds)) j 0 < hitCount kinds
+  unfolding hitCount
+  hit-below j h = numbers-below (hitsOpen kinds) j (omega (arith, length-hitsOpen))
+
+  pub hit-interval-byte : (limit : ℕ) → limit ≤ 254 → (j : ℕ) → getD (hitIntervals limit kinds) j 0 < 256
+  unfolding hitIntervals
+  hit-interval-byte limit l j = interval-byte limit (hitSizes kinds) (hitFirsts kinds) (hitSeconds kinds) l j
+
+  -- object by object
+  pub length-streakPlaceOf : length (streakPlaceOf kinds) ≡ length kinds
+  unfolding streakPlaceOf
+  length-streakPlaceOf = length-gathered (groupPlaces (patternsOpen kinds)) (streakOf kinds) ∙ length-streakOf
+
+  pub length-patternOf : length (patternOf kinds) ≡ length kinds
+  unfolding patternOf
+  length-patternOf = length-gathered (groupNumbers (patternsOpen kinds)) (streakOf kinds) ∙ length-streakOf
+
+  pub length-patternPlaceOf : length (patternPlaceOf kinds) ≡ length kinds
+  unfolding patternPlaceOf
+  length-patternPlaceOf = length-gathered (groupPlaces (hitsOpen kinds)) (patternOf kinds) ∙ length-patternOf
+
+  pub length-hitOf : length (hitOf kinds) ≡ length kinds
+  unfolding hitOf
+  length-hitOf = length-gathered (groupNumbers (hitsOpen kinds)) (patternOf kinds) ∙ length-patternOf
+
+  pub length-intervalOf : (limit : ℕ) → length (intervalOf limit kinds) ≡ length kinds
+  unfolding intervalOf
+  length-intervalOf limit = length-gathered (hitIntervals limit kinds) (hitOf kinds) ∙ length-hitOf
+
+  pub patternOf-below : (i : ℕ) → i < length kinds → getD (patternOf kinds) i 0 < groupCount (patternsOpen kinds)
+  unfolding patternOf
+  patternOf-below i h =
+      rw (getD-gathered (groupNumbers (patternsOpen kinds)) (streakOf kinds) i (omega (arith, length-streakOf))) (pattern-below (getD (streakOf kinds) i 0) (streak-below i h))
+
+  pub hitOf-below : (i : ℕ) → i < length kinds → getD (hitOf kinds) i 0 < hitCount kinds
+  unfolding hitOf
+  hitOf-below i h =
+      rw (getD-gathered (groupNumbers (hitsOpen kinds)) (patternOf kinds) i (omega (arith, length-patternOf))) (hit-below (getD (patternOf kinds) i 0) (patternOf-below i h))
+
+  -- ---- each object's numbers, looked up level by level
+  pub streakPlaceOf-looked : gathered (groupPlaces (patternsOpen kinds)) (streakOf kinds) ≡ streakPlaceOf kinds
+  unfolding streakPlaceOf
+  streakPlaceOf-looked = refl
+
+  pub patternOf-looked : gathered (groupNumbers (patternsOpen kinds)) (streakOf kinds) ≡ patternOf kinds
+  unfolding patternOf
+  patternOf-looked = refl
+
+  pub patternPlaceOf-looked : gathered (groupPlaces (hitsOpen kinds)) (patternOf kinds) ≡ patternPlaceOf kinds
+  unfolding patternPlaceOf
+  patternPlaceOf-looked = refl
+
+  pub hitOf-looked : gathered (groupNumbers (hitsOpen kinds)) (patternOf kinds) ≡ hitOf kinds
+  unfolding hitOf
+  hitOf-looked = refl
+
+  pub intervalOf-looked : (limit : ℕ) → gathered (hitIntervals limit kinds) (hitOf kinds) ≡ intervalOf limit kinds
+  unfolding intervalOf
+  intervalOf-looked limit = refl

@@ -1,0 +1,319 @@
+-- What each pass left, put together: every law takes the equations that the calls ensure, over plain lists, and gives the caller's promise.
+use mathlib.Core.Path.{_≡_, refl, sym, ap, _∙_, subst}
+use mathlib.Core.Logic.{inl, inr}
+use mathlib.Core.List.{List}
+use Prim.Native.Nat.{ℕ, _+_, _*_, _≤_}
+use native.Mathlib.Omega.{arith}
+use lib.ListN.{length, take, drop}
+use lib.Seq.{take-take}
+use Rattle.grouping_marks.specs.Over.{put, part}
+use Rattle.grouping_marks.specs.Marks.{groupCount, groupNumbers, groupPlaces, groupSizes, groupFirsts}
+use Rattle.grouping_marks.specs.Passes.{Room}
+use Rattle.grouping_marks.proofs.OverLaws.{length-part, length-put, part-put-same, part-put-before, part-put-after, drop-put}
+use Rattle.grouping_marks.proofs.MarksLaws.{length-numbers, length-places, length-sizes, length-firsts, count-le}
+use Rattle.grouping_color.specs.MonoStreak.{streakMarks, streakOf, streakLengths, streakTypes}
+use Rattle.grouping_color.specs.AlternatingMonoPattern.{patternMarks, coupled}
+use Rattle.grouping_color.specs.RepeatingHitPatterns.{hitMarks, secondLengths, intervals}
+use Rattle.grouping_color.specs.Preprocessor.{patternsOpen, firstLengths, streakCounts, patternTypes, hitsOpen, hitCount, hitSizes, hitFirsts, hitSeconds, hitIntervals}
+use Rattle.grouping_color.specs.Passes.{Apart, Regions, Outside, Streaks, Patterns, Kept, HitMarks, Hits, Tables}
+use Rattle.grouping_color.proofs.LengthLaws.{length-streakMarks, length-patternMarks, length-coupled, length-hitMarks, length-secondLengths, length-intervals}
+
+-- ---- the regions of a call
+
+pub room-behind : {w : List ℕ} {from m to : ℕ} → m ≤ 16384 → from + m ≤ length w → to ≤ from → Room w from m to
+room-behind f r b = record { few = f; read = r; write = omega arith; clear = inr b }
+
+pub apart-before : {w : List ℕ} {from m to : ℕ} → from + m ≤ to → to + m ≤ length w → Apart w from m to
+apart-before a r = record { read = omega arith; write = r; apart = inl a }
+
+pub apart-after : {w : List ℕ} {from m to : ℕ} → to + m ≤ from → from + m ≤ length w → Apart w from m to
+apart-after a r = record { read = r; write = omega arith; apart = inr a }
+
+-- there are at most as many groups as items
+pub groups-few : (a m : ℕ) (w : List ℕ) (h : ℕ) → h ≡ groupCount (part a m w) → a + m ≤ length w → h ≤ m
+groups-few a m w h e r = omega (arith, count-le (part a m w), length-part a m w r)
+
+-- ---- one write of k places from place a on, and what is read after it
+
+record Wrote (a k : ℕ) (x w w′ : List ℕ) : Type 0 where
+  is : w′ ≡ put a x w
+  size : length x ≡ k
+  room : a + k ≤ length w
+
+module _ {a k : ℕ} {x w w′ : List ℕ} (o : Wrote a k x w w′) where
+  long : length w′ ≡ length w
+  long = ap length (o .is) ∙ length-put a x w (omega arith)
+
+  here : part a k w′ ≡ x
+  here = ap (part a k) (o .is) ∙ part-put-same a k x w (o .size) (o .room)
+
+  below : (b m : ℕ) → b + m ≤ a → part b m w′ ≡ part b m w
+  below b m h = ap (part b m) (o .is) ∙ part-put-before b m a x w h (omega arith)
+
+  above : (b m : ℕ) → a + k ≤ b → part b m w′ ≡ part b m w
+  above b m h = ap (part b m) (o .is) ∙ part-put-after b m a x w (omega arith)
+
+  outside : (n : ℕ) → a + k ≤ 8 * n → Outside n w w′
+  outside n h = record { same = long; beyond = ap (drop (8 * n)) (o .is) ∙ drop-put (8 * n) a x w (omega arith) }
+
+  -- a write in the regions 1 and 2, or from region 5 on
+  kept-low : (n : ℕ) → n ≤ a → a + k ≤ 3 * n → Kept n w w′
+  kept-low n l h = record {
+    streak = below 0 n (omega arith);
+    pattern = above (3 * n) n h;
+    place = above (4 * n) n (omega arith);
+    outside = outside n (omega arith);
+  }
+
+  kept-high : (n : ℕ) → 5 * n ≤ a → a + k ≤ 8 * n → Kept n w w′
+  kept-high n l h = record {
+    streak = below 0 n (omega arith);
+    pattern = below (3 * n) n (omega arith);
+    place = below (4 * n) n (omega arith);
+    outside = outside n h;
+  }
+
+outside-then : {n : ℕ} {u v w : List ℕ} → Outside n u v → Outside n v w → Outside n u w
+outside-then a b = record { same = b .same ∙ a .same; beyond = b .beyond ∙ a .beyond }
+
+kept-then : {n : ℕ} {u v w : List ℕ} → Kept n u v → Kept n v w → Kept n u w
+kept-then a b = record {
+  streak = b .streak ∙ a .streak;
+  pattern = b .pattern ∙ a .pattern;
+  place = b .place ∙ a .place;
+  outside = outside-then (a .outside) (b .outside);
+}
+
+part-shorter : (a s n : ℕ) (v w : List ℕ) → s ≤ n → part a n w ≡ part a n v → part a s w ≡ part a s v
+unfolding part
+part-shorter a s n v w h e = sym (take-take s n (drop a w) h) ∙ ap (take s) e ∙ take-take s n (drop a v) h
+
+-- ---- streaks
+
+pub streaks-made : (kinds w₀ w₁ w₂ w₃ w₄ w : List ℕ) (s : ℕ) → Regions (length kinds) w₀
+    → w₁ ≡ put (7 * length kinds) (streakMarks kinds) w₀
+    → w₂ ≡ put 0 (groupNumbers (part (7 * length kinds) (length kinds) w₁)) w₁
+    → w₃ ≡ put (2 * length kinds) kinds w₂
+    → w₄ ≡ put (2 * length kinds) (groupFirsts (part (7 * length kinds) (length kinds) w₃) (part (2 * length kinds) (length kinds) w₃)) w₃
+    → (s ≡ groupCount (part (7 * length kinds) (length kinds) w₄)) × (w ≡ put (length kinds) (groupSizes (part (7 * length kinds) (length kinds) w₄)) w₄)
+    → Streaks kinds w₀ w s
+unfolding streakOf streakLengths streakTypes
+streaks-made kinds w₀ w₁ w₂ w₃ w₄ w s r e₁ e₂ e₃ e₄ e₅ =
+    let n : ℕ = length kinds in
+    let m : List ℕ = streakMarks kinds in
+    let q : ℕ = groupCount m in
+    let lm : length m ≡ n = length-streakMarks kinds in
+    let few : q ≤ n = omega (arith, count-le m) in
+    let o₁ : Wrote (7 * n) n m w₀ w₁ = record { is = e₁; size = lm; room = omega arith } in
+    let l₁ : length w₁ ≡ length w₀ = long o₁ in
+    let m₁ : part (7 * n) n w₁ ≡ m = here o₁ in
+    let o₂ : Wrote 0 n (groupNumbers m) w₁ w₂ = record { is = e₂ ∙ ap (λ (l : List ℕ). put 0 (groupNumbers l) w₁) m₁; size = length-numbers m ∙ lm; room = omega arith } in
+    let l₂ : length w₂ ≡ length w₀ = long o₂ ∙ l₁ in
+    let m₂ : part (7 * n) n w₂ ≡ m = above o₂ (7 * n) n (omega arith) ∙ m₁ in
+    let o₃ : Wrote (2 * n) n kinds w₂ w₃ = record { is = e₃; size = refl; room = omega arith } in
+    let l₃ : length w₃ ≡ length w₀ = long o₃ ∙ l₂ in
+    let m₃ : part (7 * n) n w₃ ≡ m = above o₃ (7 * n) n (omega arith) ∙ m₂ in
+    let k₃ : part (2 * n) n w₃ ≡ kinds = here o₃ in
+    let o₄ : Wrote (2 * n) q (groupFirsts m kinds) w₃ w₄ =
+        record { is = e₄ ∙ (λ i. put (2 * n) (groupFirsts (m₃ i) (k₃ i)) w₃); size = length-firsts m kinds (omega arith); room = omega arith } in
+    let l₄ : length w₄ ≡ length w₀ = long o₄ ∙ l₃ in
+    let m₄ : part (7 * n) n w₄ ≡ m = above o₄ (7 * n) n (omega arith) ∙ m₃ in
+    let o₅ : Wrote n q (groupSizes m) w₄ w = record { is = e₅ .1 ∙ ap (λ (l : List ℕ). put n (groupSizes l) w₄) m₄; size = length-sizes m; room = omega arith } in
+    let made : Streaks kinds w₀ w q = record {
+      counted = refl;
+      few = few;
+      streak = below o₅ 0 n (omega arith) ∙ below o₄ 0 n (omega arith) ∙ below o₃ 0 n (omega arith) ∙ here o₂;
+      lengths = here o₅;
+      types = above o₅ (2 * n) q (omega arith) ∙ here o₄;
+      outside =
+          outside-then (outside o₁ n (omega arith))
+          (outside-then (outside o₂ n (omega arith)) (outside-then (outside o₃ n (omega arith)) (outside-then (outside o₄ n (omega arith)) (outside o₅ n (omega arith)))));
+    } in
+    subst (Streaks kinds w₀ w) (sym (e₅ .0 ∙ ap groupCount m₄)) made
+
+-- ---- patterns
+
+pub patterns-made : (n s : ℕ) (w₀ w₁ w₂ w₃ w₄ w₅ w : List ℕ) (p : ℕ) → Regions n w₀ → s ≤ n
+    → w₁ ≡ put (7 * n) (patternMarks (part n s w₀)) w₀
+    → w₂ ≡ put (3 * n) (groupNumbers (part (7 * n) s w₁)) w₁
+    → w₃ ≡ put (4 * n) (groupPlaces (part (7 * n) s w₂)) w₂
+    → w₄ ≡ put n (groupFirsts (part (7 * n) s w₃) (part n s w₃)) w₃
+    → w₅ ≡ put (2 * n) (groupFirsts (part (7 * n) s w₄) (part (2 * n) s w₄)) w₄
+    → (p ≡ groupCount (part (7 * n) s w₅)) × (w ≡ put (5 * n) (groupSizes (part (7 * n) s w₅)) w₅)
+    → Patterns n s (part n s w₀) (part (2 * n) s w₀) w₀ w p
+patterns-made n s w₀ w₁ w₂ w₃ w₄ w₅ w p r hs e₁ e₂ e₃ e₄ e₅ e₆ =
+    let x : List ℕ = part n s w₀ in
+    let t : List ℕ = part (2 * n) s w₀ in
+    let m : List ℕ = patternMarks x in
+    let q : ℕ = groupCount m in
+    let lx : length x ≡ s = length-part n s w₀ (omega arith) in
+    let lt : length t ≡ s = length-part (2 * n) s w₀ (omega arith) in
+    let lm : length m ≡ s = length-patternMarks x ∙ lx in
+    let few : q ≤ s = omega (arith, count-le m) in
+    let o₁ : Wrote (7 * n) s m w₀ w₁ = record { is = e₁; size = lm; room = omega arith } in
+    let l₁ : length w₁ ≡ length w₀ = long o₁ in
+    let m₁ : part (7 * n) s w₁ ≡ m = here o₁ in
+    let o₂ : Wrote (3 * n) s (groupNumbers m) w₁ w₂ =
+        record { is = e₂ ∙ ap (λ (l : List ℕ). put (3 * n) (groupNumbers l) w₁) m₁; size = length-numbers m ∙ lm; room = omega arith } in
+    let l₂ : length w₂ ≡ length w₀ = long o₂ ∙ l₁ in
+    let m₂ : part (7 * n) s w₂ ≡ m = above o₂ (7 * n) s (omega arith) ∙ m₁ in
+    let o₃ : Wrote (4 * n) s (groupPlaces m) w₂ w₃ =
+        record { is = e₃ ∙ ap (λ (l : List ℕ). put (4 * n) (groupPlaces l) w₂) m₂; size = length-places m ∙ lm; room = omega arith } in
+    let l₃ : length w₃ ≡ length w₀ = long o₃ ∙ l₂ in
+    let m₃ : part (7 * n) s w₃ ≡ m = above o₃ (7 * n) s (omega arith) ∙ m₂ in
+    let x₃ : part n s w₃ ≡ x = below o₃ n s (omega arith) ∙ below o₂ n s (omega arith) ∙ below o₁ n s (omega arith) in
+    let o₄ : Wrote n q (groupFirsts m x) w₃ w₄ = record { is = e₄ ∙ (λ i. put n (groupFirsts (m₃ i) (x₃ i)) w₃); size = length-firsts m x (omega arith); room = omega arith } in
+    let l₄ : length w₄ ≡ length w₀ = long o₄ ∙ l₃ in
+    let m₄ : part (7 * n) s w₄ ≡ m = above o₄ (7 * n) s (omega arith) ∙ m₃ in
+    let t₄ : part (2 * n) s w₄ ≡ t =
+        above o₄ (2 * n) s (omega arith) ∙ below o₃ (2 * n) s (omega arith) ∙ below o₂ (2 * n) s (omega arith) ∙ below o₁ (2 * n) s (omega arith) in
+    let o₅ : Wrote (2 * n) q (groupFirsts m t) w₄ w₅ =
+        record { is = e₅ ∙ (λ i. put (2 * n) (groupFirsts (m₄ i) (t₄ i)) w₄); size = length-firsts m t (omega arith); room = omega arith } in
+    let l₅ : length w₅ ≡ length w₀ = long o₅ ∙ l₄ in
+    let m₅ : part (7 * n) s w₅ ≡ m = above o₅ (7 * n) s (omega arith) ∙ m₄ in
+    let o₆ : Wrote (5 * n) q (groupSizes m) w₅ w =
+        record { is = e₆ .1 ∙ ap (λ (l : List ℕ). put (5 * n) (groupSizes l) w₅) m₅; size = length-sizes m; room = omega arith } in
+    let made : Patterns n s x t w₀ w q = record {
+      counted = refl;
+      few = few;
+      firsts = below o₆ n q (omega arith) ∙ below o₅ n q (omega arith) ∙ here o₄;
+      types-of = below o₆ (2 * n) q (omega arith) ∙ here o₅;
+      counts = here o₆;
+      numbers = below o₆ (3 * n) s (omega arith) ∙ above o₅ (3 * n) s (omega arith) ∙ above o₄ (3 * n) s (omega arith) ∙ below o₃ (3 * n) s (omega arith) ∙ here o₂;
+      places = below o₆ (4 * n) s (omega arith) ∙ above o₅ (4 * n) s (omega arith) ∙ above o₄ (4 * n) s (omega arith) ∙ here o₃;
+      streak =
+          below o₆ 0 n (omega arith) ∙ below o₅ 0 n (omega arith) ∙ below o₄ 0 n (omega arith) ∙ below o₃ 0 n (omega arith) ∙ below o₂ 0 n (omega arith)
+          ∙ below o₁ 0 n (omega arith);
+      outside =
+          outside-then (outside o₁ n (omega arith))
+          (outside-then (outside o₂ n (omega arith))
+          (outside-then (outside o₃ n (omega arith)) (outside-then (outside o₄ n (omega arith)) (outside-then (outside o₅ n (omega arith)) (outside o₆ n (omega arith))))));
+    } in
+    subst (Patterns n s x t w₀ w) (sym (e₆ .0 ∙ ap groupCount m₅)) made
+
+-- ---- hit patterns
+
+pub hit-marks-made : (n p : ℕ) (w₀ w₁ w₂ w : List ℕ) → Regions n w₀ → p ≤ n
+    → w₁ ≡ put (6 * n) (coupled (part n p w₀) (part (5 * n) p w₀) (part (2 * n) p w₀)) w₀
+    → w₂ ≡ put (6 * n) (hitMarks (part (6 * n) p w₁)) w₁
+    → w ≡ put (2 * n) (secondLengths (part n p w₂) (part (6 * n) p w₂)) w₂
+    → HitMarks n p (part n p w₀) (hitMarks (coupled (part n p w₀) (part (5 * n) p w₀) (part (2 * n) p w₀))) w₀ w
+hit-marks-made n p w₀ w₁ w₂ w r hp e₁ e₂ e₃ =
+    let x : List ℕ = part n p w₀ in
+    let f : List ℕ = coupled x (part (5 * n) p w₀) (part (2 * n) p w₀) in
+    let m : List ℕ = hitMarks f in
+    let lx : length x ≡ p = length-part n p w₀ (omega arith) in
+    let lf : length f ≡ p = length-coupled x (part (5 * n) p w₀) (part (2 * n) p w₀) ∙ lx in
+    let o₁ : Wrote (6 * n) p f w₀ w₁ = record { is = e₁; size = lf; room = omega arith } in
+    let l₁ : length w₁ ≡ length w₀ = long o₁ in
+    let o₂ : Wrote (6 * n) p m w₁ w₂ = record { is = e₂ ∙ ap (λ (l : List ℕ). put (6 * n) (hitMarks l) w₁) (here o₁); size = length-hitMarks f ∙ lf; room = omega arith } in
+    let l₂ : length w₂ ≡ length w₀ = long o₂ ∙ l₁ in
+    let m₂ : part (6 * n) p w₂ ≡ m = here o₂ in
+    let x₂ : part n p w₂ ≡ x = below o₂ n p (omega arith) ∙ below o₁ n p (omega arith) in
+    let o₃ : Wrote (2 * n) p (secondLengths x m) w₂ w =
+        record { is = e₃ ∙ (λ i. put (2 * n) (secondLengths (x₂ i) (m₂ i)) w₂); size = length-secondLengths x m ∙ lx; room = omega arith } in
+    record {
+      opening = above o₃ (6 * n) p (omega arith) ∙ m₂;
+      first = below o₃ n p (omega arith) ∙ x₂;
+      second = here o₃;
+      kept = kept-then (kept-high o₁ n (omega arith) (omega arith)) (kept-then (kept-high o₂ n (omega arith) (omega arith)) (kept-low o₃ n (omega arith) (omega arith)));
+    }
+
+pub hits-made : (limit n p : ℕ) (x m w₀ w₁ w₂ w₃ w₄ w₅ w₆ w : List ℕ) (h : ℕ) → Regions n w₀ → p ≤ n
+    → HitMarks n p x m w₀ w₁
+    → (h ≡ groupCount (part (6 * n) p w₁)) × (w₂ ≡ put (5 * n) (groupSizes (part (6 * n) p w₁)) w₁)
+    → w₃ ≡ put n (groupFirsts (part (6 * n) p w₂) (part n p w₂)) w₂
+    → w₄ ≡ put (2 * n) (groupFirsts (part (6 * n) p w₃) (part (2 * n) p w₃)) w₃
+    → w₅ ≡ put (7 * n) (intervals limit (part (5 * n) h w₄) (part n h w₄) (part (2 * n) h w₄)) w₄
+    → w₆ ≡ put n (groupNumbers (part (6 * n) p w₅)) w₅
+    → w ≡ put (2 * n) (groupPlaces (part (6 * n) p w₆)) w₆
+    → Hits limit n p x m w₀ w h
+hits-made limit n p x m w₀ w₁ w₂ w₃ w₄ w₅ w₆ w h r hp k e₂ e₃ e₄ e₅ e₆ e₇ =
+    let q : ℕ = groupCount m in
+    let y : List ℕ = secondLengths x m in
+    let v : List ℕ = intervals limit (groupSizes m) (groupFirsts m x) (groupFirsts m y) in
+    let l₁ : length w₁ ≡ length w₀ = k .kept .outside .same in
+    let m₁ : part (6 * n) p w₁ ≡ m = k .opening in
+    let lm : length m ≡ p = ap length (sym m₁) ∙ length-part (6 * n) p w₁ (omega arith) in
+    let lx : length x ≡ p = ap length (sym (k .first)) ∙ length-part n p w₁ (omega arith) in
+    let ly : length y ≡ p = length-secondLengths x m ∙ lx in
+    let few : q ≤ p = omega (arith, count-le m) in
+    let eh : h ≡ q = e₂ .0 ∙ ap groupCount m₁ in
+    let o₂ : Wrote (5 * n) q (groupSizes m) w₁ w₂ =
+        record { is = e₂ .1 ∙ ap (λ (l : List ℕ). put (5 * n) (groupSizes l) w₁) m₁; size = length-sizes m; room = omega arith } in
+    let l₂ : length w₂ ≡ length w₀ = long o₂ ∙ l₁ in
+    let m₂ : part (6 * n) p w₂ ≡ m = above o₂ (6 * n) p (omega arith) ∙ m₁ in
+    let x₂ : part n p w₂ ≡ x = below o₂ n p (omega arith) ∙ k .first in
+    let o₃ : Wrote n q (groupFirsts m x) w₂ w₃ = record { is = e₃ ∙ (λ i. put n (groupFirsts (m₂ i) (x₂ i)) w₂); size = length-firsts m x (omega arith); room = omega arith } in
+    let l₃ : length w₃ ≡ length w₀ = long o₃ ∙ l₂ in
+    let m₃ : part (6 * n) p w₃ ≡ m = above o₃ (6 * n) p (omega arith) ∙ m₂ in
+    let y₃ : part (2 * n) p w₃ ≡ y = above o₃ (2 * n) p (omega arith) ∙ below o₂ (2 * n) p (omega arith) ∙ k .second in
+    let o₄ : Wrote (2 * n) q (groupFirsts m y) w₃ w₄ =
+        record { is = e₄ ∙ (λ i. put (2 * n) (groupFirsts (m₃ i) (y₃ i)) w₃); size = length-firsts m y (omega arith); room = omega arith } in
+    let l₄ : length w₄ ≡ length w₀ = long o₄ ∙ l₃ in
+    let m₄ : part (6 * n) p w₄ ≡ m = above o₄ (6 * n) p (omega arith) ∙ m₃ in
+    let sizes₄ : part (5 * n) q w₄ ≡ groupSizes m = above o₄ (5 * n) q (omega arith) ∙ above o₃ (5 * n) q (omega arith) ∙ here o₂ in
+    let firsts₄ : part n q w₄ ≡ groupFirsts m x = below o₄ n q (omega arith) ∙ here o₃ in
+    let seconds₄ : part (2 * n) q w₄ ≡ groupFirsts m y = here o₄ in
+    let o₅ : Wrote (7 * n) q v w₄ w₅ = record {
+      is =
+          e₅ ∙ (λ i. put (7 * n) (intervals limit (part (5 * n) (eh i) w₄) (part n (eh i) w₄) (part (2 * n) (eh i) w₄)) w₄)
+          ∙ (λ i. put (7 * n) (intervals limit (sizes₄ i) (firsts₄ i) (seconds₄ i)) w₄);
+      size = length-intervals limit (groupSizes m) (groupFirsts m x) (groupFirsts m y) ∙ length-sizes m;
+      room = omega arith;
+    } in
+    let l₅ : length w₅ ≡ length w₀ = long o₅ ∙ l₄ in
+    let m₅ : part (6 * n) p w₅ ≡ m = below o₅ (6 * n) p (omega arith) ∙ m₄ in
+    let o₆ : Wrote n p (groupNumbers m) w₅ w₆ = record { is = e₆ ∙ ap (λ (l : List ℕ). put n (groupNumbers l) w₅) m₅; size = length-numbers m ∙ lm; room = omega arith } in
+    let l₆ : length w₆ ≡ length w₀ = long o₆ ∙ l₅ in
+    let m₆ : part (6 * n) p w₆ ≡ m = above o₆ (6 * n) p (omega arith) ∙ m₅ in
+    let o₇ : Wrote (2 * n) p (groupPlaces m) w₆ w =
+        record { is = e₇ ∙ ap (λ (l : List ℕ). put (2 * n) (groupPlaces l) w₆) m₆; size = length-places m ∙ lm; room = omega arith } in
+    let made : Hits limit n p x m w₀ w q = record {
+      counted = refl;
+      few = few;
+      numbers = below o₇ n p (omega arith) ∙ here o₆;
+      places = here o₇;
+      interval = above o₇ (7 * n) q (omega arith) ∙ above o₆ (7 * n) q (omega arith) ∙ here o₅;
+      kept =
+          kept-then (k .kept)
+          (kept-then (kept-high o₂ n (omega arith) (omega arith))
+          (kept-then (kept-low o₃ n (omega arith) (omega arith))
+          (kept-then (kept-low o₄ n (omega arith) (omega arith))
+          (kept-then (kept-high o₅ n (omega arith) (omega arith))
+          (kept-then (kept-low o₆ n (omega arith) (omega arith)) (kept-low o₇ n (omega arith) (omega arith)))))));
+    } in
+    subst (Hits limit n p x m w₀ w) (sym eh) made
+
+-- ---- all levels
+
+pub tables-made : (limit : ℕ) (kinds w₀ w₁ w₂ w : List ℕ) (s p h : ℕ) → Streaks kinds w₀ w₁ s
+    → Patterns (length kinds) s (part (length kinds) s w₁) (part (2 * length kinds) s w₁) w₁ w₂ p
+    → Hits limit (length kinds) p (part (length kinds) p w₂)
+      (hitMarks (coupled (part (length kinds) p w₂) (part (5 * length kinds) p w₂) (part (2 * length kinds) p w₂))) w₂ w h
+    → Tables limit kinds w₀ w (record { streaks = s; patterns = p; hits = h })
+unfolding patternsOpen firstLengths streakCounts patternTypes hitsOpen hitCount hitSizes hitFirsts hitSeconds hitIntervals
+tables-made limit kinds w₀ w₁ w₂ w s p h S P H =
+    let n : ℕ = length kinds in
+    let x : part n s w₁ ≡ streakLengths kinds = S .lengths in
+    let t : part (2 * n) s w₁ ≡ streakTypes kinds = S .types in
+    let m : patternMarks (part n s w₁) ≡ patternsOpen kinds = ap patternMarks x in
+    let y : part n p w₂ ≡ firstLengths kinds = P .firsts ∙ (λ i. groupFirsts (m i) (x i)) in
+    let c : part (5 * n) p w₂ ≡ streakCounts kinds = P .counts ∙ ap groupSizes m in
+    let u : part (2 * n) p w₂ ≡ patternTypes kinds = P .types-of ∙ (λ i. groupFirsts (m i) (t i)) in
+    let g : hitMarks (coupled (part n p w₂) (part (5 * n) p w₂) (part (2 * n) p w₂)) ≡ hitsOpen kinds = λ i. hitMarks (coupled (y i) (c i) (u i)) in
+    record {
+      count-s = S .counted;
+      count-p = P .counted ∙ ap groupCount m;
+      count-h = H .counted ∙ ap groupCount g;
+      few-s = S .few;
+      few-p = omega arith;
+      few-h = omega arith;
+      streak = H .kept .streak ∙ P .streak ∙ S .streak;
+      pattern = part-shorter (3 * n) s n w₂ w (S .few) (H .kept .pattern) ∙ P .numbers ∙ ap groupNumbers m;
+      streak-place = part-shorter (4 * n) s n w₂ w (S .few) (H .kept .place) ∙ P .places ∙ ap groupPlaces m;
+      hit = H .numbers ∙ ap groupNumbers g;
+      pattern-place = H .places ∙ ap groupPlaces g;
+      interval = H .interval ∙ (λ i. intervals limit (groupSizes (g i)) (groupFirsts (g i) (y i)) (groupFirsts (g i) (secondLengths (y i) (g i))));
+      outside = outside-then (S .outside) (outside-then (P .outside) (H .kept .outside));
+    }

@@ -1,0 +1,63 @@
+-- `alternating_mono_pattern::mark_coupled` meets its contract. The invariant: i flags are stored from place `to` on, by what stood in the regions that are read.
+use Prim.Native.Nat.{_-_}
+use Rattle.grouping_marks.specs.Over.{part}
+use Rattle.grouping_marks.proofs.FillLaws.{Fill, fill-end}
+use Rattle.grouping_color.specs.AlternatingMonoPattern.{coupled}
+use Rattle.grouping_color.proofs.PatternLaws.{coupled-start, coupled-turn}
+use native.Mathlib.Omega.{arith}
+use borrow.Author.Needs.{needs}
+use Rattle.grouping_color.proofs.alternating_mono_pattern.mark_coupled.Statement.{statement}
+use Rattle.grouping_color.proofs.alternating_mono_pattern.mark_coupled.Tie as tie
+
+abbrev Inv-loop : tie.InvT-loop
+Inv-loop w₀ lengths counts types m to i₀ w i = Fill (coupled (part lengths m w₀) (part counts m w₀) (part types m w₀)) m to w₀ w i
+
+abbrev μ-loop : tie.MeasureT-loop
+μ-loop w₀ lengths counts types m to i₀ w i = m - i
+
+loop-holds : tie.Need-loop-holds Inv-loop μ-loop
+loop-holds c = coupled-start (c .before .pre)
+
+is-coupled-requires : tie.Need-is-coupled-requires Inv-loop μ-loop
+is-coupled-requires c κs = search needs
+
+add-w : tie.Need-add-w Inv-loop μ-loop
+add-w c = omega arith
+
+mul-w : tie.Need-mul-w Inv-loop μ-loop
+mul-w c = omega arith
+
+slice-write-w : tie.Need-slice-write-w Inv-loop μ-loop
+slice-write-w c = omega arith
+
+add-i : tie.Need-add-i Inv-loop μ-loop
+add-i c = omega arith
+
+loop-less : tie.Need-loop-less Inv-loop μ-loop
+loop-less c = omega arith
+
+loop-again : tie.Need-loop-again Inv-loop μ-loop
+loop-again c = coupled-turn (c .before .before .before .before .before .pre) (c .before .before .before .loop .inv) (omega arith) (c .is-coupled .ensures)
+
+same-length : tie.Need-same-length Inv-loop μ-loop
+same-length c = c .before .loop .inv .long
+
+returns : tie.Need-returns Inv-loop μ-loop
+returns c = fill-end (c .before .loop .inv) (c .loop-test .left)
+
+pub mark-coupled-spec : {M : Type 1} → statement M
+mark-coupled-spec =
+    tie.close
+    (tie.spec
+    Inv-loop
+    μ-loop
+    loop-holds
+    is-coupled-requires
+    add-w
+    mul-w
+    slice-write-w
+    add-i
+    loop-less
+    loop-again
+    same-length
+    returns)

@@ -1,0 +1,84 @@
+-- `mono_streak::mark_streaks` meets its contract. The invariant: the walk over the kinds, whose state is how many notes were passed and the kind of the last, has stored its marks so far.
+use mathlib.Core.Path.{refl}
+use Prim.Native.Nat.{_+_, _-_, _<_}
+use lib.ListN.{length}
+use Rattle.grouping_marks.proofs.ScanLaws.{Walk, start, turn, ended}
+use Rattle.grouping_chart.proofs.ObjectLaws.{seen₀, seenNext}
+use Rattle.grouping_color.proofs.StreakLaws.{opensSeen, marks-stored, seen-opens, seen-moves, seen-few}
+use native.Mathlib.Omega.{arith}
+use borrow.Author.Needs.{needs}
+use Rattle.grouping_color.proofs.mono_streak.mark_streaks.Statement.{statement}
+use Rattle.grouping_color.proofs.mono_streak.mark_streaks.Tie as tie
+
+abbrev Inv-loop : tie.InvT-loop
+Inv-loop kind w₀ to at₀ next₀ last₀ w at next last = Walk seenNext opensSeen seen₀ kind (length kind) to w₀ w (record { notes = next .0; last = last }) (at .0) × (next .0 < at .0 + 1)
+
+abbrev μ-loop : tie.MeasureT-loop
+μ-loop kind w₀ to at₀ next₀ last₀ w at next last = length kind - at .0
+
+loop-holds : tie.Need-loop-holds Inv-loop μ-loop
+loop-holds c = (start seenNext opensSeen seen₀ _ _ _ _ refl (c .before .before .pre), omega arith)
+
+shared-slice-read-k : tie.Need-shared-slice-read-k Inv-loop μ-loop
+shared-slice-read-k c = omega arith
+
+note-index-requires : tie.Need-note-index-requires Inv-loop μ-loop
+note-index-requires c κs = search needs
+
+opens-streak-requires : tie.Need-opens-streak-requires Inv-loop μ-loop
+opens-streak-requires c κs = search needs
+
+add-w : tie.Need-add-w Inv-loop μ-loop
+add-w c = omega arith
+
+mul-w : tie.Need-mul-w Inv-loop μ-loop
+mul-w c = omega arith
+
+slice-write-w : tie.Need-slice-write-w Inv-loop μ-loop
+slice-write-w c = omega arith
+
+note-after-requires : tie.Need-note-after-requires Inv-loop μ-loop
+note-after-requires c κs = search needs
+
+last-after-requires : tie.Need-last-after-requires Inv-loop μ-loop
+last-after-requires c κs = search needs
+
+add-t10 : tie.Need-add-t10 Inv-loop μ-loop
+add-t10 c = omega arith
+
+loop-less : tie.Need-loop-less Inv-loop μ-loop
+loop-less c = omega arith
+
+loop-again : tie.Need-loop-again Inv-loop μ-loop
+loop-again c =
+    let l = c .before .before .before .before .before .before .before .loop .inv in (
+      turn 0 (l .0) (omega arith) (seen-opens _ _ _ _ _ (c .before .before .before .note-index .ensures) (c .before .before .opens-streak .ensures)) (seen-moves _ _ _ _ _ (c .before .note-after .ensures) (c .last-after .ensures)),
+      seen-few _ _ _ _ (c .before .note-after .ensures) (l .1),
+    )
+
+same-length : tie.Need-same-length Inv-loop μ-loop
+same-length c = c .before .before .loop .inv .0 .fill .long
+
+returns : tie.Need-returns Inv-loop μ-loop
+returns c = marks-stored _ _ _ _ (ended (c .before .before .loop .inv .0) (c .if1 .left))
+
+pub mark-streaks-spec : {M : Type 1} → statement M
+mark-streaks-spec =
+    tie.close
+    (tie.spec
+    Inv-loop
+    μ-loop
+    loop-holds
+    shared-slice-read-k
+    note-index-requires
+    opens-streak-requires
+    add-w
+    mul-w
+    slice-write-w
+    note-after-requires
+    last-after-requires
+    add-t10
+    loop-less
+    loop-again
+    same-length
+    returns)

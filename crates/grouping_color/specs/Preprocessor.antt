@@ -1,0 +1,57 @@
+-- Document 01, color/preprocessor.rs and "Calls": per object six numbers: streak, its place in its pattern; alternating pattern, its place; hit pattern; interval.
+use Prim.Native.Nat.{ℕ}
+use mathlib.Core.List.{List}
+use Rattle.grouping_marks.specs.Scan.{gathered}
+use Rattle.grouping_marks.specs.Marks.{groupCount, groupNumbers, groupPlaces, groupSizes, groupFirsts}
+use Rattle.grouping_color.specs.MonoStreak.{streakOf, streakLengths, streakTypes}
+use Rattle.grouping_color.specs.AlternatingMonoPattern.{patternMarks, coupled}
+use Rattle.grouping_color.specs.RepeatingHitPatterns.{hitMarks, secondLengths, intervals}
+
+-- which streaks open an alternating pattern; of each pattern its first streak's length, its streak count and its type
+unfoldable pub patternsOpen : List ℕ → List ℕ
+patternsOpen kinds = patternMarks (streakLengths kinds)
+
+unfoldable pub firstLengths : List ℕ → List ℕ
+firstLengths kinds = groupFirsts (patternsOpen kinds) (streakLengths kinds)
+
+unfoldable pub streakCounts : List ℕ → List ℕ
+streakCounts kinds = groupSizes (patternsOpen kinds)
+
+unfoldable pub patternTypes : List ℕ → List ℕ
+patternTypes kinds = groupFirsts (patternsOpen kinds) (streakTypes kinds)
+
+-- which patterns open a hit pattern
+unfoldable pub hitsOpen : List ℕ → List ℕ
+hitsOpen kinds = hitMarks (coupled (firstLengths kinds) (streakCounts kinds) (patternTypes kinds))
+
+unfoldable pub hitCount : List ℕ → ℕ
+hitCount kinds = groupCount (hitsOpen kinds)
+
+-- of each hit pattern how many patterns it holds and the first two's first-streak lengths; its interval under the search limit
+unfoldable pub hitSizes : List ℕ → List ℕ
+hitSizes kinds = groupSizes (hitsOpen kinds)
+
+unfoldable pub hitFirsts : List ℕ → List ℕ
+hitFirsts kinds = groupFirsts (hitsOpen kinds) (firstLengths kinds)
+
+unfoldable pub hitSeconds : List ℕ → List ℕ
+hitSeconds kinds = groupFirsts (hitsOpen kinds) (secondLengths (firstLengths kinds) (hitsOpen kinds))
+
+unfoldable pub hitIntervals : ℕ → List ℕ → List ℕ
+hitIntervals limit kinds = intervals limit (hitSizes kinds) (hitFirsts kinds) (hitSeconds kinds)
+
+-- object by object
+unfoldable pub streakPlaceOf : List ℕ → List ℕ
+streakPlaceOf kinds = gathered (groupPlaces (patternsOpen kinds)) (streakOf kinds)
+
+unfoldable pub patternOf : List ℕ → List ℕ
+patternOf kinds = gathered (groupNumbers (patternsOpen kinds)) (streakOf kinds)
+
+unfoldable pub patternPlaceOf : List ℕ → List ℕ
+patternPlaceOf kinds = gathered (groupPlaces (hitsOpen kinds)) (patternOf kinds)
+
+unfoldable pub hitOf : List ℕ → List ℕ
+hitOf kinds = gathered (groupNumbers (hitsOpen kinds)) (patternOf kinds)
+
+unfoldable pub intervalOf : ℕ → List ℕ → List ℕ
+intervalOf limit kinds = gathered (hitIntervals limit kinds) (hitOf kinds)

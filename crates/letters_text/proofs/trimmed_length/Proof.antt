@@ -1,0 +1,27 @@
+-- `trimmed_length` meets its contract, case by case.
+use native.Mathlib.Omega.{arith}
+use Rattle.letters_text.proofs.LetterLaws.{trimmed-none, trimmed-feed, trimmed-whole}
+use Rattle.letters_text.proofs.trimmed_length.Statement.{statement}
+use Rattle.letters_text.proofs.trimmed_length.Tie as tie
+
+returns : tie.Need-returns
+returns c = trimmed-none _ (c .if1 .taken)
+
+sub-last : tie.Need-sub-last
+sub-last c = omega arith
+
+shared-slice-read-last : tie.Need-shared-slice-read-last
+shared-slice-read-last c = omega arith
+
+sub-result : tie.Need-sub-result
+sub-result c = omega arith
+
+returns-2 : tie.Need-returns-2
+returns-2 c = trimmed-feed _ (c .if2 .taken)
+
+returns-3 : tie.Need-returns-3
+returns-3 c = trimmed-whole _ (c .if2 .left)
+
+pub trimmed-length-spec : {M : Type 1} → statement M
+trimmed-length-spec =
+    tie.close (tie.spec returns sub-last shared-slice-read-last sub-result returns-2 returns-3)

@@ -1,0 +1,43 @@
+-- `write_bad` meets its contract: its three calls write the parts of the line.
+use native.Mathlib.Omega.{arith}
+use Rattle.letters_text.specs.Lines.{badLine}
+use Rattle.letters_text.proofs.WroteLaws.{wrote-more, written}
+use Rattle.letters_text.proofs.DecimalLaws.{decimal-four}
+use Rattle.letters_text.proofs.write_bad.Statement.{statement}
+use Rattle.letters_text.proofs.write_bad.Tie as tie
+
+slice-aggregate-put-word : tie.Need-slice-aggregate-put-word
+slice-aggregate-put-word c = omega arith
+
+put-word-requires : tie.Need-put-word-requires
+put-word-requires c κs = omega arith
+
+put-number-requires : tie.Need-put-number-requires
+put-number-requires c κs = omega (arith, decimal-four (c .before .before .before .before .before .before .before .args .place))
+
+put-byte-requires : tie.Need-put-byte-requires
+put-byte-requires c κs =
+    omega
+    (arith, decimal-four (c .before .before .before .before .before .before .before .before .before .before .before .args .place))
+
+same-length : tie.Need-same-length
+same-length c = omega arith
+
+returns : tie.Need-returns
+unfolding badLine
+returns c =
+    written
+    (wrote-more
+    (c .before .before .before .before .before .before .before .before .before .before .put-word .ensures)
+    (wrote-more (c .before .before .before .before .before .before .put-number .ensures) (c .before .before .put-byte .ensures)))
+
+pub write-bad-spec : {M : Type 1} → statement M
+write-bad-spec =
+    tie.close
+    (tie.spec
+    slice-aggregate-put-word
+    put-word-requires
+    put-number-requires
+    put-byte-requires
+    same-length
+    returns)

@@ -1,0 +1,91 @@
+-- `write_lines` meets its contract. The invariant: the letters of the objects before i stand after the first, and what is left follows `last`.
+use Prim.Native.Nat.{_-_}
+use native.Mathlib.Omega.{arith}
+use lib.ListN.{length}
+use Rattle.letters_text.proofs.LinesLaws.{LinesWalk, lines-none, first-room, lines-start, lines-room, lines-turn, last-room, lines-end}
+use Rattle.letters_text.proofs.write_lines.Statement.{statement}
+use Rattle.letters_text.proofs.write_lines.Tie as tie
+
+abbrev Inv-loop : tie.InvT-loop
+Inv-loop kinds streak pattern hit interval out₀ n last₀ to₀ i₀ out last to i =
+    LinesWalk
+    (record { kinds = kinds; streaks = streak; patterns = pattern; hits = hit; intervals = interval }) last₀ to₀ out₀ out last to i
+
+abbrev μ-loop : tie.MeasureT-loop
+μ-loop kinds streak pattern hit interval out₀ n last₀ to₀ i₀ out last to i = length kinds - i
+
+returns : tie.Need-returns Inv-loop μ-loop
+returns c = lines-none _ _ (c .if1 .taken)
+
+object-at-requires : tie.Need-object-at-requires Inv-loop μ-loop
+object-at-requires c κs = (omega arith, c .before .before .before .before .before .before .before .pre .even)
+
+put-first-requires : tie.Need-put-first-requires Inv-loop μ-loop
+put-first-requires c κs =
+    first-room _ (omega arith)
+    (c .before .object-at .ensures)
+    (c .before .before .before .before .before .before .before .before .before .pre)
+
+loop-holds : tie.Need-loop-holds Inv-loop μ-loop
+loop-holds c =
+    lines-start _ (omega arith)
+    (c .before .before .before .before .object-at .ensures)
+    (c .before .before .before .before .before .before .before .before .before .before .before .before .pre)
+    (c .before .before .put-first .ensures)
+
+object-at-requires-2 : tie.Need-object-at-requires-2 Inv-loop μ-loop
+object-at-requires-2 c κs =
+    (c .loop-test .taken, c .before .before .before .before .before .before .before .before .before .before .before .before .before .before .pre .even)
+
+put-next-requires : tie.Need-put-next-requires Inv-loop μ-loop
+put-next-requires c κs = lines-room (c .before .before .before .loop .inv) (c .before .before .loop-test .taken) (c .before .object-at2 .ensures)
+
+add-i : tie.Need-add-i Inv-loop μ-loop
+add-i c =
+    omega
+    (arith, c .before .before .before .before .before .before .before .before .before .before .before .before .before .before .before .before .before .before .before .good .0)
+
+loop-less : tie.Need-loop-less Inv-loop μ-loop
+loop-less c = omega arith
+
+loop-again : tie.Need-loop-again Inv-loop μ-loop
+loop-again c =
+    lines-turn
+    (c .before .before .before .before .before .before .loop .inv)
+    (c .before .before .before .before .before .loop-test .taken)
+    (c .before .before .before .before .object-at2 .ensures)
+    (c .before .before .put-next .ensures)
+
+put-byte-requires : tie.Need-put-byte-requires Inv-loop μ-loop
+put-byte-requires c κs = last-room (c .before .before .loop .inv) (c .before .loop-test .left)
+
+same-length : tie.Need-same-length Inv-loop μ-loop
+same-length c = omega arith
+
+returns-2 : tie.Need-returns-2 Inv-loop μ-loop
+returns-2 c =
+    lines-end
+    (c .before .before .before .before .before .loop .inv)
+    (c .before .before .before .before .loop-test .left) (omega arith)
+    (c .before .before .before .before .before .before .before .before .before .before .object-at .ensures)
+    (c .before .before .before .before .before .before .before .before .put-first .ensures)
+    (c .before .before .put-byte .ensures)
+
+pub write-lines-spec : {M : Type 1} → statement M
+write-lines-spec =
+    tie.close
+    (tie.spec
+    Inv-loop
+    μ-loop
+    returns
+    object-at-requires
+    put-first-requires
+    loop-holds
+    object-at-requires-2
+    put-next-requires
+    add-i
+    loop-less
+    loop-again
+    put-byte-requires
+    same-length
+    returns-2)

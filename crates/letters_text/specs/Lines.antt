@@ -1,0 +1,89 @@
+-- What the letters program prints. Document 01: "One line a hit pattern: interval, space, patterns parted by `|`, streaks by `,`. `dkkddk` prints `17 d`, `17 kk,dd`, `2 k`.
+-- Every printed line ends in a line feed. Else it prints only `bad P` .. or `long` .. Empty input prints nothing."
+use Prim.Native.Nat.{ℕ}
+use mathlib.Core.Bool.{cond}
+use mathlib.Core.List.{List, [], _∷_, _++_}
+use lib.Dec.{eqb}
+use lib.ListN.{length, getD}
+use Rattle.grouping_marks.specs.Scan.{tabulate}
+use Rattle.letters_text.specs.declared.Object.{Object}
+use Rattle.letters_text.specs.declared.Reading.{Reading}
+use Rattle.letters_text.specs.declared.Reading.the-variants.{Long, Bad, Letters}
+use Rattle.letters_text.specs.Letters.{lineFeed, letterOf}
+use Rattle.letters_text.specs.Decimal.{decimal}
+
+-- a line begins with the interval and a space
+unfoldable pub lineHead : Object → List ℕ
+unfolding decimal
+lineHead o = decimal (o .interval) ++ 32 ∷ []
+
+-- what stands between the letters of p and of o, the next object: where o opens a hit pattern a line feed and the next line's head,
+-- else where it opens an alternating pattern `|`, else where it opens a streak `,`
+unfoldable pub parting : Object → Object → List ℕ
+unfolding lineHead
+parting p o =
+    cond (eqb (o .hit) (p .hit))
+    (cond (eqb (o .pattern) (p .pattern)) (cond (eqb (o .streak) (p .streak)) [] (44 ∷ [])) (124 ∷ []))
+    (lineFeed ∷ lineHead o)
+
+-- the first object's letter, with its line's head
+unfoldable pub firstLetter : Object → List ℕ
+unfolding lineHead letterOf
+firstLetter o = lineHead o ++ letterOf (o .kind) ∷ []
+
+-- the letter of o, with what stands between p's letter and it
+unfoldable pub nextLetter : Object → Object → List ℕ
+unfolding parting letterOf
+nextLetter p o = parting p o ++ letterOf (o .kind) ∷ []
+
+-- what follows p's letter
+unfoldable pub linesAfter : Object → List Object → List ℕ
+unfolding nextLetter
+linesAfter p [] = lineFeed ∷ []
+linesAfter p (o ∷ os) = nextLetter p o ++ linesAfter o os
+
+unfoldable pub linesOf : List Object → List ℕ
+unfolding firstLetter linesAfter
+linesOf [] = []
+linesOf (o ∷ os) = firstLetter o ++ linesAfter o os
+
+-- the objects' numbers, as encode gives them: in each list one for each object
+pub record Columns : Type 0 where
+  pub kinds : List ℕ
+  pub streaks : List ℕ
+  pub patterns : List ℕ
+  pub hits : List ℕ
+  pub intervals : List ℕ
+
+unfoldable pub objectAt : Columns → ℕ → Object
+objectAt c i = record {
+  kind = getD (c .kinds) i 0;
+  streak = getD (c .streaks) i 0;
+  pattern = getD (c .patterns) i 0;
+  hit = getD (c .hits) i 0;
+  interval = getD (c .intervals) i 0;
+}
+
+unfoldable pub objects : Columns → List Object
+unfolding objectAt
+objects c = tabulate (objectAt c) (length (c .kinds))
+
+unfoldable pub lines : Columns → List ℕ
+unfolding objects linesOf
+lines c = linesOf (objects c)
+
+-- `bad P` and a line feed
+unfoldable pub badLine : ℕ → List ℕ
+unfolding decimal
+badLine p = (98 ∷ 97 ∷ 100 ∷ 32 ∷ []) ++ (decimal p ++ lineFeed ∷ [])
+
+-- `long` and a line feed
+unfoldable pub longLine : List ℕ
+longLine = 108 ∷ 111 ∷ 110 ∷ 103 ∷ lineFeed ∷ []
+
+-- all that is printed for a text, where `ls` are the lines of its letters
+unfoldable pub printed : Reading → List ℕ → List ℕ
+unfolding badLine longLine
+printed Long ls = longLine
+printed (Bad p) ls = badLine p
+printed (Letters n) ls = ls

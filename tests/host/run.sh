@@ -1,0 +1,27 @@
+#!/usr/bin/env bash
+# Compiles and runs the C program as C11 and as C++ against libdresserduck.a, then runs the Rust tests.
+# The archive is that of `rt staticlib dresserduck`, or the one in the folder DRESSERDUCK_STATICLIB.
+set -eu
+root=$(cd "$(dirname "$0")/../.." && pwd)
+
+archive="${DRESSERDUCK_STATICLIB:-$root/target/staticlib}/libdresserduck.a"
+if [ ! -f "$archive" ]; then
+    echo "$archive is missing: run \`rt staticlib dresserduck\` first" >&2
+    exit 1
+fi
+DRESSERDUCK_STATICLIB=$(cd "$(dirname "$archive")" && pwd)
+export DRESSERDUCK_STATICLIB
+archive="$DRESSERDUCK_STATICLIB/libdresserduck.a"
+
+made=$(mktemp -d)
+trap 'rm -rf "$made"' EXIT
+strict=(-Wall -Wextra -Wpedantic -Werror -I "$root/include")
+program="$root/tests/host/c/encode.c"
+
+gcc -std=c11 "${strict[@]}" "$program" "$archive" -o "$made/as_c"
+"$made/as_c"
+g++ -std=c++17 "${strict[@]}" -x c++ "$program" -x none "$archive" -o "$made/as_cpp"
+"$made/as_cpp"
+
+cd "$root/tests/host"
+cargo test --release --offline --quiet

@@ -1,0 +1,137 @@
+//! Charts to try, from a generator that repeats itself from run to run.
+
+use crate::chart::Chart;
+
+/// Marsaglia's xorshift with 64 bits and the shifts 13, 7, 17.
+pub struct Xorshift(u64);
+
+impl Xorshift {
+    /// A generator; different seeds other than 0 give different values.
+    pub fn new(seed: u64) -> Self {
+        assert!(seed != 0, "xorshift never leaves the seed 0");
+        Xorshift(seed)
+    }
+
+    fn bits(&mut self) -> u64 {
+        self.0 ^= self.0 << 13;
+        self.0 ^= self.0 >> 7;
+        self.0 ^= self.0 << 17;
+        self.0
+    }
+
+    /// A whole number from 0 to limit - 1.
+    pub fn below(&mut self, limit: usize) -> usize {
+        ((self.bits() >> 11) % limit as u64) as usize
+    }
+
+    /// A whole number from least to most.
+    pub fn between(&mut self, least: usize, most: usize) -> usize {
+        least + self.below(most - least + 1)
+    }
+
+    /// Whether a thing happens that does so once in `times`.
+    pub fn once_in(&mut self, times: usize) -> bool {
+        self.below(times) == 0
+    }
+
+    /// One of the choices.
+    pub fn pick<T: Copy>(&mut self, choices: &[T]) -> T {
+        choices[self.below(choices.len())]
+    }
+}
+
+/// Notes that change colour from streak to streak, with NonHits at the seams now and then.
+struct Writer<'a> {
+    random: &'a mut Xorshift,
+    kinds: Vec<u8>,
+    colour: u8,
+    // a NonHit at one seam in so many; none for 0
+    seams: usize,
+}
+
+impl Writer<'_> {
+    fn streak(&mut self, length: usize) {
+        self.kinds.extend(vec![self.colour; length]);
+        if self.seams > 0 && self.random.once_in(self.seams) {
+            self.kinds.push(2);
+        }
+        // now and then the same colour again, so that a NonHit stands inside a run of one colour
+        if self.seams == 0 || !self.random.once_in(self.seams) {
+            self.colour = 1 - self.colour;
+        }
+    }
+
+    /// Two lengths in turn, each some streaks long: a coupled run where the streak counts stay and the colours come round.
+    fn coupled_run(&mut self, lengths: &[usize]) {
+        let (a, b) = (self.random.pick(lengths), self.random.pick(lengths));
+        let (a_count, b_count) = (self.random.between(1, 3), self.random.between(1, 3));
+        for _ in 0..self.random.between(2, 5) {
+            (0..a_count).for_each(|_| self.streak(a));
+            (0..b_count).for_each(|_| self.streak(b));
+        }
+    }
+
+    /// Different lengths one after the other, a few times over: their number is the interval that comes out.
+    fn cycle(&mut self) {
+        let period = self.random.between(3, 17);
+        for _ in 0..self.random.between(2, 3) {
+            (1..=period).for_each(|length| self.streak(length));
+        }
+    }
+
+    fn part(&mut self, lengths: &[usize]) {
+        match self.random.below(10) {
+            0..=5 => self.coupled_run(lengths),
+            6 => self.cycle(),
+            7 => {
+                let length = self.random.between(20, 150);
+                self.streak(length);
+            }
+            8 => (0..self.random.between(1, 4)).for_each(|_| self.kinds.push(2)),
+            _ => {
+                for _ in 0..self.random.between(1, 20) {
+                    let kind = self.random.below(3) as u8;
+                    self.kinds.push(kind);
+                }
+            }
+        }
+    }
+}
+
+/// A chart of n objects with many coupled runs, long streaks and NonHits at seams.
+pub fn biased_chart(random: &mut Xorshift, n: usize) -> Chart {
+    let palette: &[&[usize]] = &[&[1, 2], &[1, 2, 3], &[1, 3, 4, 7], &[2, 5], &[1, 2, 12]];
+    let lengths = random.pick(palette);
+    let seams = random.pick(&[0, 0, 2, 10, 40]);
+    let colour = random.below(2) as u8;
+    let mut writer = Writer {
+        random,
+        kinds: Vec::new(),
+        colour,
+        seams,
+    };
+    while writer.kinds.len() < n {
+        writer.part(lengths);
+    }
+    writer.kinds.truncate(n);
+    Chart::of_kinds(writer.kinds)
+}
+
+/// Other starts, deltas and ratios, all within the limits; no answer of encode may change with them.
+pub fn scatter(random: &mut Xorshift, chart: &mut Chart) {
+    let times = [
+        0.0,
+        -0.0,
+        16_777_216.0,
+        -16_777_216.0,
+        0.1,
+        -333.25,
+        f64::MIN_POSITIVE,
+    ];
+    let ratios = [1.0, 0.75, 2.0, 16_777_216.0, 1.0 / 16_777_216.0];
+    for object in 0..chart.size() {
+        chart.start[object] = random.pick(&times);
+        chart.delta[object] = random.pick(&times);
+        chart.ratio[object] = random.pick(&ratios);
+    }
+}
