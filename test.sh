@@ -5,6 +5,10 @@ cd "$(dirname "$0")"
 
 rt fmt --check
 rt staticlib numeric_host
+rt staticlib dresserduck
+rt check letters
 (cd tests/numeric && cargo test --release --offline --quiet)
+tests/host/run.sh
+tests/letters/run.sh
 
 exec rt ci

@@ -90,6 +90,11 @@ module _ (kinds : List ℕ) where
   unfolding hitCount
   hit-below j h = numbers-below (hitsOpen kinds) j (omega (arith, length-hitsOpen))
 
+  -- a hit pattern's interval is below the limit, or one above it
+  pub hit-interval-range : (limit j : ℕ) → j < hitCount kinds → (getD (hitIntervals limit kinds) j 0 < limit) ⊎ (getD (hitIntervals limit kinds) j 0 ≡ limit + 1)
+  unfolding hitIntervals hitSizes hitCount
+  hit-interval-range limit j h = interval-range limit (hitSizes kinds) (hitFirsts kinds) (hitSeconds kinds) j (omega (arith, length-sizes (hitsOpen kinds)))
+
   pub hit-interval-byte : (limit : ℕ) → limit ≤ 254 → (j : ℕ) → getD (hitIntervals limit kinds) j 0 < 256
   unfolding hitIntervals
   hit-interval-byte limit l j = interval-byte limit (hitSizes kinds) (hitFirsts kinds) (hitSeconds kinds) l j

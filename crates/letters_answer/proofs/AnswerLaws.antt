@@ -1,0 +1,106 @@
+-- What is lent to the writing of the lines is what the definition shows, and what each case of a reading has written is the whole output.
+-- The program counts on two laws more: the answer lies within what was lent, and 1,026 bytes of the input are enough.
+use mathlib.Core.Path.{_≡_, refl, sym, ap, _∙_, subst}
+use mathlib.Core.List.{List}
+use Prim.Native.Nat.{ℕ, _≤_}
+use native.Mathlib.Omega.{arith}
+use lib.ListN.{length, take, length-take}
+use Rattle.grouping_marks.proofs.OverLaws.{front}
+use Rattle.grouping_color.specs.MonoStreak.{streakOf}
+use Rattle.grouping_color.specs.Preprocessor.{patternOf, hitOf, intervalOf}
+use Rattle.grouping_color.proofs.BoundLaws.{length-streakOf, length-patternOf, length-hitOf, length-intervalOf}
+use Rattle.grouping_encode.specs.Encode.{searchLimit}
+use Rattle.grouping_encode.specs.Passes.{Encoded}
+use Rattle.letters_text.specs.declared.Reading.{Reading}
+use Rattle.letters_text.specs.declared.Reading.the-variants.{Long, Bad, Letters}
+use Rattle.letters_text.specs.Letters.{trimmed, kindsOf}
+use Rattle.letters_text.specs.Lines.{Columns, lines, badLine, longLine}
+use Rattle.letters_text.specs.Memory.{ReadText, Written, LinesFit}
+use Rattle.letters_text.proofs.LetterLaws.{length-kinds}
+use Rattle.letters_text.proofs.PrintedLaws.{read-long, read-bad, read-letters, read-all, read-kinds, printed-front}
+use Rattle.letters_text.proofs.WroteLaws.{written-same}
+use Rattle.letters_answer.specs.Output.{columns, lettersOutput, LettersRoom}
+use Rattle.letters_answer.proofs.IntervalLaws.{interval-small}
+
+-- ---- the columns that are lent
+
+columns-fit : (kinds : List ℕ) (room : ℕ) → LettersRoom (length kinds) room → LinesFit (columns kinds) room
+unfolding columns
+columns-fit kinds room x = record {
+  even = record {
+    streaks = length-streakOf kinds;
+    patterns = length-patternOf kinds;
+    hits = length-hitOf kinds;
+    intervals = length-intervalOf kinds searchLimit;
+  };
+  small = interval-small kinds;
+  enough = omega arith;
+}
+
+-- the kinds, and the first places of four answer slices after a call of `encode_kinds`
+abbrev lent : List ℕ → List ℕ → List ℕ → List ℕ → List ℕ → Columns
+lent kinds streak pattern hit interval = record {
+  kinds = kinds;
+  streaks = take (length kinds) streak;
+  patterns = take (length kinds) pattern;
+  hits = take (length kinds) hit;
+  intervals = take (length kinds) interval;
+}
+
+module _ {kinds streak₀ streak streakPlace₀ streakPlace pattern₀ pattern patternPlace₀ patternPlace hit₀ hit interval₀ interval work₀ work : List ℕ} {count : ℕ}
+    (x : Encoded kinds streak₀ streak streakPlace₀ streakPlace pattern₀ pattern patternPlace₀ patternPlace hit₀ hit interval₀ interval work₀ work count) where
+  lent-columns : columns kinds ≡ lent kinds streak pattern hit interval
+  unfolding columns
+  lent-columns =
+      let n : ℕ = length kinds in
+      let s : take n streak ≡ streakOf kinds = rw (x .streaks) (front (streakOf kinds) streak₀ n (length-streakOf kinds)) in
+      let p : take n pattern ≡ patternOf kinds = rw (x .patterns) (front (patternOf kinds) pattern₀ n (length-patternOf kinds)) in
+      let h : take n hit ≡ hitOf kinds = rw (x .hits) (front (hitOf kinds) hit₀ n (length-hitOf kinds)) in
+      let i : take n interval ≡ intervalOf searchLimit kinds =
+          rw (x .intervals) (front (intervalOf searchLimit kinds) interval₀ n (length-intervalOf kinds searchLimit)) in
+      cc
+
+  pub lines-fit : {room : ℕ} → LettersRoom (length kinds) room → LinesFit (lent kinds streak pattern hit interval) room
+  lines-fit {room} y = subst (λ (c : Columns). LinesFit c room) lent-columns (columns-fit kinds room y)
+
+  pub lines-written : {old new : List ℕ} {r : ℕ} → Written (lines (lent kinds streak pattern hit interval)) old new r → Written (lines (columns kinds)) old new r
+  lines-written y = written-same (ap lines lent-columns) y
+
+-- ---- the three cases of a reading
+
+module _ (text : List ℕ) {kinds₀ kinds : List ℕ} {r : Reading} (x : ReadText (trimmed text) kinds₀ kinds r) where
+  -- the kinds' first places hold those of the letters
+  kinds-read : (n : ℕ) → r ≡ Letters n → kindsOf (trimmed text) ≡ take n kinds
+  kinds-read n e =
+      let l : length (kindsOf (trimmed text)) ≡ n = omega (arith, length-kinds (trimmed text), read-all x n e .count) in
+      sym (rw (read-kinds x n e) (front (kindsOf (trimmed text)) kinds₀ n l))
+
+  pub letters-room : (n : ℕ) → r ≡ Letters n → {room : ℕ} → 5120 ≤ room → LettersRoom (length (take n kinds)) room
+  letters-room n e h = record { few = omega (arith, length-take n kinds, read-all x n e .few); enough = h }
+
+  module _ {old new : List ℕ} {count : ℕ} where
+    pub answer-long : r ≡ Long → Written longLine old new count → Written (lettersOutput text) old new count
+    unfolding lettersOutput
+    answer-long e y = written-same (read-long x e (lines (columns (kindsOf (trimmed text))))) y
+
+    pub answer-bad : (p : ℕ) → r ≡ Bad p → Written (badLine p) old new count → Written (lettersOutput text) old new count
+    unfolding lettersOutput
+    answer-bad p e y = written-same (read-bad x p e (lines (columns (kindsOf (trimmed text))))) y
+
+    pub answer-lines : (n : ℕ) → r ≡ Letters n → Written (lines (columns (take n kinds))) old new count → Written (lettersOutput text) old new count
+    unfolding lettersOutput
+    answer-lines n e y =
+        written-same (read-letters x n e (lines (columns (kindsOf (trimmed text)))) ∙ ap (λ (k : List ℕ). lines (columns k)) (kinds-read n e)) y
+
+-- ---- what the program counts on
+
+-- the answer lies within what was lent
+pub written-within : {text old new : List ℕ} {count : ℕ} → Written text old new count → count ≤ length new
+written-within {text} {old} {new} x =
+    let f : take (length text) new ≡ text = rw (x .memory) (front text old (length text) refl) in
+    omega (arith, x .size, ap length f, length-take (length text) new)
+
+-- 1,026 bytes of the input are enough
+pub output-front : (n : ℕ) (text : List ℕ) → 1026 ≤ n → lettersOutput (take n text) ≡ lettersOutput text
+unfolding lettersOutput
+output-front n text h = printed-front (λ (t : List ℕ). lines (columns (kindsOf t))) n text h

@@ -1,0 +1,19 @@
+-- An interval has at most two digits: each hit pattern's is below the search limit or one above it, and each object has its hit pattern's.
+use mathlib.Core.Logic.{⊎-elim}
+use mathlib.Core.List.{List}
+use Prim.Native.Nat.{ℕ, _<_}
+use native.Mathlib.Omega.{arith}
+use lib.ListN.{length, getD}
+use Rattle.grouping_marks.proofs.FillLaws.{getD-gathered}
+use Rattle.grouping_color.specs.Preprocessor.{hitIntervals, hitCount, hitOf, intervalOf}
+use Rattle.grouping_color.proofs.BoundLaws.{hit-interval-range, length-hitOf, hitOf-below, intervalOf-looked}
+use Rattle.grouping_encode.specs.Encode.{searchLimit}
+
+module _ (kinds : List ℕ) where
+  hit-interval-small : (h : ℕ) → h < hitCount kinds → getD (hitIntervals searchLimit kinds) h 0 < 100
+  hit-interval-small h l = ⊎-elim (λ u. omega arith) (λ u. omega arith) (hit-interval-range kinds searchLimit h l)
+
+  pub interval-small : (i : ℕ) → i < length kinds → getD (intervalOf searchLimit kinds) i 0 < 100
+  interval-small i h =
+      rw (← intervalOf-looked kinds searchLimit, getD-gathered (hitIntervals searchLimit kinds) (hitOf kinds) i (omega (arith, length-hitOf kinds)))
+      (hit-interval-small (getD (hitOf kinds) i 0) (hitOf-below kinds i h))

@@ -1,0 +1,66 @@
+-- `answer` meets its contract, case by case of what was read.
+use mathlib.Core.Path.{sym}
+use lib.Seq.{length-take-le}
+use native.Mathlib.Omega.{arith}
+use Rattle.letters_text.proofs.PrintedLaws.{read-bad-at, read-all}
+use Rattle.letters_answer.proofs.AnswerLaws.{letters-room, answer-long, answer-bad, answer-lines}
+use borrow.Author.Needs.{needs}
+use Rattle.letters_answer.proofs.answer.Statement.{statement}
+use Rattle.letters_answer.proofs.answer.Tie as tie
+
+slice-aggregate-read-letters : tie.Need-slice-aggregate-read-letters
+slice-aggregate-read-letters c = search needs
+
+read-letters-requires : tie.Need-read-letters-requires
+read-letters-requires c κs = search needs
+
+enum-told : tie.Need-enum-told
+enum-told c = search needs
+
+write-long-requires : tie.Need-write-long-requires
+write-long-requires c κs = search needs
+
+enum-known-place : tie.Need-enum-known-place
+enum-known-place c = search needs
+
+write-bad-requires : tie.Need-write-bad-requires
+write-bad-requires c κs = omega (arith, read-bad-at (c .before .before .before .before .before .read-letters .ensures) _ (c .before .before .place .given .1))
+
+enum-known-n : tie.Need-enum-known-n
+enum-known-n c = search needs
+
+array-share-prefix-kinds : tie.Need-array-share-prefix-kinds
+array-share-prefix-kinds c = omega (arith, read-all (c .before .before .before .before .read-letters .ensures) _ (c .before .n .given .1))
+
+slice-aggregate-answer-letters : tie.Need-slice-aggregate-answer-letters
+slice-aggregate-answer-letters c = sym (length-take-le _ _ (omega (arith, read-all (c .before .before .before .before .before .read-letters .ensures) _ (c .before .before .n .given .1))))
+
+answer-letters-requires : tie.Need-answer-letters-requires
+answer-letters-requires c κs = letters-room _ (c .before .before .before .before .before .before .read-letters .ensures) _ (c .before .before .before .n .given .1) (omega arith)
+
+returns : tie.Need-returns
+returns c = answer-long _ (c .before .before .before .before .before .read-letters .ensures) (c .before .before .enum-told .given .1) (c .write-long .ensures)
+
+returns-2 : tie.Need-returns-2
+returns-2 c = answer-bad _ (c .before .before .before .before .before .before .read-letters .ensures) _ (c .before .before .before .place .given .1) (c .write-bad .ensures)
+
+returns-3 : tie.Need-returns-3
+returns-3 c = answer-lines _ (c .before .before .before .before .before .before .before .read-letters .ensures) _ (c .before .before .before .before .n .given .1) (c .answer-letters .ensures)
+
+pub answer-spec : {M : Type 1} → statement M
+answer-spec =
+    tie.close
+    (tie.spec
+    slice-aggregate-read-letters
+    read-letters-requires
+    enum-told
+    write-long-requires
+    enum-known-place
+    write-bad-requires
+    enum-known-n
+    array-share-prefix-kinds
+    slice-aggregate-answer-letters
+    answer-letters-requires
+    returns
+    returns-2
+    returns-3)

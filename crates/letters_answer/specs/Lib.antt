@@ -1,0 +1,2 @@
+-- The letters program's output, and the room that it takes.
+pub mod Output

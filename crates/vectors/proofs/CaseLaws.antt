@@ -1,0 +1,31 @@
+-- The definitions of a stored case, case by case, in plain variables.
+use mathlib.Core.Path.{_≡_}
+use mathlib.Core.List.{List}
+use Prim.Native.Nat.{ℕ, _+_, _*_, _≤_}
+use native.Mathlib.Omega.{arith}
+use borrow.Author.Tests.{eq-eqb, ne-eqb}
+use lib.ListN.{getD}
+use Rattle.vectors.specs.Case.{pair, columnSize, numberAt, headOf}
+use Rattle.vectors.specs.declared.case.Head.{Head}
+
+module _ (s : List ℕ) (at w i r : ℕ) where
+  pub narrow : w ≡ 1 → r ≡ getD s (at + i) 0 → r ≡ numberAt s at w i
+  unfolding numberAt
+  narrow e h = rw (eq-eqb w 1 e) h
+
+  pub wide : (w ≡ 1 → ⊥) → r ≡ pair (getD s (at + 2 * i) 0) (getD s (at + 2 * i + 1) 0) → r ≡ numberAt s at w i
+  unfolding numberAt
+  wide e h = rw (ne-eqb w 1 e) h
+
+pub size-narrow : (n w : ℕ) → w ≡ 1 → (n ≡ columnSize n w) × (n ≤ 2 * n)
+unfolding columnSize
+size-narrow n w e = (rw (eq-eqb w 1 e), omega arith)
+
+pub size-wide : (n w : ℕ) → (w ≡ 1 → ⊥) → (2 * n ≡ columnSize n w) × (2 * n ≤ 2 * n)
+unfolding columnSize
+size-wide n w e = (rw (ne-eqb w 1 e), omega arith)
+
+pub head-is : (s : List ℕ) (a b c d e : ℕ) → a ≡ getD s 0 0 → b ≡ getD s 1 0 → c ≡ pair (getD s 2 0) (getD s 3 0) → d ≡ pair (getD s 4 0) (getD s 5 0)
+    → e ≡ pair (getD s 6 0) (getD s 7 0) → _≡_ {A = Head} (record { call = a; width = b; objects = c; size = d + 65536 * e }) (headOf s)
+unfolding headOf
+head-is s a b c d e p q r t u = rw (p, q, r, t, u)

@@ -1,0 +1,62 @@
+-- The loop's invariant: every place passed holds what is expected there.
+use Prim.Native.Nat.{_-_}
+use mathlib.Core.Path.{sym, _∙_}
+use lib.ListN.{length}
+use Rattle.vectors.specs.Case.{numberAt}
+use Rattle.vectors.proofs.HeldLaws.{Passed, none-passed, one-passed, all-passed, too-short, differs}
+use native.Mathlib.Omega.{arith}
+use Rattle.vectors.proofs.held.numbers.Statement.{statement}
+use Rattle.vectors.proofs.held.numbers.Tie as tie
+
+abbrev Inv-loop : tie.InvT-loop
+Inv-loop s at width n mark got i₀ i = Passed n (numberAt s at width) mark got i
+
+abbrev μ-loop : tie.MeasureT-loop
+μ-loop s at width n mark got i₀ i = length got - i
+
+returns : tie.Need-returns Inv-loop μ-loop
+returns c = too-short (c .if1 .taken)
+
+loop-holds : tie.Need-loop-holds Inv-loop μ-loop
+loop-holds c = none-passed
+
+mul-if2 : tie.Need-mul-if2 Inv-loop μ-loop
+mul-if2 c = omega arith
+
+shared-slice-read-if2 : tie.Need-shared-slice-read-if2 Inv-loop μ-loop
+shared-slice-read-if2 c = omega arith
+
+number-expected-requires : tie.Need-number-expected-requires Inv-loop μ-loop
+number-expected-requires c κs = omega arith
+
+returns-2 : tie.Need-returns-2 Inv-loop μ-loop
+returns-2 c = differs (c .before .before .before .loop-test .taken) (λ e. c .if2 .taken (e ∙ sym (c .before .number-expected .ensures)))
+
+add-i : tie.Need-add-i Inv-loop μ-loop
+add-i c = omega arith
+
+loop-less : tie.Need-loop-less Inv-loop μ-loop
+loop-less c = omega arith
+
+loop-again : tie.Need-loop-again Inv-loop μ-loop
+loop-again c = one-passed (c .before .before .before .before .loop .inv) (c .if2 .left ∙ c .before .number-expected .ensures)
+
+returns-3 : tie.Need-returns-3 Inv-loop μ-loop
+returns-3 c = all-passed (c .before .loop .inv) (c .before .before .if1 .left) (c .loop-test .left)
+
+pub numbers-spec : {M : Type 1} → statement M
+numbers-spec =
+    tie.close
+    (tie.spec
+    Inv-loop
+    μ-loop
+    returns
+    loop-holds
+    mul-if2
+    shared-slice-read-if2
+    number-expected-requires
+    returns-2
+    add-i
+    loop-less
+    loop-again
+    returns-3)

@@ -1,0 +1,18 @@
+-- Each number of an empty column is 0.
+use Rattle.vectors.specs.Case.{numberAt}
+use borrow.Author.Needs.{needs}
+use Rattle.vectors.proofs.held.zeros.Statement.{statement}
+use Rattle.vectors.proofs.held.zeros.Tie as tie
+
+slice-aggregate-numbers : tie.Need-slice-aggregate-numbers
+slice-aggregate-numbers c = search needs
+
+numbers-requires : tie.Need-numbers-requires
+numbers-requires c κs = search needs
+
+returns : tie.Need-returns
+unfolding numberAt
+returns c = c .numbers .ensures
+
+pub zeros-spec : {M : Type 1} → statement M
+zeros-spec = tie.close (tie.spec slice-aggregate-numbers numbers-requires returns)

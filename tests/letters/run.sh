@@ -1,0 +1,51 @@
+#!/usr/bin/env bash
+# Runs the letters program end to end on each input below, and compares all that it prints with what it should.
+set -eu
+here=$(cd "$(dirname "$0")" && pwd)
+
+program=$(dirname "$(dirname "$here")")/target/bin/letters
+if [ ! -x "$program" ]; then
+    echo "$program is missing: run \`rt check letters\` first" >&2
+    exit 1
+fi
+
+made=$(mktemp -d)
+trap 'rm -rf "$made"' EXIT
+
+count=0
+
+# expect NAME INPUT OUTPUT, with \n for a line feed
+expect() {
+    printf %b "$2" > "$made/input"
+    printf %b "$3" > "$made/expected"
+    if ! "$program" < "$made/input" > "$made/printed" || ! cmp "$made/expected" "$made/printed" >&2; then
+        echo "letters: failed on $1" >&2
+        exit 1
+    fi
+    count=$((count + 1))
+}
+
+# N letters in no order, d and k more often than n
+letters() {
+    awk -v n="$1" 'BEGIN { x = 1; for (i = 0; i < n; i++) { x = (x * 75 + 74) % 65537; printf "%s", substr("dddkkkn", x % 7 + 1, 1) } }'
+}
+
+text=$(letters 1024)
+lines="$(printf %s "$text" | python3 "$here/expected.py")\n"
+
+expect "document 01's example" 'dkkddk\n' '17 d\n17 kk,dd\n2 k\n'
+expect 'a letter and no line feed' 'd' '17 d\n'
+expect 'a first byte that is no letter' 'xdk\n' 'bad 0\n'
+expect 'a later byte that is no letter' 'dkndKx\n' 'bad 4\n'
+expect '1,024 letters' "$text" "$lines"
+expect '1,024 letters and a line feed' "$text\n" "$lines"
+expect '1,025 letters' "${text}d" 'long\n'
+expect '1,025 letters and a line feed' "${text}d\n" 'long\n'
+expect '1,025 bytes, the first no letter' "x$text" 'long\n'
+expect '1,024 letters and two line feeds' "$text\n\n" 'long\n'
+expect 'nothing' '' ''
+expect 'one line feed' '\n' ''
+expect 'two line feeds' '\n\n' 'bad 0\n'
+expect '100,000 letters' "$(letters 100000)" 'long\n'
+
+echo "letters: $count inputs ok"
