@@ -2,7 +2,6 @@
 ghost use mathlib.Core.Path.{_≡_};
 ghost use Rattle.grouping_encode.specs.Encode.{Memory, encodeOutcome};
 ghost use Rattle.dresserduck.specs.Host.{encodedOf, HostOutcome, encodeForHost};
-
 use grouping_encode::Encoding;
 
 // include/dresserduck.h calls it dresserduck_encoded.
@@ -51,7 +50,7 @@ pub extern "C" fn dresserduck_encode(
     ensures { λ r. ⌜ _≡_ {A = HostOutcome Encoded Memory}
         (record { answer = r; memory = record { streak = now (streak .exit); streakPlace = now («streak_place» .exit); pattern = now (pattern .exit); patternPlace = now («pattern_place» .exit); hit = now (hit .exit); interval = now (interval .exit); work = now (work .exit); scratch = now (scratch .exit) } })
         (encodeForHost (encodeOutcome (record { kinds = now (kind .entry); starts = now (start .entry); deltas = now (delta .entry); ratios = now (ratio .entry) })
-            (record { streak = now (streak .entry); streakPlace = now («streak_place» .entry); pattern = now (pattern .entry); patternPlace = now («pattern_place» .entry); hit = now (hit .entry); interval = now (interval .entry); work = now (work .entry); scratch = now (scratch .entry) }))) ⌝ }
+        (record { streak = now (streak .entry); streakPlace = now («streak_place» .entry); pattern = now (pattern .entry); patternPlace = now («pattern_place» .entry); hit = now (hit .entry); interval = now (interval .entry); work = now (work .entry); scratch = now (scratch .entry) }))) ⌝ }
 {
     let answer = grouping_encode::encode(
         kind,

@@ -28,8 +28,8 @@ module _ (limit : ℕ) (s f t : List ℕ) where
   nearest-range h (suc more) k l = by (leb k h) (matches s f t (h - k) h) (nearest-range h more (suc k) (omega arith))
     where
       by : (a b : Bool) → (nearestMatch s f t (limit + 1) h more (suc k) < limit) ⊎ (nearestMatch s f t (limit + 1) h more (suc k) ≡ limit + 1)
-        → (cond a (cond b k (nearestMatch s f t (limit + 1) h more (suc k))) (limit + 1) < limit)
-        ⊎ (cond a (cond b k (nearestMatch s f t (limit + 1) h more (suc k))) (limit + 1) ≡ limit + 1)
+          → (cond a (cond b k (nearestMatch s f t (limit + 1) h more (suc k))) (limit + 1) < limit)
+          ⊎ (cond a (cond b k (nearestMatch s f t (limit + 1) h more (suc k))) (limit + 1) ≡ limit + 1)
       by true true u = inl (omega arith)
       by true false u = u
       by false b u = inr refl

@@ -115,7 +115,7 @@ streaks-made kinds w₀ w₁ w₂ w₃ w₄ w s r e₁ e₂ e₃ e₄ e₅ =
     let m₃ : part (7 * n) n w₃ ≡ m = above o₃ (7 * n) n (omega arith) ∙ m₂ in
     let k₃ : part (2 * n) n w₃ ≡ kinds = here o₃ in
     let o₄ : Wrote (2 * n) q (groupFirsts m kinds) w₃ w₄ =
-        record { is = e₄ ∙ (λ i. put (2 * n) (groupFirsts (m₃ i) (k₃ i)) w₃); size = length-firsts m kinds (omega arith); room = omega arith } in
+    record { is = e₄ ∙ (λ i. put (2 * n) (groupFirsts (m₃ i) (k₃ i)) w₃); size = length-firsts m kinds (omega arith); room = omega arith } in
     let l₄ : length w₄ ≡ length w₀ = long o₄ ∙ l₃ in
     let m₄ : part (7 * n) n w₄ ≡ m = above o₄ (7 * n) n (omega arith) ∙ m₃ in
     let o₅ : Wrote n q (groupSizes m) w₄ w = record { is = e₅ .1 ∙ ap (λ (l : List ℕ). put n (groupSizes l) w₄) m₄; size = length-sizes m; room = omega arith } in
@@ -154,11 +154,11 @@ patterns-made n s w₀ w₁ w₂ w₃ w₄ w₅ w p r hs e₁ e₂ e₃ e₄ e�
     let l₁ : length w₁ ≡ length w₀ = long o₁ in
     let m₁ : part (7 * n) s w₁ ≡ m = here o₁ in
     let o₂ : Wrote (3 * n) s (groupNumbers m) w₁ w₂ =
-        record { is = e₂ ∙ ap (λ (l : List ℕ). put (3 * n) (groupNumbers l) w₁) m₁; size = length-numbers m ∙ lm; room = omega arith } in
+    record { is = e₂ ∙ ap (λ (l : List ℕ). put (3 * n) (groupNumbers l) w₁) m₁; size = length-numbers m ∙ lm; room = omega arith } in
     let l₂ : length w₂ ≡ length w₀ = long o₂ ∙ l₁ in
     let m₂ : part (7 * n) s w₂ ≡ m = above o₂ (7 * n) s (omega arith) ∙ m₁ in
     let o₃ : Wrote (4 * n) s (groupPlaces m) w₂ w₃ =
-        record { is = e₃ ∙ ap (λ (l : List ℕ). put (4 * n) (groupPlaces l) w₂) m₂; size = length-places m ∙ lm; room = omega arith } in
+    record { is = e₃ ∙ ap (λ (l : List ℕ). put (4 * n) (groupPlaces l) w₂) m₂; size = length-places m ∙ lm; room = omega arith } in
     let l₃ : length w₃ ≡ length w₀ = long o₃ ∙ l₂ in
     let m₃ : part (7 * n) s w₃ ≡ m = above o₃ (7 * n) s (omega arith) ∙ m₂ in
     let x₃ : part n s w₃ ≡ x = below o₃ n s (omega arith) ∙ below o₂ n s (omega arith) ∙ below o₁ n s (omega arith) in
@@ -166,13 +166,13 @@ patterns-made n s w₀ w₁ w₂ w₃ w₄ w₅ w p r hs e₁ e₂ e₃ e₄ e�
     let l₄ : length w₄ ≡ length w₀ = long o₄ ∙ l₃ in
     let m₄ : part (7 * n) s w₄ ≡ m = above o₄ (7 * n) s (omega arith) ∙ m₃ in
     let t₄ : part (2 * n) s w₄ ≡ t =
-        above o₄ (2 * n) s (omega arith) ∙ below o₃ (2 * n) s (omega arith) ∙ below o₂ (2 * n) s (omega arith) ∙ below o₁ (2 * n) s (omega arith) in
+    above o₄ (2 * n) s (omega arith) ∙ below o₃ (2 * n) s (omega arith) ∙ below o₂ (2 * n) s (omega arith) ∙ below o₁ (2 * n) s (omega arith) in
     let o₅ : Wrote (2 * n) q (groupFirsts m t) w₄ w₅ =
-        record { is = e₅ ∙ (λ i. put (2 * n) (groupFirsts (m₄ i) (t₄ i)) w₄); size = length-firsts m t (omega arith); room = omega arith } in
+    record { is = e₅ ∙ (λ i. put (2 * n) (groupFirsts (m₄ i) (t₄ i)) w₄); size = length-firsts m t (omega arith); room = omega arith } in
     let l₅ : length w₅ ≡ length w₀ = long o₅ ∙ l₄ in
     let m₅ : part (7 * n) s w₅ ≡ m = above o₅ (7 * n) s (omega arith) ∙ m₄ in
     let o₆ : Wrote (5 * n) q (groupSizes m) w₅ w =
-        record { is = e₆ .1 ∙ ap (λ (l : List ℕ). put (5 * n) (groupSizes l) w₅) m₅; size = length-sizes m; room = omega arith } in
+    record { is = e₆ .1 ∙ ap (λ (l : List ℕ). put (5 * n) (groupSizes l) w₅) m₅; size = length-sizes m; room = omega arith } in
     let made : Patterns n s x t w₀ w q = record {
       counted = refl;
       few = few;
@@ -211,7 +211,7 @@ hit-marks-made n p w₀ w₁ w₂ w r hp e₁ e₂ e₃ =
     let m₂ : part (6 * n) p w₂ ≡ m = here o₂ in
     let x₂ : part n p w₂ ≡ x = below o₂ n p (omega arith) ∙ below o₁ n p (omega arith) in
     let o₃ : Wrote (2 * n) p (secondLengths x m) w₂ w =
-        record { is = e₃ ∙ (λ i. put (2 * n) (secondLengths (x₂ i) (m₂ i)) w₂); size = length-secondLengths x m ∙ lx; room = omega arith } in
+    record { is = e₃ ∙ (λ i. put (2 * n) (secondLengths (x₂ i) (m₂ i)) w₂); size = length-secondLengths x m ∙ lx; room = omega arith } in
     record {
       opening = above o₃ (6 * n) p (omega arith) ∙ m₂;
       first = below o₃ n p (omega arith) ∙ x₂;
@@ -240,7 +240,7 @@ hits-made limit n p x m w₀ w₁ w₂ w₃ w₄ w₅ w₆ w h r hp k e₂ e₃ 
     let few : q ≤ p = omega (arith, count-le m) in
     let eh : h ≡ q = e₂ .0 ∙ ap groupCount m₁ in
     let o₂ : Wrote (5 * n) q (groupSizes m) w₁ w₂ =
-        record { is = e₂ .1 ∙ ap (λ (l : List ℕ). put (5 * n) (groupSizes l) w₁) m₁; size = length-sizes m; room = omega arith } in
+    record { is = e₂ .1 ∙ ap (λ (l : List ℕ). put (5 * n) (groupSizes l) w₁) m₁; size = length-sizes m; room = omega arith } in
     let l₂ : length w₂ ≡ length w₀ = long o₂ ∙ l₁ in
     let m₂ : part (6 * n) p w₂ ≡ m = above o₂ (6 * n) p (omega arith) ∙ m₁ in
     let x₂ : part n p w₂ ≡ x = below o₂ n p (omega arith) ∙ k .first in
@@ -249,7 +249,7 @@ hits-made limit n p x m w₀ w₁ w₂ w₃ w₄ w₅ w₆ w h r hp k e₂ e₃ 
     let m₃ : part (6 * n) p w₃ ≡ m = above o₃ (6 * n) p (omega arith) ∙ m₂ in
     let y₃ : part (2 * n) p w₃ ≡ y = above o₃ (2 * n) p (omega arith) ∙ below o₂ (2 * n) p (omega arith) ∙ k .second in
     let o₄ : Wrote (2 * n) q (groupFirsts m y) w₃ w₄ =
-        record { is = e₄ ∙ (λ i. put (2 * n) (groupFirsts (m₃ i) (y₃ i)) w₃); size = length-firsts m y (omega arith); room = omega arith } in
+    record { is = e₄ ∙ (λ i. put (2 * n) (groupFirsts (m₃ i) (y₃ i)) w₃); size = length-firsts m y (omega arith); room = omega arith } in
     let l₄ : length w₄ ≡ length w₀ = long o₄ ∙ l₃ in
     let m₄ : part (6 * n) p w₄ ≡ m = above o₄ (6 * n) p (omega arith) ∙ m₃ in
     let sizes₄ : part (5 * n) q w₄ ≡ groupSizes m = above o₄ (5 * n) q (omega arith) ∙ above o₃ (5 * n) q (omega arith) ∙ here o₂ in
@@ -268,7 +268,7 @@ hits-made limit n p x m w₀ w₁ w₂ w₃ w₄ w₅ w₆ w h r hp k e₂ e₃ 
     let l₆ : length w₆ ≡ length w₀ = long o₆ ∙ l₅ in
     let m₆ : part (6 * n) p w₆ ≡ m = above o₆ (6 * n) p (omega arith) ∙ m₅ in
     let o₇ : Wrote (2 * n) p (groupPlaces m) w₆ w =
-        record { is = e₇ ∙ ap (λ (l : List ℕ). put (2 * n) (groupPlaces l) w₆) m₆; size = length-places m ∙ lm; room = omega arith } in
+    record { is = e₇ ∙ ap (λ (l : List ℕ). put (2 * n) (groupPlaces l) w₆) m₆; size = length-places m ∙ lm; room = omega arith } in
     let made : Hits limit n p x m w₀ w q = record {
       counted = refl;
       few = few;
@@ -290,7 +290,7 @@ hits-made limit n p x m w₀ w₁ w₂ w₃ w₄ w₅ w₆ w h r hp k e₂ e₃ 
 pub tables-made : (limit : ℕ) (kinds w₀ w₁ w₂ w : List ℕ) (s p h : ℕ) → Streaks kinds w₀ w₁ s
     → Patterns (length kinds) s (part (length kinds) s w₁) (part (2 * length kinds) s w₁) w₁ w₂ p
     → Hits limit (length kinds) p (part (length kinds) p w₂)
-      (hitMarks (coupled (part (length kinds) p w₂) (part (5 * length kinds) p w₂) (part (2 * length kinds) p w₂))) w₂ w h
+    (hitMarks (coupled (part (length kinds) p w₂) (part (5 * length kinds) p w₂) (part (2 * length kinds) p w₂))) w₂ w h
     → Tables limit kinds w₀ w (record { streaks = s; patterns = p; hits = h })
 unfolding patternsOpen firstLengths streakCounts patternTypes hitsOpen hitCount hitSizes hitFirsts hitSeconds hitIntervals
 tables-made limit kinds w₀ w₁ w₂ w s p h S P H =

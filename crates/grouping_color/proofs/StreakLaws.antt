@@ -37,8 +37,8 @@ streak-marks-scan kinds =
     let l : length (tabulate (opensStreak kinds) (length kinds)) ≡ length kinds = length-tabulate (opensStreak kinds) (length kinds) in
     ext-getD 0 _ _ (l ∙ sym (length-scan seenNext opensSeen seen₀ kinds))
     (λ i h.
-      let r : i < length kinds = omega arith in
-      getD-tabulate (opensStreak kinds) (length kinds) i 0 r ∙ opens-seen kinds i ∙ sym (getD-seen seen₀ kinds i r))
+    let r : i < length kinds = omega arith in
+    getD-tabulate (opensStreak kinds) (length kinds) i 0 r ∙ opens-seen kinds i ∙ sym (getD-seen seen₀ kinds i r))
 
 -- the marks that the walk stored
 pub marks-stored : (to : ℕ) (kinds w₀ w : List ℕ) → w ≡ put to (scan seenNext opensSeen seen₀ kinds) w₀ → w ≡ put to (streakMarks kinds) w₀
@@ -51,7 +51,7 @@ unfolding opensSeen previousSeen continues
 seen-opens next last k note v n e = e ∙ ap (λ (j : ℕ). cond (eqb j 0) 1 (cond (eqb last k) 0 1)) n ∙ by (isNote k) (eqb next 0) refl
   where
     by : (a b : Bool) → eqb next 0 ≡ b
-      → _≡_ {A = ℕ} (cond (eqb (cond a next 0) 0) 1 (cond (eqb last k) 0 1)) (cond (continues (cond a (cond b none (kind last)) none) k) 0 1)
+        → _≡_ {A = ℕ} (cond (eqb (cond a next 0) 0) 1 (cond (eqb last k) 0 1)) (cond (continues (cond a (cond b none (kind last)) none) k) 0 1)
     by false b q = refl
     by true true q = rw q
     by true false q = rw q

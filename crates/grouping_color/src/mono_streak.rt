@@ -7,8 +7,8 @@ ghost use lib.ListN.{length};
 ghost use Rattle.grouping_marks.specs.Over.{put};
 ghost use Rattle.grouping_chart.specs.Object.{isNote};
 ghost use Rattle.grouping_color.specs.MonoStreak.{streakMarks};
-
-use grouping_chart::object::{NoteIndex, ObjectIndex};
+use grouping_chart::object::NoteIndex;
+use grouping_chart::object::ObjectIndex;
 
 // 0 where an object of kind k with this note number continues the open streak: there is a previous note, and it has kind k.
 fn opens_streak(note: NoteIndex, last: u8, k: u8) -> u16
@@ -24,7 +24,11 @@ fn opens_streak(note: NoteIndex, last: u8, k: u8) -> u16
 fn last_after(last: u8, k: u8) -> u8
     ensures { λ r. ⌜ r ≡ cond (isNote k) k last ⌝ }
 {
-    if grouping_chart::object::is_note(k) { k } else { last }
+    if grouping_chart::object::is_note(k) {
+        k
+    } else {
+        last
+    }
 }
 
 // Marks the objects that open a streak.

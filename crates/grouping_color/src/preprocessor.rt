@@ -5,7 +5,6 @@ ghost use Rattle.grouping_marks.specs.Over.{part};
 ghost use Rattle.grouping_color.specs.AlternatingMonoPattern.{coupled};
 ghost use Rattle.grouping_color.specs.RepeatingHitPatterns.{hitMarks};
 ghost use Rattle.grouping_color.specs.Passes.{Regions, Streaks, Patterns, HitMarks, Hits, Tables};
-
 use crate::alternating_mono_pattern;
 use crate::mono_streak;
 use crate::repeating_hit_patterns;

@@ -64,7 +64,15 @@ pub fn second_lengths(w: &mut [u16], lengths: usize, marks: usize, m: usize, to:
     }
 }
 
-fn hits_match(w: &[u16], sizes: usize, firsts: usize, seconds: usize, m: usize, a: usize, b: usize) -> bool
+fn hits_match(
+    w: &[u16],
+    sizes: usize,
+    firsts: usize,
+    seconds: usize,
+    m: usize,
+    a: usize,
+    b: usize,
+) -> bool
     requires { ⌜ Triple (now w) sizes firsts seconds m ⌝ ∗ ⌜ a < m ⌝ ∗ ⌜ b < m ⌝ }
     ensures { λ r. ⌜ r ≡ matches (part sizes m (now (w .entry))) (part firsts m (now (w .entry))) (part seconds m (now (w .entry))) a b ⌝ }
 {
@@ -78,7 +86,15 @@ fn hits_match(w: &[u16], sizes: usize, firsts: usize, seconds: usize, m: usize, 
 }
 
 // The repetition interval of the hit pattern h, searched below the limit.
-fn interval_at(w: &[u16], sizes: usize, firsts: usize, seconds: usize, m: usize, limit: u16, h: usize) -> u16
+fn interval_at(
+    w: &[u16],
+    sizes: usize,
+    firsts: usize,
+    seconds: usize,
+    m: usize,
+    limit: u16,
+    h: usize,
+) -> u16
     requires { ⌜ Triple (now w) sizes firsts seconds m ⌝ ∗ ⌜ h < m ⌝ ∗ ⌜ 1 ≤ limit ⌝ ∗ ⌜ limit < 65535 ⌝ }
     ensures { λ r. ⌜ r ≡ intervalAt limit (part sizes m (now (w .entry))) (part firsts m (now (w .entry))) (part seconds m (now (w .entry))) h ⌝ }
 {
@@ -97,7 +113,15 @@ fn interval_at(w: &[u16], sizes: usize, firsts: usize, seconds: usize, m: usize,
 }
 
 // Each hit pattern's repetition interval.
-pub fn repetition_intervals(w: &mut [u16], sizes: usize, firsts: usize, seconds: usize, m: usize, limit: u16, to: usize)
+pub fn repetition_intervals(
+    w: &mut [u16],
+    sizes: usize,
+    firsts: usize,
+    seconds: usize,
+    m: usize,
+    limit: u16,
+    to: usize,
+)
     requires { ⌜ TripleApart (now w) sizes firsts seconds m to ⌝ ∗ ⌜ 1 ≤ limit ⌝ ∗ ⌜ limit < 65535 ⌝ }
     ensures { λ r. ⌜ now (w .exit) ≡ put to (intervals limit (part sizes m (now (w .entry))) (part firsts m (now (w .entry))) (part seconds m (now (w .entry)))) (now (w .entry)) ⌝ }
 {

@@ -4,7 +4,6 @@ ghost use Prim.Native.Nat.{_*_};
 ghost use lib.ListN.{length};
 ghost use Rattle.grouping_encode.specs.Encode.{Outcome, short, encodeOutcome};
 ghost use Rattle.grouping_encode.specs.Passes.{PatternsRoom, PatternsSpread, HitsRoom, HitsSpread, AnswerRoom, Encoded};
-
 use grouping_chart::chart::Verdict;
 use grouping_chart::object::ObjectIndex;
 use grouping_color::preprocessor::Counts;
@@ -132,10 +131,20 @@ pub fn encode(
     ensures { λ r. ⌜ _≡_ {A = Outcome}
         (record { answer = r; memory = record { streak = now (streak .exit); streakPlace = now («streak_place» .exit); pattern = now (pattern .exit); patternPlace = now («pattern_place» .exit); hit = now (hit .exit); interval = now (interval .exit); work = now (work .exit); scratch = now (scratch .exit) } })
         (encodeOutcome (record { kinds = now (kind .entry); starts = now (start .entry); deltas = now (delta .entry); ratios = now (ratio .entry) })
-            (record { streak = now (streak .entry); streakPlace = now («streak_place» .entry); pattern = now (pattern .entry); patternPlace = now («pattern_place» .entry); hit = now (hit .entry); interval = now (interval .entry); work = now (work .entry); scratch = now (scratch .entry) })) ⌝ }
+        (record { streak = now (streak .entry); streakPlace = now («streak_place» .entry); pattern = now (pattern .entry); patternPlace = now («pattern_place» .entry); hit = now (hit .entry); interval = now (interval .entry); work = now (work .entry); scratch = now (scratch .entry) })) ⌝ }
 {
     let n = kind.len();
-    let short = too_short(n, streak, streak_place, pattern, pattern_place, hit, interval, work, scratch);
+    let short = too_short(
+        n,
+        streak,
+        streak_place,
+        pattern,
+        pattern_place,
+        hit,
+        interval,
+        work,
+        scratch,
+    );
     match grouping_chart::chart::check(kind, start, delta, ratio, short) {
         Verdict::Refused(number, place) => Encoding::Refused(number, place),
         Verdict::Accepted => {

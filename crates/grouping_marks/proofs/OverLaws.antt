@@ -70,9 +70,13 @@ module _ {A : Type 0} where
   pub length-put : (a : ℕ) (new old : List A) → a + length new ≤ length old → length (put a new old) ≡ length old
   unfolding put
   length-put a new old h =
-      omega
-      (arith, length-append (take a old) (over new (drop a old)), length-take-le a old (omega arith), length-drop a old,
-      length-over new (drop a old) (omega (arith, length-drop a old)))
+      omega (
+        arith,
+        length-append (take a old) (over new (drop a old)),
+        length-take-le a old (omega arith),
+        length-drop a old,
+        length-over new (drop a old) (omega (arith, length-drop a old)),
+      )
 
   pub take-put : (k a : ℕ) (new old : List A) → k ≤ a → a ≤ length old → take k (put a new old) ≡ take k old
   unfolding put

@@ -85,7 +85,7 @@ module _ {from m to : ℕ} {w₀ w : List ℕ} {size j i : ℕ} (x : Sizes from 
   pub sizes-close : i < m → (getD w (from + i) 0 ≡ 0 → ⊥) → Sizes from m to w₀ (set w (to + j) size) 1 (j + 1) (i + 1)
   sizes-close h e =
       let o : Onward _ _ to w₀ w j size (sizesFrom 1 (drop (i + 1) (part from m w₀))) =
-          fill-next (x .fill) (x .left ∙ sizes-open size (part from m w₀) i (omega (arith, long)) (λ z. e (read h ∙ z))) in
+      fill-next (x .fill) (x .left ∙ sizes-open size (part from m w₀) i (omega (arith, long)) (λ z. e (read h ∙ z))) in
       record {
         room = x .room;
         fill = o .fill;
@@ -99,7 +99,7 @@ module _ {from m to : ℕ} {w₀ w : List ℕ} {size j i : ℕ} (x : Sizes from 
   sizes-done h =
       let o : Onward _ _ to w₀ w j size [] = fill-next (x .fill) (x .left ∙ sizes-over size (part from m w₀) i (omega (arith, long))) in
       let e : j + 1 ≡ groupCount (part from m w₀) =
-          omega (arith, length-drop (j + 1) (groupSizes (part from m w₀)), ap length (o .left), o .within, x .fill .size) in
+      omega (arith, length-drop (j + 1) (groupSizes (part from m w₀)), ap length (o .left), o .within, x .fill .size) in
       (e, fill-end (o .fill) (omega arith))
 
 -- ---- the firsts
@@ -148,9 +148,9 @@ firsts-start from m at w r h =
     let l : length marks ≡ m = length-part from m w (r .read) in
     let k : length xs ≡ m = length-part at m w (r .write) in
     let o : Onward (groupFirsts marks xs) (groupCount marks) at w w 0 (getD xs 0 0) (firstsFrom (drop 1 marks) (drop 1 xs)) =
-        fill-next (fill-start _ _ at w (length-firsts marks xs (omega arith)) (omega (arith, r .write, count-le marks))) (firsts-first marks xs (omega arith) (omega arith)) in
+    fill-next (fill-start _ _ at w (length-firsts marks xs (omega arith)) (omega (arith, r .write, count-le marks))) (firsts-first marks xs (omega arith) (omega arith)) in
     let e : set w (at + 0) (getD xs 0 0) ≡ w =
-        ap (λ (v : ℕ). set w (at + 0) v) (getD-part at m w 0 0 (omega arith)) ∙ set-getD w (at + 0) 0 in
+    ap (λ (v : ℕ). set w (at + 0) v) (getD-part at m w 0 0 (omega arith)) ∙ set-getD w (at + 0) 0 in
     record {
       room = r;
       fill = rw e at (o .fill);
@@ -181,8 +181,8 @@ module _ {from m at : ℕ} {w₀ w : List ℕ} {j i : ℕ} (x : Firsts from m at
   pub firsts-keep : i < m → (getD w (from + i) 0 ≡ 0 → ⊥) → Firsts from m at w₀ (set w (at + j) (getD w (at + i) 0)) (j + 1) (i + 1)
   firsts-keep h e =
       let o : Onward _ _ at w₀ w j (getD (part at m w₀) i 0) (firstsFrom (drop (i + 1) (part from m w₀)) (drop (i + 1) (part at m w₀))) =
-          fill-next (x .fill)
-          (x .left ∙ firsts-open (part from m w₀) (part at m w₀) i (omega (arith, long-marks)) (omega (arith, long-items)) (λ z. e (read-mark h ∙ z))) in
+      fill-next (x .fill)
+      (x .left ∙ firsts-open (part from m w₀) (part at m w₀) i (omega (arith, long-marks)) (omega (arith, long-items)) (λ z. e (read-mark h ∙ z))) in
       record {
         room = x .room;
         fill = rw (fill-read at m i 0 (x .fill) (inr (omega arith)) (omega arith) h) (o .fill);
@@ -194,6 +194,9 @@ module _ {from m at : ℕ} {w₀ w : List ℕ} {j i : ℕ} (x : Firsts from m at
   pub firsts-done : m ≤ i → w ≡ put at (groupFirsts (part from m w₀) (part at m w₀)) w₀
   firsts-done h =
       fill-end (x .fill)
-      (omega
-      (arith, length-drop j (groupFirsts (part from m w₀) (part at m w₀)),
-      ap length (x .left ∙ firsts-over (part from m w₀) (part at m w₀) i (omega (arith, long-marks))), x .fill .size))
+      (omega (
+        arith,
+        length-drop j (groupFirsts (part from m w₀) (part at m w₀)),
+        ap length (x .left ∙ firsts-over (part from m w₀) (part at m w₀) i (omega (arith, long-marks))),
+        x .fill .size,
+      ))

@@ -47,7 +47,7 @@ module _ {S A B : Type 0} {next : S → A → S} {emit : S → A → B} {s₀ : 
       let a : A = getD xs i d in
       let k : i < length xs = omega (arith, length-scan next emit s₀ xs, x .fill .size) in
       let o : Onward (scan next emit s₀ xs) m to w₀ w i (emit s a) (scan next emit (next s a) (drop (suc i) xs)) =
-          fill-next (x .fill) (x .left ∙ ap (scan next emit s) (drop-cons xs i d k)) in
+      fill-next (x .fill) (x .left ∙ ap (scan next emit s) (drop-cons xs i d k)) in
       record {
         fill = rw q (o .fill);
         left = rw e (o .left ∙ ap (λ (n : ℕ). scan next emit (next s a) (drop n xs)) (sym (add-one i)));

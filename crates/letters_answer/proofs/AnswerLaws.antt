@@ -57,7 +57,7 @@ module _ {kinds streak₀ streak streakPlace₀ streakPlace pattern₀ pattern p
       let p : take n pattern ≡ patternOf kinds = rw (x .patterns) (front (patternOf kinds) pattern₀ n (length-patternOf kinds)) in
       let h : take n hit ≡ hitOf kinds = rw (x .hits) (front (hitOf kinds) hit₀ n (length-hitOf kinds)) in
       let i : take n interval ≡ intervalOf searchLimit kinds =
-          rw (x .intervals) (front (intervalOf searchLimit kinds) interval₀ n (length-intervalOf kinds searchLimit)) in
+      rw (x .intervals) (front (intervalOf searchLimit kinds) interval₀ n (length-intervalOf kinds searchLimit)) in
       cc
 
   pub lines-fit : {room : ℕ} → LettersRoom (length kinds) room → LinesFit (lent kinds streak pattern hit interval) room

@@ -3,7 +3,6 @@ ghost use lib.ListN.{length};
 ghost use Rattle.letters_text.specs.Lines.{lines};
 ghost use Rattle.letters_text.specs.Memory.{Written};
 ghost use Rattle.letters_answer.specs.Output.{columns, lettersOutput, LettersRoom};
-
 use letters_text::Reading;
 
 // The lines of a text of letters, by the kinds of its letters.
@@ -29,7 +28,14 @@ fn answer_letters(kinds: &[u8], out: &mut [u8]) -> usize
         &mut interval,
         &mut work,
     );
-    letters_text::write_lines(kinds, &streak[..n], &pattern[..n], &hit[..n], &interval[..n], out)
+    letters_text::write_lines(
+        kinds,
+        &streak[..n],
+        &pattern[..n],
+        &hit[..n],
+        &interval[..n],
+        out,
+    )
 }
 
 // The text to print for the text read stands in the first places of `out`. The result is its length.

@@ -79,17 +79,25 @@ after-short : (p : Object) (os : List Object) → Small os → length (linesAfte
 unfolding linesAfter
 after-short p [] h = omega arith
 after-short p (o ∷ os) h =
-    omega
-    (arith, length-append (nextLetter p o) (linesAfter o os), next-length p o, parting-short p o (h 0 o (omega arith)),
-    after-short o os (λ i d l. h (suc i) d (suc-le-suc l)))
+    omega (
+      arith,
+      length-append (nextLetter p o) (linesAfter o os),
+      next-length p o,
+      parting-short p o (h 0 o (omega arith)),
+      after-short o os (λ i d l. h (suc i) d (suc-le-suc l)),
+    )
 
 of-short : (os : List Object) → Small os → length (linesOf os) ≤ 5 * length os
 unfolding linesOf
 of-short [] h = omega arith
 of-short (o ∷ os) h =
-    omega
-    (arith, length-append (firstLetter o) (linesAfter o os), first-length o, head-short o (h 0 o (omega arith)),
-    after-short o os (λ i d l. h (suc i) d (suc-le-suc l)))
+    omega (
+      arith,
+      length-append (firstLetter o) (linesAfter o os),
+      first-length o,
+      head-short o (h 0 o (omega arith)),
+      after-short o os (λ i d l. h (suc i) d (suc-le-suc l)),
+    )
 
 module _ (c : Columns) where
   length-objects : length (objects c) ≡ length (c .kinds)
@@ -112,8 +120,11 @@ module _ (c : Columns) where
   pub lines-short : ((i : ℕ) → i < length (c .kinds) → getD (c .intervals) i 0 < 100) → length (lines c) ≤ 5 * length (c .kinds)
   unfolding lines objectAt
   lines-short h =
-      omega (arith, length-objects,
-      of-short (objects c) (λ i d l. let k : i < length (c .kinds) = omega (arith, length-objects) in rw (getD-objects i d k) (h i k)))
+      omega (
+        arith,
+        length-objects,
+        of-short (objects c) (λ i d l. let k : i < length (c .kinds) = omega (arith, length-objects) in rw (getD-objects i d k) (h i k)),
+      )
 
 -- ---- the loop that writes the lines
 
@@ -153,7 +164,7 @@ module _ {c : Columns} {o : Object} {at : ℕ} {w₁ w : List ℕ} {last : Objec
     unfolding linesAfter
     going =
         let e : linesAfter last (drop i (objects c)) ≡ nextLetter last next ++ linesAfter next (drop (i + 1) (objects c)) =
-            rw here (ap (linesAfter last) (objects-here c i more)) in
+        rw here (ap (linesAfter last) (objects-here c i more)) in
         subst (λ (l : List ℕ). Progress (linesAfter o (drop 1 (objects c))) l at w₁ w to) e (x .progress)
 
     pub lines-room : to + length (nextLetter last next) ≤ length w

@@ -211,7 +211,14 @@ fn put_next(out: &mut [u8], at: usize, p: Object, o: Object) -> usize
     put_byte(out, to, letter_of(o.kind))
 }
 
-fn object_at(kinds: &[u8], streak: &[u16], pattern: &[u16], hit: &[u16], interval: &[u8], i: usize) -> Object
+fn object_at(
+    kinds: &[u8],
+    streak: &[u16],
+    pattern: &[u16],
+    hit: &[u16],
+    interval: &[u8],
+    i: usize,
+) -> Object
     requires { ⌜ (i < length (now kinds)) × OneLength (record { kinds = now kinds; streaks = now streak; patterns = now pattern; hits = now hit; intervals = now interval }) ⌝ }
     ensures { λ r. ⌜ r ≡ objectAt (record { kinds = now (kinds .entry); streaks = now (streak .entry); patterns = now (pattern .entry); hits = now (hit .entry); intervals = now (interval .entry) }) i ⌝ }
 {
@@ -225,7 +232,14 @@ fn object_at(kinds: &[u8], streak: &[u16], pattern: &[u16], hit: &[u16], interva
 }
 
 // The lines of a text of letters, from the numbers of its objects.
-pub fn write_lines(kinds: &[u8], streak: &[u16], pattern: &[u16], hit: &[u16], interval: &[u8], out: &mut [u8]) -> usize
+pub fn write_lines(
+    kinds: &[u8],
+    streak: &[u16],
+    pattern: &[u16],
+    hit: &[u16],
+    interval: &[u8],
+    out: &mut [u8],
+) -> usize
     requires { ⌜ LinesFit (record { kinds = now kinds; streaks = now streak; patterns = now pattern; hits = now hit; intervals = now interval }) (length (now out)) ⌝ }
     ensures { λ r. ⌜ Written (lines (record { kinds = now (kinds .entry); streaks = now (streak .entry); patterns = now (pattern .entry); hits = now (hit .entry); intervals = now (interval .entry) })) (now (out .entry)) (now (out .exit)) r ⌝ }
 {

@@ -3,7 +3,9 @@ use grouping_encode::Encoding;
 
 // No answer is as large.
 const NUMBER_MARK: u16 = 48879;
+
 const BYTE_MARK: u8 = 190;
+
 const FLOAT_MARK: f64 = -1.5;
 
 fn mark_answers(
@@ -93,7 +95,14 @@ fn numbers_hold(
 }
 
 // Whether the intervals are those of the sixth column, and the work slices are cleared.
-fn rest_holds(body: &[u8], width: u8, n: usize, interval: &[u8], work: &[u16], scratch: &[f64]) -> bool {
+fn rest_holds(
+    body: &[u8],
+    width: u8,
+    n: usize,
+    interval: &[u8],
+    work: &[u16],
+    scratch: &[f64],
+) -> bool {
     if n > 16384 {
         return false;
     }
@@ -145,7 +154,16 @@ pub fn holds(
         scratch,
     );
     let count = count_holds(body, answer);
-    let numbers = numbers_hold(body, width, n, streak, streak_place, pattern, pattern_place, hit);
+    let numbers = numbers_hold(
+        body,
+        width,
+        n,
+        streak,
+        streak_place,
+        pattern,
+        pattern_place,
+        hit,
+    );
     let rest = rest_holds(body, width, n, interval, work, scratch);
     all(count, numbers, rest)
 }

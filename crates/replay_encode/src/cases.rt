@@ -1,7 +1,6 @@
 // Case after case of the file: reads one, lends slices of its size and counts whether it holds.
 ghost use Prim.Native.Nat.{_<_};
 ghost use Rattle.replay_encode.specs.Arrays.{Arrays};
-
 use crate::call;
 use crate::tally;
 use crate::tally::Tally;
@@ -71,7 +70,11 @@ fn read_case(fd: i32, body: &mut [u8]) -> Read {
         return Read::Broken;
     }
     let read = io::read_full(fd, &mut body[..size]);
-    if read == size { Read::Case(h) } else { Read::Broken }
+    if read == size {
+        Read::Case(h)
+    } else {
+        Read::Broken
+    }
 }
 
 // Lends, for the case with this number, 0 to 7 places more than its objects ask.

@@ -23,8 +23,8 @@ module _ {A : Type 0} where
     size = x .size;
     long = length-set s i v ∙ x .long;
     done = below-more (λ (k : ℕ). getD (set s i v) k d ≡ getD g k d) i
-      (λ k l. getD-set-other s i k v d (λ q. omega arith) ∙ x .done k l)
-      (getD-set-same s i v d (omega (arith, x .long)) ∙ e);
+        (λ k l. getD-set-other s i k v d (λ q. omega arith) ∙ x .done k l)
+        (getD-set-same s i v d (omega (arith, x .long)) ∙ e);
   }
 
   pub filled-end : {d : A} {g : List A} {n : ℕ} {s : List A} {i : ℕ} → Filled d g n s i → n ≤ i → s ≡ g

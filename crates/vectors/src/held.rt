@@ -5,7 +5,6 @@ ghost use lib.Ieee as Ieee;
 ghost use lib.Ieee.{binary64};
 ghost use Rattle.vectors.specs.Case.{numberAt};
 ghost use Rattle.vectors.specs.Held.{Tells, Held, expected, bitsOf};
-
 use crate::case;
 
 // What place i is to hold: number i of the column, or past n the mark.
@@ -13,7 +12,11 @@ fn number_expected(s: &[u8], at: usize, width: u8, n: usize, mark: u16, i: usize
     requires { ⌜ at + 2 * n < 2 ^ 32 ⌝ }
     ensures { λ r. ⌜ r ≡ expected n (numberAt (now (s .entry)) at width) mark i ⌝ }
 {
-    if i < n { case::number_at(s, at, width, i) } else { mark }
+    if i < n {
+        case::number_at(s, at, width, i)
+    } else {
+        mark
+    }
 }
 
 // Whether `got` holds the n numbers of the column that begins at a place, and then the mark.
@@ -46,7 +49,11 @@ fn byte_expected(s: &[u8], at: usize, n: usize, mark: u8, i: usize) -> u8
     requires { ⌜ at + 2 * n < 2 ^ 32 ⌝ }
     ensures { λ r. ⌜ r ≡ expected n (numberAt (now (s .entry)) at 1) mark i ⌝ }
 {
-    if i < n { case::byte_at(s, at + i) } else { mark }
+    if i < n {
+        case::byte_at(s, at + i)
+    } else {
+        mark
+    }
 }
 
 // Whether `got` holds the n bytes from a place on, and then the mark.
@@ -70,7 +77,11 @@ pub fn bytes(s: &[u8], at: usize, n: usize, mark: u8, got: &[u8]) -> bool
 fn bits_expected(n: usize, mark: f64, i: usize) -> u64
     ensures { λ r. ⌜ r ≡ expected n (λ i. 0) (Ieee.toBits binary64 mark) i ⌝ }
 {
-    if i < n { 0 } else { numeric::canonical::bits(mark) }
+    if i < n {
+        0
+    } else {
+        numeric::canonical::bits(mark)
+    }
 }
 
 // Whether `got` holds n times +0.0, and then the mark, by their bits.

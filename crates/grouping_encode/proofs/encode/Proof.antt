@@ -19,7 +19,7 @@ enum-told : tie.Need-enum-told
 enum-told c = search needs
 
 encode-kinds-requires : tie.Need-encode-kinds-requires
-encode-kinds-requires c κs = 
+encode-kinds-requires c κs =
     let a = c .before .before .before .before .before .before .before .before .before .before .before .before .before .before .before .before .before .before .before .before .before .before .before .before .before .before .before .before .before .before .before .args in
     let ch : Chart = record { kinds = a .kind .now; starts = a .start .now; deltas = a .delta .now; ratios = a .ratio .now } in
     let m : Memory = record { streak = a .streak .now; streakPlace = a .streak-place .now; pattern = a .pattern .now; patternPlace = a .pattern-place .now; hit = a .hit .now; interval = a .interval .now; work = a .work .now; scratch = a .scratch .now } in
@@ -27,7 +27,7 @@ encode-kinds-requires c κs =
     answer-room ch m v
 
 clear-floats-requires : tie.Need-clear-floats-requires
-clear-floats-requires c κs = 
+clear-floats-requires c κs =
     let a = c .before .before .before .before .before .before .before .before .before .before .before .before .before .before .before .before .before .before .before .before .before .before .before .before .before .before .before .before .before .before .before .before .before .before .before .before .before .before .before .before .before .before .before .before .before .before .before .args in
     let ch : Chart = record { kinds = a .kind .now; starts = a .start .now; deltas = a .delta .now; ratios = a .ratio .now } in
     let m : Memory = record { streak = a .streak .now; streakPlace = a .streak-place .now; pattern = a .pattern .now; patternPlace = a .pattern-place .now; hit = a .hit .now; interval = a .interval .now; work = a .work .now; scratch = a .scratch .now } in
@@ -59,7 +59,7 @@ same-length-8 : tie.Need-same-length-8
 same-length-8 c = search needs
 
 returns : tie.Need-returns
-returns c = 
+returns c =
     let a = c .before .before .before .before .before .before .before .before .before .before .before .before .before .before .before .before .before .before .before .before .before .before .before .before .before .args in
     let ch : Chart = record { kinds = a .kind .now; starts = a .start .now; deltas = a .delta .now; ratios = a .ratio .now } in
     let m : Memory = record { streak = a .streak .now; streakPlace = a .streak-place .now; pattern = a .pattern .now; patternPlace = a .pattern-place .now; hit = a .hit .now; interval = a .interval .now; work = a .work .now; scratch = a .scratch .now } in
@@ -91,7 +91,7 @@ same-length-16 : tie.Need-same-length-16
 same-length-16 c = search needs
 
 returns-2 : tie.Need-returns-2
-returns-2 c = 
+returns-2 c =
     let a = c .before .before .before .before .before .before .before .before .before .before .before .before .before .before .before .before .before .before .before .before .before .before .before .before .before .before .before .before .before .before .before .before .before .before .before .before .before .before .before .before .before .before .before .before .before .before .before .before .before .before .args in
     let ch : Chart = record { kinds = a .kind .now; starts = a .start .now; deltas = a .delta .now; ratios = a .ratio .now } in
     let m : Memory = record { streak = a .streak .now; streakPlace = a .streak-place .now; pattern = a .pattern .now; patternPlace = a .pattern-place .now; hit = a .hit .now; interval = a .interval .now; work = a .work .now; scratch = a .scratch .now } in

@@ -37,7 +37,7 @@ slice-aggregate-gather : tie.Need-slice-aggregate-gather
 slice-aggregate-gather c = sym (length-take-le _ _ (omega arith))
 
 gather-requires : tie.Need-gather-requires
-gather-requires c κs = 
+gather-requires c κs =
     let st = c .before .before .before .before .before .before .before .before in
     let n = st .args .n in
     let p = st .args .k .patterns in
@@ -64,7 +64,7 @@ slice-aggregate-gather-2 : tie.Need-slice-aggregate-gather-2
 slice-aggregate-gather-2 c = sym (length-take-le _ _ (omega arith))
 
 gather-requires-2 : tie.Need-gather-requires-2
-gather-requires-2 c κs = 
+gather-requires-2 c κs =
     let st = c .before .before .before .before .before .before .before .before .before .before .before .before .before .before in
     let n = st .args .n in
     let p = st .args .k .patterns in
@@ -100,7 +100,7 @@ slice-aggregate-gather-bytes : tie.Need-slice-aggregate-gather-bytes
 slice-aggregate-gather-bytes c = sym (length-take-le _ _ (omega arith))
 
 gather-bytes-requires : tie.Need-gather-bytes-requires
-gather-bytes-requires c κs = 
+gather-bytes-requires c κs =
     let st = c .before .before .before .before .before .before .before .before .before .before .before .before .before .before .before .before .before .before .before .before in
     let n = st .args .n in
     let p = st .args .k .patterns in
@@ -109,8 +109,7 @@ gather-bytes-requires c κs =
     let pattern = st .args .pattern .now in
     let found = looked-up n p work (take n pattern) (take n pattern) _ _ refl (c .before .before .before .before .before .gather2 .ensures) in
     let l = length-gathered (part n p work) (take n pattern) ∙ length-take-le n pattern (omega (arith, st .pre)) in
-    let f = written-front (gathered (part n p work) (take n pattern)) _ _ n l found in
-    (
+    let f = written-front (gathered (part n p work) (take n pattern)) _ _ n l found in (
       simp length-take (omega arith),
       (
         within-table (7 * n) h n work _ (gathered (part n p work) (take n pattern)) f l (omega (arith, st .pre)) (below-gathered n p h (part n p work) (take n pattern) (length-take-le n pattern (omega (arith, st .pre))) (st .pre .in-patterns) (st .pre .in-hits)),
@@ -128,7 +127,7 @@ same-length-3 : tie.Need-same-length-3
 same-length-3 c = search needs
 
 returns : tie.Need-returns
-returns c = 
+returns c =
     let st = c .before .before .before .before .before .before .before .before .before .before .before .before .before .before .before .before .before .before .before .before .before .before .before in
     let n = st .args .n in
     let p = st .args .k .patterns in

@@ -50,12 +50,11 @@ slice-aggregate-gather : tie.Need-slice-aggregate-gather
 slice-aggregate-gather c = sym (length-take-le _ _ (omega arith))
 
 gather-requires : tie.Need-gather-requires
-gather-requires c κs = 
+gather-requires c κs =
     let st = c .before .before .before .before .before .before .before .before .before .before .before .before in
     let n = st .args .n in
     let s = st .args .k .streaks in
-    let work = st .args .work .now in
-    (
+    let work = st .args .work .now in (
       simp length-take (omega arith),
       within-table (4 * n) s n work _ (part 0 n work) (streak-front n work _ _ (omega (arith, st .pre)) (c .before .before .before .before .before .copy .ensures)) (length-part 0 n work (omega (arith, st .pre))) (omega (arith, st .pre)) (st .pre .in-table),
     )
@@ -88,12 +87,11 @@ slice-aggregate-gather-2 : tie.Need-slice-aggregate-gather-2
 slice-aggregate-gather-2 c = sym (length-take-le _ _ (omega arith))
 
 gather-requires-2 : tie.Need-gather-requires-2
-gather-requires-2 c κs = 
+gather-requires-2 c κs =
     let st = c .before .before .before .before .before .before .before .before .before .before .before .before .before .before .before .before .before .before in
     let n = st .args .n in
     let s = st .args .k .streaks in
-    let work = st .args .work .now in
-    (
+    let work = st .args .work .now in (
       simp length-take (omega arith),
       within-table (3 * n) s n work _ (part 0 n work) (streak-front n work _ _ (omega (arith, st .pre)) (c .before .before .before .before .before .before .before .before .before .before .before .copy .ensures)) (length-part 0 n work (omega (arith, st .pre))) (omega (arith, st .pre)) (st .pre .in-table),
     )
@@ -108,7 +106,7 @@ same-length-3 : tie.Need-same-length-3
 same-length-3 c = search needs
 
 returns : tie.Need-returns
-returns c = 
+returns c =
     let st = c .before .before .before .before .before .before .before .before .before .before .before .before .before .before .before .before .before .before .before .before .before in
     let n = st .args .n in
     let s = st .args .k .streaks in

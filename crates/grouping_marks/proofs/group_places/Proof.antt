@@ -54,9 +54,10 @@ loop-less c = omega arith
 
 loop-again : tie.Need-loop-again Inv-loop μ-loop
 loop-again c =
-    let l = c .before .before .before in
-    (turn-part (l .loop .inv .0) (l .before .before .pre) (c .before .before .loop-test .taken) (c .place-at .ensures) (ap (λ (n : ℕ). n + 1) (c .place-at .ensures)),
-    omega (arith, place-le (l .loop .p) (getD (l .loop .w) (l .before .before .args .from + l .loop .i) 0)))
+    let l = c .before .before .before in (
+      turn-part (l .loop .inv .0) (l .before .before .pre) (c .before .before .loop-test .taken) (c .place-at .ensures) (ap (λ (n : ℕ). n + 1) (c .place-at .ensures)),
+      omega (arith, place-le (l .loop .p) (getD (l .loop .w) (l .before .before .args .from + l .loop .i) 0)),
+    )
 
 same-length : tie.Need-same-length Inv-loop μ-loop
 same-length c = c .before .loop .inv .0 .fill .long

@@ -47,17 +47,17 @@ slice-aggregate-replay-10 c = search needs
 
 replay-requires : tie.Need-replay-requires
 replay-requires c κs = record {
-    body-long = length-replicate {A = ℕ} 196610 0;
-    ones-long = length-replicate {A = Float} 16384 (ofBits binary64 0x3FF0_0000_0000_0000);
-    streak-long = length-replicate {A = ℕ} 16391 0;
-    streakPlace-long = length-replicate {A = ℕ} 16391 0;
-    pattern-long = length-replicate {A = ℕ} 16391 0;
-    patternPlace-long = length-replicate {A = ℕ} 16391 0;
-    hit-long = length-replicate {A = ℕ} 16391 0;
-    interval-long = length-replicate {A = ℕ} 16391 0;
-    work-long = length-replicate {A = ℕ} 131079 0;
-    scratch-long = length-replicate {A = Float} 16391 (ofBits binary64 0);
-  }
+  body-long = length-replicate {A = ℕ} 196610 0;
+  ones-long = length-replicate {A = Float} 16384 (ofBits binary64 0x3FF0_0000_0000_0000);
+  streak-long = length-replicate {A = ℕ} 16391 0;
+  streakPlace-long = length-replicate {A = ℕ} 16391 0;
+  pattern-long = length-replicate {A = ℕ} 16391 0;
+  patternPlace-long = length-replicate {A = ℕ} 16391 0;
+  hit-long = length-replicate {A = ℕ} 16391 0;
+  interval-long = length-replicate {A = ℕ} 16391 0;
+  work-long = length-replicate {A = ℕ} 131079 0;
+  scratch-long = length-replicate {A = Float} 16391 (ofBits binary64 0);
+}
 
 close-requires : tie.Need-close-requires
 close-requires c κs = search needs
