@@ -23,7 +23,7 @@
 extern "C" {
 #endif
 
-/* The refusals, in the order in which they are tested: 1, 2, 3, then object by object 4, 5, 6, 7.
+/* The refusals, in the order in which they are tested: 1, 2, 3, then object by object 4, 5, 6, 7, then 9.
  * `place` is the object's number from 0 for 4 to 7, and 0 for the others. */
 enum {
     DRESSERDUCK_ACCEPTED = 0,
@@ -33,7 +33,8 @@ enum {
     DRESSERDUCK_BAD_KIND = 4,         /* chart: a kind above 2 */
     DRESSERDUCK_BAD_START = 5,        /* chart: a start that is not finite or outside +-16,777,216 */
     DRESSERDUCK_BAD_DELTA = 6,        /* chart: a delta that is not finite or outside +-16,777,216 */
-    DRESSERDUCK_BAD_RATIO = 7         /* chart: a ratio below 2^-24, above 2^24, or NaN */
+    DRESSERDUCK_BAD_RATIO = 7,        /* chart: a ratio below 2^-24, above 2^24, or NaN */
+    DRESSERDUCK_BAD_STRETCH = 9       /* settings: a stretch with a >= b or b > n */
 };
 
 enum { DRESSERDUCK_LARGEST_CHART = 16384 };
@@ -62,6 +63,39 @@ dresserduck_encoded dresserduck_encode(
     uint16_t *pattern_place, size_t pattern_place_count,
     uint16_t *hit, size_t hit_count,
     uint8_t *interval, size_t interval_count,
+    uint16_t *work, size_t work_count,
+    double *scratch, size_t scratch_count);
+
+typedef struct dresserduck_coloured {
+    uint64_t refusal;
+    uint64_t place;
+} dresserduck_coloured;
+
+/* Per object its colour value: how hard the swap of colour at it is. Never a NaN or an infinity. */
+dresserduck_coloured dresserduck_colour(
+    const uint8_t *kind, size_t kind_count,
+    const double *start, size_t start_count,
+    const double *delta, size_t delta_count,
+    const double *ratio, size_t ratio_count,
+    double *value, size_t value_count,
+    uint16_t *work, size_t work_count,
+    double *scratch, size_t scratch_count);
+
+typedef struct dresserduck_stretched {
+    uint64_t refusal;
+    uint64_t place;
+    double mean;    /* of the colour values from a to b, summed from left to right; 0 on refusal */
+    int64_t tenths; /* the largest whole number not above ten times the mean, exactly; 0 on refusal */
+} dresserduck_stretched;
+
+/* Fills the colour values as dresserduck_colour does, and returns the mean of those from a to b, b not included. */
+dresserduck_stretched dresserduck_stretch(
+    const uint8_t *kind, size_t kind_count,
+    const double *start, size_t start_count,
+    const double *delta, size_t delta_count,
+    const double *ratio, size_t ratio_count,
+    size_t a, size_t b,
+    double *value, size_t value_count,
     uint16_t *work, size_t work_count,
     double *scratch, size_t scratch_count);
 

@@ -1,14 +1,21 @@
 #!/usr/bin/env python3
-"""Writes the cases that crates/replay_encode replays: charts, and what the original answers on them.
+"""Writes the cases that crates/replay_encode and crates/replay_colour replay: charts, and what the original answers on them.
 
-usage: vectors.py ORACLE OUT    (ORACLE: the program that `cargo build --release` makes of the oracle)
+usage: vectors.py ORACLE OUT           the cases of encode
+       vectors.py ORACLE OUT colour    those of colour and stretch
+(ORACLE: the program that `cargo build --release` makes of the oracle)
 
-Numbers have their low byte first. A case is a head of 8 bytes and a body:
+Numbers have their low byte first; a float is the number of its bits. A case is a head of 8 bytes and a body:
   head   call (1 byte), width (1), objects n (2), bytes of the body (4)
   call 1, encode: hit patterns (2), kinds (n), streak, its place, alternating pattern, its place, hit pattern
                   (n numbers of `width` bytes each), interval (n)
+  call 2, colour: distinct ratios m (2), kinds (n), each object's ratio as its place in the table
+                  (n numbers of `width` bytes each), values (8n), the table of ratios (8m)
+  call 3, stretch, on the chart of the colour case before it: a (2), b (2), mean (8), tenths (4, signed)
 """
+import fractions
 import itertools
+import math
 import random
 import struct
 import subprocess
@@ -16,6 +23,8 @@ import sys
 
 SEED = 1
 ENCODE = 1
+COLOUR = 2
+STRETCH = 3
 LONGEST = 300
 MOST = 16384
 
@@ -86,6 +95,10 @@ def ask(oracle, all_kinds):
     assert next(lines, None) is None, "more answers than requests"
 
 
+def head(call, width, n, body):
+    return struct.pack("<BBHI", call, width, n, len(body)) + body
+
+
 def case(kinds, hits, objects):
     *columns, intervals = zip(*objects) if objects else [()] * 6
     width = 1 if max(itertools.chain(*columns), default=0) < 256 else 2
@@ -94,10 +107,185 @@ def case(kinds, hits, objects):
     for column in columns:
         body += struct.pack(f"<{len(kinds)}{'BH'[width - 1]}", *column)
     body += bytes(intervals)
-    return struct.pack("<BBHI", ENCODE, width, len(kinds), len(body)) + body
+    return head(ENCODE, width, len(kinds), body)
+
+
+# ---- colour and stretch
+
+
+TYPICAL = [0.25, 1 / 3, 0.5, 2 / 3, 0.75, 1.0, 4 / 3, 1.5, 2.0, 3.0, 4.0]
+LEAST, LARGEST = 2.0**-24, 2.0**24
+
+
+def bits(x):
+    return struct.pack(">d", x).hex()
+
+
+def float_of(word):
+    return struct.unpack(">d", bytes.fromhex(word))[0]
+
+
+def beside(x, k):
+    """The float k places further from zero."""
+    return struct.unpack("<d", struct.pack("<q", struct.unpack("<q", struct.pack("<d", x))[0] + k))[0]
+
+
+def last_within(q, step):
+    """From q on, step by step, the last quotient that the tolerance takes."""
+    while abs(1.0 - q) > 0.01:
+        q = beside(q, -step)
+    while abs(1.0 - beside(q, step)) <= 0.01:
+        q = beside(q, step)
+    return q
+
+
+LOW, HIGH = last_within(0.99, -1), last_within(1.01, 1)
+EDGES = [beside(LOW, -1), LOW, HIGH, beside(HIGH, 1)]
+
+
+# the styles of ratios: each gives the ratio that follows those before it
+def typical(rng, before):
+    return rng.choice(TYPICAL)
+
+
+def equal(rng, before):
+    return before[-1] if before else rng.choice(TYPICAL + [2.5, LEAST, LARGEST])
+
+
+def at_tolerance(rng, before):
+    """Often about 0.99 or 1.01 of the ratio two before, so that the quotient lies at the tolerance or beside it."""
+    if len(before) < 2 or not 0.2 < before[-2] < 5.0 or rng.randrange(4) == 0:
+        return rng.choice(TYPICAL)
+    return beside(before[-2] * rng.choice([LOW, HIGH]), rng.randrange(-2, 3))
+
+
+def extreme(rng, before):
+    return rng.choice([LEAST, beside(LEAST, 1), 1.0, beside(LARGEST, -1), LARGEST])
+
+
+def wide(rng, before):
+    """From the whole range, with one before it taken again now and then."""
+    if before and rng.randrange(4):
+        return rng.choice(before[-3:])
+    return math.ldexp(rng.uniform(1.0, 2.0), rng.randrange(-24, 24))
+
+
+def any_style(rng, before):
+    return rng.choice([typical, at_tolerance, at_tolerance, extreme, wide])(rng, before)
+
+
+def ratios_of(rng, style, n):
+    ratios = []
+    for _ in range(n):
+        ratios.append(style(rng, ratios))
+    return ratios
+
+
+def spans(rng, n):
+    """Five stretches: the whole, one object, one from the start, one to the end, and any."""
+    if n == 0:
+        return []
+    i, a = rng.randrange(n), rng.randrange(n)
+    return [(0, n), (i, i + 1), (0, rng.randrange(n) + 1), (rng.randrange(n), n), (a, rng.randrange(a, n) + 1)]
+
+
+def colour_charts():
+    """Kinds, ratios and stretches of the charts."""
+    rng = random.Random(SEED)
+    styles = itertools.cycle([typical, equal, at_tolerance, extreme, wide, any_style, at_tolerance])
+    for n in range(LONGEST + 1):
+        for kinds in (mixed, coupled, seams):
+            yield grown(kinds(rng), n), ratios_of(rng, next(styles), n), spans(rng, n)
+    for kinds, style in ((mixed, typical), (coupled, any_style)):
+        yield grown(kinds(rng), MOST), ratios_of(rng, style, MOST), spans(rng, MOST)
+
+
+def colour_request(kinds, ratios, parts):
+    ones = " ".join([bits(1.0)] * len(kinds))
+    asked = "".join(f"stretch {a} {b}\n" for a, b in parts)
+    return f"chart {len(kinds)}\n{kinds}\n{ones}\n{ones}\n{' '.join(map(bits, ratios))}\ncolour\n{asked}"
+
+
+def ask_colour(oracle, charts):
+    """For each chart the values, and mean and tenths of each stretch."""
+    text = "".join(colour_request(*c) for c in charts)
+    lines = iter(subprocess.run([oracle], input=text, capture_output=True, text=True, check=True).stdout.splitlines())
+    for kinds, _, parts in charts:
+        values = [float_of(word) for word in next(lines).split()]
+        assert len(values) == len(kinds)
+        yield values, [(float_of(mean), int(tenths)) for mean, tenths in (next(lines).split() for _ in parts)]
+    assert next(lines, None) is None, "more answers than requests"
+
+
+def tenth_charts(oracle):
+    """Charts `ddk` of equal ratios, sought so that the mean of the last object, or of all, lies on a tenth or beside it."""
+    (values, _), = ask_colour(oracle, [("001", [1.0] * 3, [])])
+    first, most = values[0] + values[1], values[2] / 0.6
+    tried = []
+    for (a, b), k in itertools.product([(2, 3), (0, 3)], range(-30, 25)):
+        wanted = k / 10 * (b - a) - (first if a == 0 else 0.0)
+        near = (1.0 - wanted / most) / 0.4
+        if LEAST < near < LARGEST:
+            tried += [(k / 10, ("001", [beside(near, i)] * 3, [(a, b)])) for i in range(-40, 41)]
+    found = {}
+    for (tenth, chart), (_, ((mean, _),)) in zip(tried, ask_colour(oracle, [chart for _, chart in tried])):
+        if mean in (beside(tenth, -1), tenth, beside(tenth, 1)):
+            found.setdefault((chart[2][0], mean), chart)
+    return list(found.values())
+
+
+def colour_case(kinds, ratios, values):
+    table = list(dict.fromkeys(ratios))
+    width = 1 if len(table) <= 256 else 2
+    n, place = len(kinds), {r: i for i, r in enumerate(table)}
+    body = struct.pack("<H", len(table)) + bytes(map(int, kinds))
+    body += struct.pack(f"<{n}{'BH'[width - 1]}", *(place[r] for r in ratios))
+    body += struct.pack(f"<{n}d", *values) + struct.pack(f"<{len(table)}d", *table)
+    return head(COLOUR, width, n, body)
+
+
+def stretch_case(n, part, answer):
+    return head(STRETCH, 1, n, struct.pack("<HHdi", *part, *answer))
+
+
+def check_values(charts, answers):
+    """The values hold what they are made for: -0.0, and both sides of the tolerance where the ratio tells."""
+    objects = [(min(i, 4), r[i] / r[i - 2], v[i]) for (_, r, _), (v, _) in zip(charts, answers) for i in range(2, len(r))]
+    assert sum(bits(v) == bits(-0.0) for _, _, v in objects) > 1000, "few values of -0.0"
+    told = {(i, q) for i, q, v in objects if v != 0.0}
+    assert told >= {*itertools.product([2, 3, 4], EDGES)}, "a quotient at the tolerance is missing"
+    seen = {r for _, ratios, _ in charts for r in ratios}
+    assert seen >= {LEAST, beside(LEAST, 1), beside(LARGEST, -1), LARGEST}
+
+
+def check_stretches(answers):
+    """The tenths are exact, also where the rounded product would give others, below zero and above."""
+    off = []
+    for mean, tenths in (a for _, stretches in answers for a in stretches):
+        assert tenths == math.floor(10 * fractions.Fraction(mean))
+        if math.floor(10.0 * mean) != tenths:
+            off.append(mean)
+    assert sum(m < 0.0 for m in off) >= 5 and sum(m > 0.0 for m in off) >= 5, f"rounded tenths differ at {off} only"
+    return len(off)
+
+
+def main_colour(oracle, out):
+    charts = [*colour_charts(), *tenth_charts(oracle)]
+    answers = list(ask_colour(oracle, charts))
+    check_values(charts, answers)
+    off = check_stretches(answers)
+    with open(out, "wb") as file:
+        for (kinds, ratios, parts), (values, stretches) in zip(charts, answers):
+            file.write(colour_case(kinds, ratios, values))
+            for part, answer in zip(parts, stretches):
+                file.write(stretch_case(len(kinds), part, answer))
+    print(f"colour: {len(charts)} cases, {sum(len(c[0]) for c in charts)} values")
+    print(f"stretch: {sum(len(c[2]) for c in charts)} cases, {off} whose tenths a rounded product would miss")
 
 
 def main():
+    if len(sys.argv) == 4 and sys.argv[3] == "colour":
+        return main_colour(*sys.argv[1:3])
     if len(sys.argv) != 3:
         sys.exit(__doc__)
     all_kinds = list(charts())

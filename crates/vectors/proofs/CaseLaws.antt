@@ -1,11 +1,11 @@
 -- The definitions of a stored case, case by case, in plain variables.
 use mathlib.Core.Path.{_≡_}
 use mathlib.Core.List.{List}
-use Prim.Native.Nat.{ℕ, _+_, _*_, _≤_}
+use Prim.Native.Nat.{ℕ, _+_, _*_, _^_, _≤_, _<_}
 use native.Mathlib.Omega.{arith}
 use borrow.Author.Tests.{eq-eqb, ne-eqb}
 use lib.ListN.{getD}
-use Rattle.vectors.specs.Case.{pair, columnSize, numberAt, headOf}
+use Rattle.vectors.specs.Case.{pair, columnSize, numberAt, quadAt, wordAt, headOf}
 use Rattle.vectors.specs.declared.case.Head.{Head}
 
 module _ (s : List ℕ) (at w i r : ℕ) where
@@ -29,3 +29,14 @@ pub head-is : (s : List ℕ) (a b c d e : ℕ) → a ≡ getD s 0 0 → b ≡ ge
     → e ≡ pair (getD s 6 0) (getD s 7 0) → _≡_ {A = Head} (record { call = a; width = b; objects = c; size = d + 65536 * e }) (headOf s)
 unfolding headOf
 head-is s a b c d e p q r t u = rw (p, q, r, t, u)
+
+-- ---- four bytes and eight
+
+pub quad-is : (s : List ℕ) (at a b : ℕ) → a ≡ pair (getD s at 0) (getD s (at + 1) 0) → b ≡ pair (getD s (at + 2) 0) (getD s (at + 2 + 1) 0)
+    → a < 65536 → b < 65536 → (a + 65536 * b ≡ quadAt s at) × (a + 65536 * b < 2 ^ 32)
+unfolding quadAt
+quad-is s at a b p q h l = (rw (p, q), omega arith)
+
+pub word-is : (s : List ℕ) (at a b : ℕ) → a ≡ quadAt s at → b ≡ quadAt s (at + 4) → a + 4294967296 * b ≡ wordAt s at
+unfolding wordAt
+word-is s at a b p q = rw (p, q)

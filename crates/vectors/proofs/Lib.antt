@@ -1,3 +1,4 @@
 pub mod CaseLaws
+pub mod FloatLaws
 pub mod HeldLaws
 pub mod LentLaws

@@ -19,6 +19,20 @@ unfoldable pub numberAt : List ℕ → ℕ → ℕ → ℕ → ℕ
 unfolding pair
 numberAt s at width i = cond (eqb width 1) (getD s (at + i) 0) (pair (getD s (at + 2 * i) 0) (getD s (at + 2 * i + 1) 0))
 
+-- four bytes at a place
+unfoldable pub quadAt : List ℕ → ℕ → ℕ
+unfolding pair
+quadAt s at = pair (getD s at 0) (getD s (at + 1) 0) + 65536 * pair (getD s (at + 2) 0) (getD s (at + 2 + 1) 0)
+
+-- eight bytes at a place
+unfoldable pub wordAt : List ℕ → ℕ → ℕ
+unfolding quadAt
+wordAt s at = quadAt s at + 4294967296 * quadAt s (at + 4)
+
+-- word i of a column that begins at a place
+unfoldable pub columnWord : List ℕ → ℕ → ℕ → ℕ
+columnWord s at i = wordAt s (at + 8 * i)
+
 -- the head: call, width, objects in two bytes, size of the body in four
 unfoldable pub headOf : List ℕ → Head
 unfolding pair

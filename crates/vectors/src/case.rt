@@ -2,7 +2,9 @@
 ghost use mathlib.Core.Path.{_≡_};
 ghost use Prim.Native.Nat.{_+_, _*_, _^_, _<_, _≤_};
 ghost use lib.ListN.{getD};
-ghost use Rattle.vectors.specs.Case.{pair, columnSize, numberAt, headOf};
+ghost use lib.Ieee as Ieee;
+ghost use lib.Ieee.{binary64};
+ghost use Rattle.vectors.specs.Case.{pair, columnSize, numberAt, quadAt, wordAt, headOf};
 
 // Which call, how many bytes a number of its columns has, how many objects, and how many bytes the body.
 pub struct Head {
@@ -51,6 +53,32 @@ pub fn number_at(s: &[u8], at: usize, width: u8, i: usize) -> u16
         return byte_at(s, at + i) as u16;
     }
     pair_at(s, at + 2 * i)
+}
+
+// The number of four bytes at a place.
+pub fn quad_at(s: &[u8], at: usize) -> u64
+    requires { ⌜ at + 4 < 2 ^ 32 ⌝ }
+    ensures { λ r. ⌜ (r ≡ quadAt (now (s .entry)) at) × (r < 2 ^ 32) ⌝ }
+{
+    pair_at(s, at) as u64 + 65536 * (pair_at(s, at + 2) as u64)
+}
+
+// The number of eight bytes at a place.
+pub fn word_at(s: &[u8], at: usize) -> u64
+    requires { ⌜ at + 8 < 2 ^ 32 ⌝ }
+    ensures { λ r. ⌜ r ≡ wordAt (now (s .entry)) at ⌝ }
+{
+    quad_at(s, at) + 4294967296 * quad_at(s, at + 4)
+}
+
+// The float that has these bits.
+pub fn float_of(bits: u64) -> f64
+    ensures { λ r. ⌜ r ≡ Ieee.ofBits binary64 bits ⌝ }
+{
+    if bits % 0x8000_0000_0000_0000 > 0x7FF0_0000_0000_0000 {
+        return 0.0 / 0.0;
+    }
+    f64::from_bits(bits)
 }
 
 pub fn read_head(s: &[u8]) -> Head

@@ -3,7 +3,7 @@ ghost use mathlib.Core.Path.{_≡_};
 ghost use Prim.Native.Nat.{_+_, _*_, _^_, _<_};
 ghost use lib.Ieee as Ieee;
 ghost use lib.Ieee.{binary64};
-ghost use Rattle.vectors.specs.Case.{numberAt};
+ghost use Rattle.vectors.specs.Case.{numberAt, columnWord};
 ghost use Rattle.vectors.specs.Held.{Tells, Held, expected, bitsOf};
 use crate::case;
 
@@ -74,29 +74,39 @@ pub fn bytes(s: &[u8], at: usize, n: usize, mark: u8, got: &[u8]) -> bool
     true
 }
 
-fn bits_expected(n: usize, mark: f64, i: usize) -> u64
-    ensures { λ r. ⌜ r ≡ expected n (λ i. 0) (Ieee.toBits binary64 mark) i ⌝ }
+fn bits_expected(s: &[u8], at: usize, n: usize, mark: f64, i: usize) -> u64
+    requires { ⌜ at + 8 * n < 2 ^ 32 ⌝ }
+    ensures { λ r. ⌜ r ≡ expected n (columnWord (now (s .entry)) at) (Ieee.toBits binary64 mark) i ⌝ }
 {
     if i < n {
-        0
+        case::word_at(s, at + 8 * i)
     } else {
         numeric::canonical::bits(mark)
     }
 }
 
-// Whether `got` holds n times +0.0, and then the mark, by their bits.
-pub fn zero_floats(n: usize, mark: f64, got: &[f64]) -> bool
-    ensures { λ r. ⌜ Tells r (Held n (λ i. 0) (Ieee.toBits binary64 mark) (bitsOf (now (got .entry)))) ⌝ }
+// Whether `got` holds the n floats from a place on, and then the mark, by their bits.
+pub fn floats(s: &[u8], at: usize, n: usize, mark: f64, got: &[f64]) -> bool
+    requires { ⌜ at + 8 * n < 2 ^ 32 ⌝ }
+    ensures { λ r. ⌜ Tells r (Held n (columnWord (now (s .entry)) at) (Ieee.toBits binary64 mark) (bitsOf (now (got .entry)))) ⌝ }
 {
     if got.len() < n {
         return false;
     }
     let mut i = 0;
     while i < got.len() {
-        if numeric::canonical::bits(got[i]) != bits_expected(n, mark, i) {
+        if numeric::canonical::bits(got[i]) != bits_expected(s, at, n, mark, i) {
             return false;
         }
         i += 1;
     }
     true
+}
+
+// Whether `got` holds n times +0.0, and then the mark, by their bits.
+pub fn zero_floats(n: usize, mark: f64, got: &[f64]) -> bool
+    requires { ⌜ 8 * n < 2 ^ 32 ⌝ }
+    ensures { λ r. ⌜ Tells r (Held n (λ i. 0) (Ieee.toBits binary64 mark) (bitsOf (now (got .entry)))) ⌝ }
+{
+    floats(b"", 0, n, mark, got)
 }

@@ -2,3 +2,4 @@
 pub mod case;
 pub mod held;
 pub mod lent;
+pub mod table;

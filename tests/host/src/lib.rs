@@ -2,6 +2,7 @@
 
 pub mod chart;
 pub mod check;
+pub mod colour;
 pub mod lent;
 pub mod plain;
 pub mod samples;

@@ -1,16 +1,8 @@
 -- `dresserduck_encode` meets its contract: the call's own outcome, its answer turned into a record. Assumes nothing.
-use mathlib.Core.Path.{_≡_, ap, _∙_}
-use Rattle.grouping_encode.specs.Encode.{Memory, Outcome}
-use Rattle.grouping_encode.specs.declared.Encoding.{Encoding}
-use Rattle.dresserduck.specs.Host.{encodedOf, HostOutcome, encodeForHost}
-use Rattle.dresserduck.specs.declared.Encoded.{Encoded}
+use Rattle.dresserduck.proofs.HostLaws.{encode-for-host}
 use borrow.Author.Needs.{needs}
 use Rattle.dresserduck.proofs.dresserduck_encode.Statement.{statement}
 use Rattle.dresserduck.proofs.dresserduck_encode.Tie as tie
-
-for-host : {a : Encoding} {m : Memory} {r : Encoded} (o : Outcome) → r ≡ encodedOf a → _≡_ {A = Outcome} (record { answer = a; memory = m }) o → _≡_ {A = HostOutcome Encoded Memory} (record { answer = r; memory = m }) (encodeForHost o)
-unfolding encodeForHost
-for-host {m} o e f = (λ t. record { answer = e t; memory = m }) ∙ ap encodeForHost f
 
 encode-requires : tie.Need-encode-requires
 encode-requires c κs = search needs
@@ -43,7 +35,7 @@ same-length-8 : tie.Need-same-length-8
 same-length-8 c = search needs
 
 returns : tie.Need-returns
-returns c = for-host _ (c .encoded-of .ensures) (c .before .before .before .before .before .before .before .before .before .before .before .before .before .before .before .before .before .encode .ensures)
+returns c = encode-for-host _ (c .encoded-of .ensures) (c .before .before .before .before .before .before .before .before .before .before .before .before .before .before .before .before .before .encode .ensures)
 
 pub dresserduck-encode-spec : {M : Type 1} → statement M
 dresserduck-encode-spec =

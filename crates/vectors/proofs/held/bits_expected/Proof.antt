@@ -1,18 +1,36 @@
 -- The definition's two cases.
-use mathlib.Core.Path.{refl}
 use Rattle.vectors.proofs.HeldLaws.{expected-front, expected-past}
-use borrow.Author.Needs.{needs}
+use Rattle.vectors.specs.Case.{columnWord}
+use native.Mathlib.Omega.{arith}
 use Rattle.vectors.proofs.held.bits_expected.Statement.{statement}
 use Rattle.vectors.proofs.held.bits_expected.Tie as tie
 
+mul-word-at : tie.Need-mul-word-at
+mul-word-at c = omega arith
+
+add-word-at : tie.Need-add-word-at
+add-word-at c = omega arith
+
+word-at-requires : tie.Need-word-at-requires
+word-at-requires c κs = omega arith
+
 bits-requires : tie.Need-bits-requires
-bits-requires c κs = search needs
+bits-requires c κs = omega arith
 
 returns : tie.Need-returns
-returns c = expected-front _ _ _ _ _ (c .if1 .taken) refl
+unfolding columnWord
+returns c = expected-front _ _ _ _ _ (c .before .if1 .taken) (c .word-at .ensures)
 
 returns-2 : tie.Need-returns-2
 returns-2 c = expected-past _ _ _ _ _ (c .before .if1 .left) (c .bits .ensures)
 
 pub bits-expected-spec : {M : Type 1} → statement M
-bits-expected-spec = tie.close (tie.spec bits-requires returns returns-2)
+bits-expected-spec =
+    tie.close
+    (tie.spec
+    mul-word-at
+    add-word-at
+    word-at-requires
+    bits-requires
+    returns
+    returns-2)

@@ -1,7 +1,8 @@
 -- The loop's invariant: every place passed holds the mark.
 use Prim.Native.Nat.{_-_}
+use mathlib.Core.Path.{refl}
 use lib.ListN.{length}
-use Rattle.vectors.proofs.LentLaws.{Marked, marked-start, marked-turn, filled-end}
+use Rattle.vectors.proofs.LentLaws.{Marked, marked-end, filled-start, filled-turn}
 use native.Mathlib.Omega.{arith}
 use Rattle.vectors.proofs.lent.mark_numbers.Statement.{statement}
 use Rattle.vectors.proofs.lent.mark_numbers.Tie as tie
@@ -13,7 +14,7 @@ abbrev μ-loop : tie.MeasureT-loop
 μ-loop s₀ mark i₀ s i = length s₀ - i
 
 loop-holds : tie.Need-loop-holds Inv-loop μ-loop
-loop-holds c = marked-start _ _
+loop-holds c = filled-start _ _ _
 
 mul-s : tie.Need-mul-s Inv-loop μ-loop
 mul-s c = omega arith
@@ -28,13 +29,13 @@ loop-less : tie.Need-loop-less Inv-loop μ-loop
 loop-less c = omega arith
 
 loop-again : tie.Need-loop-again Inv-loop μ-loop
-loop-again c = marked-turn (c .before .loop .inv) (omega arith)
+loop-again c = filled-turn (c .before .loop .inv) (omega arith) refl
 
 same-length : tie.Need-same-length Inv-loop μ-loop
 same-length c = c .before .loop .inv .long
 
 returns : tie.Need-returns Inv-loop μ-loop
-returns c = filled-end (c .before .loop .inv) (omega arith)
+returns c = marked-end (c .before .loop .inv) (omega arith)
 
 pub mark-numbers-spec : {M : Type 1} → statement M
 mark-numbers-spec =

@@ -1,0 +1,80 @@
+-- Alternating patterns: a boundary between two streaks of unequal length cuts the list of streaks, and the patterns behind it are those of the back alone.
+use mathlib.Core.Path.{_≡_, refl, sym, ap, _∙_}
+use mathlib.Core.List.{List, _++_}
+use Prim.Native.Nat.{ℕ, zero, suc, _+_, _-_, _<_}
+use native.Mathlib.Omega.{arith}
+use lib.ListN.{length, getD, List·getD-append}
+use lib.Seq.{getD-append-add}
+use borrow.Author.Tests.{ne-eqb}
+use Rattle.grouping_marks.specs.Marks.{groupSizes, groupFirsts}
+use Rattle.grouping_marks.proofs.FillLaws.{getD-tabulate}
+use Rattle.grouping_color.specs.AlternatingMonoPattern.{opensPattern, patternMarks}
+use Rattle.grouping_color.proofs.LengthLaws.{length-patternMarks}
+use Rattle.agreement.proofs.MadeLaws.{patternMarks-made}
+use Rattle.agreement.proofs.TailLaws.{Opening, opening-at, sizes-cut, firsts-cut}
+use Rattle.agreement.proofs.TableLaws.{tabulate-cut₂}
+
+-- ---- which streak opens a pattern (these three belong to grouping_color)
+
+pub opensPattern-first : (lengths : List ℕ) → opensPattern lengths 0 ≡ 1
+unfolding opensPattern
+opensPattern-first lengths = refl
+
+opensPattern-differs : (lengths : List ℕ) (i : ℕ) → 0 < i → (getD lengths i 0 ≡ getD lengths (i - 1) 0 → ⊥) → opensPattern lengths i ≡ 1
+unfolding opensPattern
+opensPattern-differs lengths i h n = let z : i ≡ 0 → ⊥ = λ e. omega arith in rw (ne-eqb i 0 z, ne-eqb _ _ n)
+
+-- two lists with the same two lengths at the place and before it
+opensPattern-same : (ls ms : List ℕ) (i j : ℕ) → 0 < i → 0 < j → getD ls i 0 ≡ getD ms j 0 → getD ls (i - 1) 0 ≡ getD ms (j - 1) 0 → opensPattern ls i ≡ opensPattern ms j
+unfolding opensPattern
+opensPattern-same ls ms i j h k e f =
+    let z : i ≡ 0 → ⊥ = λ q. omega arith in
+    let y : j ≡ 0 → ⊥ = λ q. omega arith in
+    rw (ne-eqb i 0 z, ne-eqb j 0 y, e, f)
+
+-- ---- the cut
+
+-- the streak before the cut and the one after it have unequal lengths
+pub record Uneven (front back : List ℕ) : Type 0 where
+  pub some : 0 < length front
+  pub differs : getD back 0 0 ≡ getD front (length front - 1) 0 → ⊥
+
+module _ (front back : List ℕ) (u : Uneven front back) where
+  front-same : (i : ℕ) → i < length front → opensPattern (front ++ back) i ≡ opensPattern front i
+  front-same zero h = opensPattern-first (front ++ back) ∙ sym (opensPattern-first front)
+  front-same (suc i) h =
+      opensPattern-same (front ++ back) front (suc i) (suc i) (omega arith) (omega arith)
+      (List·getD-append front back 0 (suc i) h) (List·getD-append front back 0 (suc i - 1) (omega arith))
+
+  back-same : (i : ℕ) → i < length back → opensPattern (front ++ back) (length front + i) ≡ opensPattern back i
+  back-same zero h =
+      opensPattern-differs (front ++ back) (length front + 0) (omega arith)
+      (λ e. u .differs
+      (sym (getD-append-add front back 0 0) ∙ e ∙ ap (λ (k : ℕ). getD (front ++ back) k 0) (omega arith) ∙ List·getD-append front back 0 (length front - 1) (omega arith)))
+      ∙ sym (opensPattern-first back)
+  back-same (suc i) h =
+      opensPattern-same (front ++ back) back (length front + suc i) (suc i) (omega arith) (omega arith)
+      (getD-append-add front back (suc i) 0)
+      (ap (λ (k : ℕ). getD (front ++ back) k 0) (omega arith) ∙ getD-append-add front back (suc i - 1) 0)
+
+  pub patternMarks-cut : patternMarks (front ++ back) ≡ patternMarks front ++ patternMarks back
+  patternMarks-cut =
+      rw (patternMarks-made (front ++ back), patternMarks-made front, patternMarks-made back)
+      (tabulate-cut₂ (opensPattern (front ++ back)) (opensPattern front) (opensPattern back) front back front-same back-same)
+
+-- the back's first streak opens a pattern
+pub patternMarks-opening : (back : List ℕ) → Opening (patternMarks back)
+patternMarks-opening back =
+    opening-at (patternMarks back)
+    (λ h. ap (λ (l : List ℕ). getD l 0 0) (patternMarks-made back) ∙ getD-tabulate (opensPattern back) (length back) 0 0 (omega (arith, length-patternMarks back)) ∙ opensPattern-first back)
+
+-- of the patterns, the streak counts, and what is listed of their first streaks
+module _ (front back : List ℕ) (u : Uneven front back) where
+  pub counts-cut : groupSizes (patternMarks (front ++ back)) ≡ groupSizes (patternMarks front) ++ groupSizes (patternMarks back)
+  counts-cut = ap groupSizes (patternMarks-cut front back u) ∙ sizes-cut (patternMarks front) (patternMarks back) (patternMarks-opening back)
+
+  pub listed-cut : (xs ys : List ℕ) → length front ≡ length xs → length back ≡ length ys
+      → groupFirsts (patternMarks (front ++ back)) (xs ++ ys) ≡ groupFirsts (patternMarks front) xs ++ groupFirsts (patternMarks back) ys
+  listed-cut xs ys e f =
+      ap (λ (l : List ℕ). groupFirsts l (xs ++ ys)) (patternMarks-cut front back u)
+      ∙ firsts-cut (patternMarks front) (patternMarks back) xs ys (patternMarks-opening back) (length-patternMarks front ∙ e) (length-patternMarks back ∙ f)

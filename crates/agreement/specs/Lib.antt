@@ -1,0 +1,3 @@
+pub mod Landmark
+pub mod LandmarkTest
+pub mod Agreement

@@ -1,0 +1,107 @@
+-- The outcomes of colour and stretch, case by case, over plain lists: a refusal leaves all as lent, and an accepted call has room in every slice. Assumes nothing.
+use mathlib.Core.Path.{_≡_, refl, sym, ap, _∙_}
+use mathlib.Core.Bool.{Bool, true, false, _||_, cond, true≢false}
+use mathlib.Core.List.{List}
+use Prim.Native.Nat.{ℕ, _*_, _≤_, _<_}
+use native.Mathlib.Omega.{arith}
+use borrow.Author.Tests.{ltb-false, leb-false}
+use lib.Dec.{ltb, leb}
+use lib.IntN.{ℤ}
+use lib.ListN.{length}
+use lib.Ieee.{Float}
+use Rattle.grouping_chart.specs.Chart.{Chart, size}
+use Rattle.grouping_chart.specs.Refusal.{verdict}
+use Rattle.grouping_chart.specs.declared.object.ObjectIndex.{ObjectIndex}
+use Rattle.grouping_chart.specs.declared.chart.Verdict.{Verdict}
+use Rattle.grouping_chart.specs.declared.chart.Verdict.the-variants.{Accepted, Refused}
+use Rattle.grouping_chart.proofs.AcceptedLaws.{accepted-good}
+use Rattle.evaluator_calls.specs.declared.Colouring.{Colouring}
+use Rattle.evaluator_calls.specs.declared.Colouring.the-variants as colouring
+use Rattle.evaluator_calls.specs.declared.Stretching.{Stretching}
+use Rattle.evaluator_calls.specs.declared.Stretching.the-variants as stretching
+use Rattle.evaluator_calls.specs.Stretch.{meanOf, meanTenths}
+use Rattle.evaluator_calls.specs.Calls.{Memory, Outcome, short, valuesOf, filled, colourBy, colourOutcome, stretchVerdict, stretchBy, stretchOutcome}
+use Rattle.evaluator_calls.specs.Passes.{ChartRoom, Coloured}
+
+-- ---- no slice is too short
+or-both : (a b : Bool) → (a || b) ≡ false → (a ≡ false) × (b ≡ false)
+or-both true b h = absurd (true≢false h)
+or-both false b h = (refl, h)
+
+pub record Enough (n : ℕ) (m : Memory) : Type 0 where
+  pub value : n ≤ length (m .value)
+  pub work : 8 * n ≤ length (m .work)
+  pub scratch : n ≤ length (m .scratch)
+
+enough : (n : ℕ) (m : Memory) → short n m ≡ false → Enough n m
+unfolding short
+enough n m h =
+    let h1 = or-both _ _ h in
+    let h2 = or-both _ _ (h1 .1) in
+    record { value = ltb-false _ _ (h1 .0); work = ltb-false _ _ (h2 .0); scratch = ltb-false _ _ (h2 .1) }
+
+-- ---- a stretch that is not refused
+pub record Within (v : Verdict) (n a b : ℕ) : Type 0 where
+  pub accepted : v ≡ Accepted
+  pub some : a < b
+  pub inside : b ≤ n
+
+not-refused : (b : Bool) (number : ℕ) (at : ObjectIndex) → cond b (Refused number at) Accepted ≡ Accepted → b ≡ false
+not-refused true number at e = absurd (let z : _≡_ {A = ℕ} 0 1 = cc in omega arith)
+not-refused false number at e = refl
+
+pub within-bounds : (v : Verdict) (n a b : ℕ) → stretchVerdict v n a b ≡ Accepted → Within v n a b
+unfolding stretchVerdict
+within-bounds Accepted n a b e =
+    let t = or-both _ _ (not-refused (leb b a || ltb n b) _ _ e) in
+    record { accepted = refl; some = leb-false _ _ (t .0); inside = ltb-false _ _ (t .1) }
+within-bounds (Refused number at) n a b e = absurd (let z : _≡_ {A = ℕ} 0 1 = cc in omega arith)
+
+-- ---- what the tests that were run say of the definition's verdict
+module _ (c : Chart) (m : Memory) where
+  abbrev pub judged : Verdict
+  judged = verdict c (short (size c) m)
+
+  -- the verdict on the call, from what `too_short` and `check` answered
+  pub verdict-is : (s : Bool) (v w : Verdict) → s ≡ short (size c) m → v ≡ verdict c s → v ≡ w → judged ≡ w
+  verdict-is s v w e f g = sym (ap (verdict c) e) ∙ sym f ∙ g
+
+  has-room : judged ≡ Accepted → Enough (size c) m
+  has-room h = enough (size c) m (accepted-good c (short (size c) m) h .room)
+
+  pub chart-room : judged ≡ Accepted → ChartRoom (size c) (c .ratios) (m .value) (m .work) (m .scratch)
+  chart-room h =
+      let g = accepted-good c (short (size c) m) h in
+      let r = has-room h in
+      record { regions = record { few = g .few; room = r .work }; values = record { ratio = g .lengths .ratio; room = r .value }; floats = r .scratch }
+
+  -- the memory that the passes leave is the definition's
+  pub filled-is : (value scratch : List Float) (work : List ℕ) → Coloured (c .kinds) (c .ratios) (m .value) value (m .work) work (m .scratch) scratch
+      → _≡_ {A = Memory} (record { value = value; work = work; scratch = scratch }) (filled c m)
+  unfolding filled valuesOf
+  filled-is value scratch work e t = record { value = e .values t; work = e .cleared t; scratch = e .floats t }
+
+  pub colour-refused : (number : ℕ) (place : ObjectIndex) → judged ≡ Refused number place
+      → _≡_ {A = Outcome Colouring} (record { answer = colouring.Refused number place; memory = m }) (colourOutcome c m)
+  unfolding colourOutcome colourBy
+  colour-refused number place h = sym (ap (λ (v : Verdict). colourBy v c m) h)
+
+  pub colour-done : (new : Memory) → judged ≡ Accepted → new ≡ filled c m → _≡_ {A = Outcome Colouring} (record { answer = colouring.Done; memory = new }) (colourOutcome c m)
+  unfolding colourOutcome colourBy
+  colour-done new h f = (λ t. record { answer = colouring.Done; memory = f t }) ∙ sym (ap (λ (v : Verdict). colourBy v c m) h)
+
+  module _ (a b : ℕ) where
+    -- the same, with what `with_bounds` answered
+    pub stretch-is : (s : Bool) (u v w : Verdict) → s ≡ short (size c) m → u ≡ verdict c s → v ≡ stretchVerdict u (size c) a b → v ≡ w → stretchVerdict judged (size c) a b ≡ w
+    stretch-is s u v w e f g h = ap (λ (x : Verdict). stretchVerdict x (size c) a b) (verdict-is s u u e f refl) ∙ sym g ∙ h
+
+    pub stretch-refused : (number : ℕ) (place : ObjectIndex) → stretchVerdict judged (size c) a b ≡ Refused number place
+        → _≡_ {A = Outcome Stretching} (record { answer = stretching.Refused number place; memory = m }) (stretchOutcome c a b m)
+    unfolding stretchOutcome stretchBy
+    stretch-refused number place h = sym (ap (λ (v : Verdict). stretchBy v c a b m) h)
+
+    pub stretch-done : (mean : Float) (tenths : ℤ) (new : Memory) → stretchVerdict judged (size c) a b ≡ Accepted → mean ≡ meanOf (valuesOf c) a b → tenths ≡ meanTenths (valuesOf c) a b
+        → new ≡ filled c m → _≡_ {A = Outcome Stretching} (record { answer = stretching.Done mean tenths; memory = new }) (stretchOutcome c a b m)
+    unfolding stretchOutcome stretchBy
+    stretch-done mean tenths new h e f g =
+        (λ t. record { answer = stretching.Done (e t) (f t); memory = g t }) ∙ sym (ap (λ (v : Verdict). stretchBy v c a b m) h)

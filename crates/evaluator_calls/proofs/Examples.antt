@@ -1,0 +1,97 @@
+-- Document 01's starred charts "no objects" and "d", run by the definitions: colour and stretch into memory of exactly the size asked, bits and all. Assumes nothing.
+use mathlib.Core.Path.{_≡_, refl}
+use mathlib.Core.Bool.{false}
+use mathlib.Core.List.{List, [], _∷_, map}
+use Prim.Native.Nat.{ℕ, _*_}
+use lib.IntN.{pos}
+use lib.ListN.{length, replicate}
+use lib.Ieee.{inf, binary64, round, add, sub, mul, div, le, ofInt, ofBits, toBits}
+use Rattle.numeric.specs.Logistic.{tableBits, logisticAt}
+use Rattle.numeric.specs.Near.{isNear}
+use Rattle.numeric.specs.Tenths.{tenthsOf}
+use Rattle.grouping_marks.specs.Over.{over, part}
+use Rattle.grouping_marks.specs.Scan.{scan, after, tabulate, gathered}
+use Rattle.grouping_marks.specs.Marks.{opened, groupCount, groupNumbers, placeAt, groupPlaces, sizesFrom, groupSizes, firstsFrom, groupFirsts}
+use Rattle.grouping_chart.specs.Object.{isNote, notes, noteIdx, noteBefore, previousNote}
+use Rattle.grouping_chart.specs.Chart.{Chart, even}
+use Rattle.grouping_chart.specs.Refusal.{within, timeGood, ratioGood, objectRefusal, firstRefused, verdict}
+use Rattle.grouping_color.specs.MonoStreak.{continues, opensStreak, streakMarks, streakOf, streakLengths, streakTypes}
+use Rattle.grouping_color.specs.AlternatingMonoPattern.{opensPattern, patternMarks, coupledAt, coupled}
+use Rattle.grouping_color.specs.RepeatingHitPatterns.{stageAfter, opensHit, hitMarks, secondAt, secondLengths, matches, nearestMatch, intervalAt, intervals}
+use Rattle.grouping_color.specs.Preprocessor.{patternsOpen, firstLengths, streakCounts, patternTypes, hitsOpen, hitCount, hitSizes, hitFirsts, hitSeconds, hitIntervals, streakPlaceOf, patternOf, patternPlaceOf, hitOf, intervalOf}
+use Rattle.evaluator_color.specs.Color.{zero, one, hitValue, altValue, monoValue, addIf, objectSum}
+use Rattle.evaluator_color.specs.RatioPenalty.{eightTenths, lowered, ratioPenalty}
+use Rattle.evaluator_calls.specs.declared.Colouring.{Colouring}
+use Rattle.evaluator_calls.specs.declared.Colouring.the-variants as colouring
+use Rattle.evaluator_calls.specs.declared.Stretching.{Stretching}
+use Rattle.evaluator_calls.specs.declared.Stretching.the-variants as stretching
+use Rattle.evaluator_calls.specs.Colour.{isFirst, lookedAt, colourAt, colourValues}
+use Rattle.evaluator_calls.specs.Stretch.{sumFrom, meanOf, meanTenths}
+use Rattle.evaluator_calls.specs.Calls.{Memory, Outcome, baseTolerance, short, valuesOf, filled, colourBy, colourOutcome, stretchVerdict, stretchBy, stretchOutcome}
+
+-- starts and deltas 0.0, ratios 1.0
+unfoldable pub chart : List ℕ → Chart
+chart kinds = record { kinds = kinds; starts = replicate (length kinds) zero; deltas = replicate (length kinds) zero; ratios = replicate (length kinds) one }
+
+-- n values, 8 n and n places of work, none of them 0 before the call
+unfoldable pub lent : ℕ → Memory
+lent n = record { value = replicate n (inf false); work = replicate (8 * n) 7; scratch = replicate n one }
+
+-- an outcome with each f64 as its bits
+pub record Shown (Answer : Type 0) : Type 0 where
+  pub answer : Answer
+  pub value : List ℕ
+  pub work : List ℕ
+  pub scratch : List ℕ
+
+unfoldable pub shown : {Answer : Type 0} → Outcome Answer → Shown Answer
+shown o = record {
+  answer = o .answer;
+  value = map (toBits binary64) (o .memory .value);
+  work = o .memory .work;
+  scratch = map (toBits binary64) (o .memory .scratch);
+}
+
+pub record Example : Type 0 where
+  pub kinds : List ℕ
+  pub outcome : Shown Colouring
+
+unfoldable pub examples : List Example
+examples =
+    -- no objects: accepted, nothing written
+    record { kinds = []; outcome = record { answer = colouring.Done; value = []; work = []; scratch = [] } }
+    -- d: T(0) × (T(0) × 2) × 0.5, plus T(0) × 2, plus 2, rounded in order
+    ∷ record {
+      kinds = 0 ∷ [];
+      outcome = record { answer = colouring.Done; value = 0x4013_ee42_c838_4268 ∷ []; work = replicate 8 0; scratch = 0 ∷ [] };
+    }
+    ∷ []
+
+pub record StretchExample : Type 0 where
+  pub kinds : List ℕ
+  pub a : ℕ
+  pub b : ℕ
+  pub outcome : Shown Stretching
+
+unfoldable pub stretches : List StretchExample
+stretches =
+    -- d, b = n: the value itself, which is 4.98..
+    record {
+      kinds = 0 ∷ [];
+      a = 0;
+      b = 1;
+      outcome = record { answer = stretching.Done (ofBits binary64 0x4013_ee42_c838_4268) (pos 49); value = 0x4013_ee42_c838_4268 ∷ []; work = replicate 8 0; scratch = 0 ∷ [] };
+    }
+    -- d, b = n + 1, and a = b: refused, and all as lent
+    ∷ record { kinds = 0 ∷ []; a = 0; b = 2; outcome = untouched }
+    ∷ record { kinds = 0 ∷ []; a = 1; b = 1; outcome = untouched }
+    ∷ []
+  where
+    untouched : Shown Stretching
+    untouched = record { answer = stretching.Refused 9 (record { 0 = 0 }); value = 0x7ff0_0000_0000_0000 ∷ []; work = replicate 8 7; scratch = 0x3ff0_0000_0000_0000 ∷ [] }
+
+-- every one of the two lists comes out as it says
+pub examples-right : (map (λ (e : Example). shown (colourOutcome (chart (e .kinds)) (lent (length (e .kinds))))) examples ≡ map (λ (e : Example). e .outcome) examples)
+    × (map (λ (e : StretchExample). shown (stretchOutcome (chart (e .kinds)) (e .a) (e .b) (lent (length (e .kinds))))) stretches ≡ map (λ (e : StretchExample). e .outcome) stretches)
+unfolding examples stretches chart lent shown colourOutcome colourBy stretchOutcome stretchBy stretchVerdict meanTenths tenthsOf meanOf sumFrom part ofInt short verdict even firstRefused objectRefusal timeGood ratioGood within filled valuesOf baseTolerance colourValues colourAt lookedAt isFirst over tabulate scan after gathered opened groupCount groupNumbers placeAt groupPlaces sizesFrom groupSizes firstsFrom groupFirsts isNote notes noteIdx noteBefore previousNote continues opensStreak streakMarks streakOf streakLengths streakTypes opensPattern patternMarks coupledAt coupled stageAfter opensHit hitMarks secondAt secondLengths matches nearestMatch intervalAt intervals patternsOpen firstLengths streakCounts patternTypes hitsOpen hitCount hitSizes hitFirsts hitSeconds hitIntervals streakPlaceOf patternOf patternPlaceOf hitOf intervalOf objectSum hitValue altValue monoValue addIf ratioPenalty lowered eightTenths logisticAt tableBits isNear round add sub mul div le ofBits toBits
+examples-right = (refl, refl)

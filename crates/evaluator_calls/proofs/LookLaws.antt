@@ -1,0 +1,38 @@
+-- What the evaluator looks at, put together from what was looked up; and the list of values, element by element. Assumes nothing.
+use mathlib.Core.Path.{_≡_, sym, ap, _∙_}
+use mathlib.Core.Bool.{Bool, true, cond, not}
+use mathlib.Core.List.{List}
+use Prim.Native.Nat.{ℕ, _-_, _<_}
+use borrow.Author.Tests.{eq-eqb, ne-eqb}
+use lib.Dec.{eqb}
+use lib.ListN.{length, getD}
+use lib.Ieee.{Float, nan}
+use Rattle.grouping_marks.proofs.FillLaws.{length-tabulate, getD-tabulate}
+use Rattle.grouping_encode.specs.Encode.{searchLimit}
+use Rattle.evaluator_color.specs.declared.Looked.{Looked}
+use Rattle.evaluator_calls.specs.Colour.{isFirst, lookedAt, colourAt, colourValues}
+use Rattle.evaluator_calls.specs.Passes.{LookedIs}
+
+-- ---- the first object of a group
+pub start-first : (numbers : List ℕ) (i : ℕ) → i ≡ 0 → true ≡ isFirst numbers i
+unfolding isFirst
+start-first numbers i e = sym (ap (λ (b : Bool). cond b true (not (eqb (getD numbers i 0) (getD numbers (i - 1) 0)))) (eq-eqb i 0 e))
+
+pub change-first : (numbers : List ℕ) (i x y : ℕ) → (i ≡ 0 → ⊥) → x ≡ getD numbers i 0 → y ≡ getD numbers (i - 1) 0 → not (eqb x y) ≡ isFirst numbers i
+unfolding isFirst
+change-first numbers i x y h p q =
+    (λ t. not (eqb (p t) (q t))) ∙ sym (ap (λ (b : Bool). cond b true (not (eqb (getD numbers i 0) (getD numbers (i - 1) 0)))) (ne-eqb i 0 h))
+
+pub looked-is : {kinds : List ℕ} {i : ℕ} {r : Looked} → LookedIs kinds i r → r ≡ lookedAt searchLimit kinds i
+unfolding lookedAt
+looked-is e t = record { interval = e .interval t; outer = e .outer t; inner = e .inner t; streak = e .streak t; pattern = e .pattern t; hit = e .hit t }
+
+-- ---- the values
+module _ (limit : ℕ) (tolerance : Float) (kinds : List ℕ) (ratios : List Float) where
+  pub length-values : length (colourValues limit tolerance kinds ratios) ≡ length kinds
+  unfolding colourValues
+  length-values = length-tabulate (colourAt limit tolerance kinds ratios) (length kinds)
+
+  pub value-of : (i : ℕ) → i < length kinds → getD (colourValues limit tolerance kinds ratios) i nan ≡ colourAt limit tolerance kinds ratios i
+  unfolding colourValues
+  value-of i h = getD-tabulate (colourAt limit tolerance kinds ratios) (length kinds) i nan h

@@ -1,0 +1,104 @@
+-- The encoder's tables, looked up for one object: each number is in range, and what stands there is the definition's. Assumes nothing.
+use mathlib.Core.Path.{_≡_, refl, sym, ap, _∙_}
+use mathlib.Core.List.{List}
+use Prim.Native.Nat.{ℕ, _+_, _*_, _<_}
+use native.Mathlib.Omega.{arith}
+use lib.ListN.{length, getD, replicate, length-replicate}
+use lib.Ieee.{Float, binary64, ofBits}
+use Rattle.grouping_marks.specs.Over.{over, part}
+use Rattle.grouping_marks.specs.Scan.{gathered}
+use Rattle.grouping_marks.proofs.OverLaws.{getD-part, over-agree}
+use Rattle.grouping_marks.proofs.FillLaws.{getD-gathered}
+use Rattle.grouping_color.specs.MonoStreak.{streakOf}
+use Rattle.grouping_color.specs.Preprocessor.{streakPlaceOf, patternOf, patternPlaceOf, hitOf, intervalOf}
+use Rattle.grouping_color.specs.Passes.{Regions, Tables}
+use Rattle.grouping_color.specs.declared.preprocessor.Counts.{Counts}
+use Rattle.grouping_color.proofs.BoundLaws.{streakPlaceOf-looked, patternOf-looked, patternPlaceOf-looked, hitOf-looked, intervalOf-looked, length-streakOf, length-patternOf, length-hitOf, streak-below, patternOf-below, hitOf-below}
+use Rattle.grouping_encode.specs.Encode.{searchLimit}
+use Rattle.evaluator_calls.specs.Colour.{colourValues}
+use Rattle.evaluator_calls.specs.Calls.{baseTolerance}
+use Rattle.evaluator_calls.specs.Passes.{Tabled, ObjectIn, NumbersAt, Coloured}
+use Rattle.evaluator_calls.specs.declared.tables.Numbers.{Numbers}
+
+-- ---- the encoder's answer says where its tables lie
+pub tabled : {kinds w₀ w : List ℕ} {k : Counts} → Regions (length kinds) w₀ → Tables searchLimit kinds w₀ w k → Tabled kinds w k
+tabled r t = record {
+  regions = record { few = r .few; room = omega (arith, r .room, t .outside .same) };
+  tables = record {
+    count-s = t .count-s;
+    count-p = t .count-p;
+    count-h = t .count-h;
+    few-s = t .few-s;
+    few-p = t .few-p;
+    few-h = t .few-h;
+    streak = t .streak;
+    pattern = t .pattern;
+    streak-place = t .streak-place;
+    hit = t .hit;
+    pattern-place = t .pattern-place;
+    interval = t .interval;
+    outside = record { same = refl; beyond = refl };
+  };
+}
+
+-- the values written, and the tables cleared
+pub coloured : {kinds w₀ w work : List ℕ} {k : Counts} {ratios value₀ value scratch₀ scratch : List Float} (tolerance : Float) → tolerance ≡ baseTolerance → Tables searchLimit kinds w₀ w k
+    → value ≡ over (colourValues searchLimit tolerance kinds ratios) value₀ → work ≡ over (replicate (8 * length kinds) 0) w
+    → scratch ≡ over (replicate (length kinds) (ofBits binary64 0)) scratch₀ → Coloured kinds ratios value₀ value w₀ work scratch₀ scratch
+coloured {kinds} {w₀} {w} {ratios} {value₀} tolerance e t v z s = record {
+  values = v ∙ ap (λ (x : Float). over (colourValues searchLimit x kinds ratios) value₀) e;
+  cleared = z ∙ over-agree (replicate (8 * length kinds) 0) w w₀ (8 * length kinds) (length-replicate (8 * length kinds) 0) (t .outside .beyond);
+  floats = s;
+}
+
+-- ---- what is looked up
+-- entry s of a table of m places from place a on, where s is the object's number
+looked : (w : List ℕ) (a m : ℕ) (table idx answer : List ℕ) (i s : ℕ) → part a m w ≡ table → gathered table idx ≡ answer → i < length idx → s < m → s ≡ getD idx i 0
+    → getD w (a + s) 0 ≡ getD answer i 0
+looked w a m table idx answer i s t g h r e =
+    sym (getD-part a m w s 0 r) ∙ (λ j. getD (t j) (e j) 0) ∙ sym (getD-gathered table idx i h) ∙ ap (λ (l : List ℕ). getD l i 0) g
+
+module _ {kinds w : List ℕ} {k : Counts} {i : ℕ} (o : ObjectIn kinds w k i) where
+  streak-is : getD w i 0 ≡ getD (streakOf kinds) i 0
+  streak-is =
+      let z : 0 + i ≡ i = omega arith in
+      ap (λ (j : ℕ). getD w j 0) (sym z) ∙ sym (getD-part 0 (length kinds) w i 0 (o .within)) ∙ ap (λ (l : List ℕ). getD l i 0) (o .tabled .tables .streak)
+
+  pub streak-in : getD w i 0 < k .streaks
+  streak-in = omega (arith, streak-is, streak-below kinds i (o .within), o .tabled .tables .count-s)
+
+  pattern-is : getD w (3 * length kinds + getD w i 0) 0 ≡ getD (patternOf kinds) i 0
+  pattern-is =
+      looked w (3 * length kinds) (k .streaks) _ (streakOf kinds) _ i (getD w i 0) (o .tabled .tables .pattern) (patternOf-looked kinds)
+      (omega (arith, length-streakOf kinds, o .within)) streak-in streak-is
+
+  pub pattern-in : getD w (3 * length kinds + getD w i 0) 0 < k .patterns
+  pattern-in = omega (arith, pattern-is, patternOf-below kinds i (o .within), o .tabled .tables .count-p)
+
+  hit-is : getD w (length kinds + getD w (3 * length kinds + getD w i 0) 0) 0 ≡ getD (hitOf kinds) i 0
+  hit-is =
+      looked w (length kinds) (k .patterns) _ (patternOf kinds) _ i (getD w (3 * length kinds + getD w i 0) 0) (o .tabled .tables .hit) (hitOf-looked kinds)
+      (omega (arith, length-patternOf kinds, o .within)) pattern-in pattern-is
+
+  hit-in : getD w (length kinds + getD w (3 * length kinds + getD w i 0) 0) 0 < k .hits
+  hit-in = omega (arith, hit-is, hitOf-below kinds i (o .within), o .tabled .tables .count-h)
+
+  pub numbers-are : NumbersAt kinds k i
+      (record { streak = getD w i 0; pattern = getD w (3 * length kinds + getD w i 0) 0; hit = getD w (length kinds + getD w (3 * length kinds + getD w i 0) 0) 0 })
+  numbers-are = record { streaks = streak-is; patterns = pattern-is; hits = hit-is; in-streaks = streak-in; in-patterns = pattern-in; in-hits = hit-in }
+
+  module _ {r : Numbers} (a : NumbersAt kinds k i r) where
+    pub interval-is : getD w (7 * length kinds + r .hit) 0 ≡ getD (intervalOf searchLimit kinds) i 0
+    interval-is =
+        looked w (7 * length kinds) (k .hits) _ (hitOf kinds) _ i (r .hit) (o .tabled .tables .interval) (intervalOf-looked kinds searchLimit)
+        (omega (arith, length-hitOf kinds, o .within)) (a .in-hits) (a .hits)
+
+    pub outer-is : getD w (2 * length kinds + r .pattern) 0 ≡ getD (patternPlaceOf kinds) i 0
+    outer-is =
+        looked w (2 * length kinds) (k .patterns) _ (patternOf kinds) _ i (r .pattern) (o .tabled .tables .pattern-place) (patternPlaceOf-looked kinds)
+        (omega (arith, length-patternOf kinds, o .within)) (a .in-patterns) (a .patterns)
+
+    pub inner-is : getD w (4 * length kinds + r .streak) 0 ≡ getD (streakPlaceOf kinds) i 0
+    inner-is =
+        looked w (4 * length kinds) (k .streaks) _ (streakOf kinds) _ i (r .streak) (o .tabled .tables .streak-place) (streakPlaceOf-looked kinds)
+        (omega (arith, length-streakOf kinds, o .within)) (a .in-streaks) (a .streaks)

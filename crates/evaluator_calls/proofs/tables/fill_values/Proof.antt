@@ -1,0 +1,61 @@
+-- `fill_values` meets its contract. The invariant: the values of the objects below i are stored. Assumes nothing.
+use mathlib.Core.Path.{sym, _∙_}
+use Prim.Native.Nat.{_-_}
+use native.Mathlib.Omega.{arith}
+use lib.ListN.{length}
+use lib.Ieee.{nan}
+use Rattle.grouping_marks.proofs.FillLaws.{Fill, fill-start-front, fill-turn-front, fill-end-front}
+use Rattle.grouping_encode.specs.Encode.{searchLimit}
+use Rattle.evaluator_calls.specs.Colour.{colourValues}
+use Rattle.evaluator_calls.proofs.LookLaws.{length-values, value-of}
+use Rattle.evaluator_calls.proofs.tables.fill_values.Statement.{statement}
+use Rattle.evaluator_calls.proofs.tables.fill_values.Tie as tie
+
+abbrev Inv-loop : tie.InvT-loop
+Inv-loop kind ratio w k tolerance value₀ i₀ value i = Fill (colourValues searchLimit tolerance kind ratio) (length kind) 0 value₀ value i
+
+abbrev μ-loop : tie.MeasureT-loop
+μ-loop kind ratio w k tolerance value₀ i₀ value i = length kind - i
+
+loop-holds : tie.Need-loop-holds Inv-loop μ-loop
+loop-holds c = fill-start-front _ _ _ (length-values _ _ _ _) (c .before .before .before .before .pre .1 .room)
+
+value-at-requires : tie.Need-value-at-requires Inv-loop μ-loop
+value-at-requires c κs = (record { tabled = c .before .before .before .before .before .before .pre .0; within = c .loop-test .taken }, c .before .before .before .before .before .before .pre .1 .ratio)
+
+mul-value : tie.Need-mul-value Inv-loop μ-loop
+mul-value c = omega (arith, c .before .before .before .before .before .before .before .pre .0 .regions)
+
+slice-write-value : tie.Need-slice-write-value Inv-loop μ-loop
+slice-write-value c = omega (arith, c .before .before .before .before .before .before .before .pre .1)
+
+add-i : tie.Need-add-i Inv-loop μ-loop
+add-i c = omega (arith, c .before .before .before .before .before .before .before .pre .0 .regions)
+
+loop-less : tie.Need-loop-less Inv-loop μ-loop
+loop-less c = omega arith
+
+loop-again : tie.Need-loop-again Inv-loop μ-loop
+loop-again c = fill-turn-front nan (c .before .before .loop .inv) (c .before .loop-test .taken) (c .value-at .ensures ∙ sym (value-of _ _ _ _ _ (c .before .loop-test .taken)))
+
+same-length : tie.Need-same-length Inv-loop μ-loop
+same-length c = c .before .loop .inv .long
+
+returns : tie.Need-returns Inv-loop μ-loop
+returns c = fill-end-front (c .before .loop .inv) (c .loop-test .left)
+
+pub fill-values-spec : {M : Type 1} → statement M
+fill-values-spec =
+    tie.close
+    (tie.spec
+    Inv-loop
+    μ-loop
+    loop-holds
+    value-at-requires
+    mul-value
+    slice-write-value
+    add-i
+    loop-less
+    loop-again
+    same-length
+    returns)

@@ -1,0 +1,113 @@
+-- `look` meets its contract: the object's numbers, what the tables have at them, and where a number differs from the object's before. Assumes nothing.
+use Prim.Native.Nat.{_+_, _*_}
+use native.Mathlib.Omega.{arith}
+use lib.ListN.{length}
+use Rattle.evaluator_calls.proofs.TablesLaws.{interval-is, outer-is, inner-is}
+use Rattle.evaluator_calls.proofs.LookLaws.{start-first, change-first}
+use borrow.Author.Needs.{needs}
+use Rattle.evaluator_calls.proofs.tables.look.Statement.{statement}
+use Rattle.evaluator_calls.proofs.tables.look.Tie as tie
+
+numbers-at-requires : tie.Need-numbers-at-requires
+numbers-at-requires c κs = search needs
+
+mul-interval : tie.Need-mul-interval
+mul-interval c = search needs
+
+add-interval : tie.Need-add-interval
+add-interval c = omega (arith, c .numbers-at .ensures, c .before .before .before .pre)
+
+mul-interval-2 : tie.Need-mul-interval-2
+mul-interval-2 c = omega (arith, c .numbers-at .ensures, c .before .before .before .pre)
+
+shared-slice-read-interval : tie.Need-shared-slice-read-interval
+shared-slice-read-interval c = omega (arith, c .before .numbers-at .ensures, c .before .before .before .before .pre)
+
+cast-interval : tie.Need-cast-interval
+cast-interval c = omega (arith, c .shared-slice-known3 .given (7 * length (c .before .before .before .before .args .kind .now) + c .before .numbers-at .result .hit))
+
+mul-outer : tie.Need-mul-outer
+mul-outer c = search needs
+
+add-outer : tie.Need-add-outer
+add-outer c = omega (arith, c .before .numbers-at .ensures, c .before .before .before .before .pre)
+
+mul-outer-2 : tie.Need-mul-outer-2
+mul-outer-2 c = omega (arith, c .before .numbers-at .ensures, c .before .before .before .before .pre)
+
+shared-slice-read-outer : tie.Need-shared-slice-read-outer
+shared-slice-read-outer c = omega (arith, c .before .before .numbers-at .ensures, c .before .before .before .before .before .pre)
+
+cast-outer : tie.Need-cast-outer
+cast-outer c = omega (arith, c .shared-slice-known4 .given (2 * length (c .before .before .before .before .before .args .kind .now) + c .before .before .numbers-at .result .pattern))
+
+mul-inner : tie.Need-mul-inner
+mul-inner c = search needs
+
+add-inner : tie.Need-add-inner
+add-inner c = omega (arith, c .before .before .numbers-at .ensures, c .before .before .before .before .before .pre)
+
+mul-inner-2 : tie.Need-mul-inner-2
+mul-inner-2 c = omega (arith, c .before .before .numbers-at .ensures, c .before .before .before .before .before .pre)
+
+shared-slice-read-inner : tie.Need-shared-slice-read-inner
+shared-slice-read-inner c = omega (arith, c .before .before .before .numbers-at .ensures, c .before .before .before .before .before .before .pre)
+
+cast-inner : tie.Need-cast-inner
+cast-inner c = omega (arith, c .shared-slice-known5 .given (4 * length (c .before .before .before .before .before .before .args .kind .now) + c .before .before .before .numbers-at .result .streak))
+
+returns : tie.Need-returns
+returns c =
+    let a = c .before .before .before .before .numbers-at .ensures in
+    record {
+      interval = interval-is (c .before .before .before .before .before .before .before .pre) a;
+      outer = outer-is (c .before .before .before .before .before .before .before .pre) a;
+      inner = inner-is (c .before .before .before .before .before .before .before .pre) a;
+      streak = start-first _ _ (c .if1 .taken);
+      pattern = start-first _ _ (c .if1 .taken);
+      hit = start-first _ _ (c .if1 .taken);
+    }
+
+sub-numbers-at : tie.Need-sub-numbers-at
+sub-numbers-at c = search needs
+
+numbers-at-requires-2 : tie.Need-numbers-at-requires-2
+numbers-at-requires-2 c κs = search needs
+
+returns-2 : tie.Need-returns-2
+returns-2 c =
+    let a = c .before .before .before .before .before .before .before .before .numbers-at .ensures in
+    let b = c .before .before .before .numbers-at2 .ensures in
+    record {
+      interval = interval-is (c .before .before .before .before .before .before .before .before .before .before .before .pre) a;
+      outer = outer-is (c .before .before .before .before .before .before .before .before .before .before .before .pre) a;
+      inner = inner-is (c .before .before .before .before .before .before .before .before .before .before .before .pre) a;
+      streak = change-first _ _ _ _ (c .before .before .before .before .if1 .left) (a .streaks) (b .streaks);
+      pattern = change-first _ _ _ _ (c .before .before .before .before .if1 .left) (a .patterns) (b .patterns);
+      hit = change-first _ _ _ _ (c .before .before .before .before .if1 .left) (a .hits) (b .hits);
+    }
+
+pub look-spec : {M : Type 1} → statement M
+look-spec =
+    tie.close
+    (tie.spec
+    numbers-at-requires
+    mul-interval
+    add-interval
+    mul-interval-2
+    shared-slice-read-interval
+    cast-interval
+    mul-outer
+    add-outer
+    mul-outer-2
+    shared-slice-read-outer
+    cast-outer
+    mul-inner
+    add-inner
+    mul-inner-2
+    shared-slice-read-inner
+    cast-inner
+    returns
+    sub-numbers-at
+    numbers-at-requires-2
+    returns-2)

@@ -1,0 +1,65 @@
+-- `numbers_at` meets its contract: an object's streak, the streak's pattern and the pattern's hit pattern, each looked up in a table that has it. Assumes nothing.
+use Prim.Native.Nat.{_+_, _*_}
+use native.Mathlib.Omega.{arith}
+use lib.ListN.{length, getD}
+use Rattle.evaluator_calls.proofs.TablesLaws.{streak-in, pattern-in, numbers-are}
+use borrow.Author.Needs.{needs}
+use Rattle.evaluator_calls.proofs.tables.numbers_at.Statement.{statement}
+use Rattle.evaluator_calls.proofs.tables.numbers_at.Tie as tie
+
+mul-streak : tie.Need-mul-streak
+mul-streak c = search needs
+
+shared-slice-read-streak : tie.Need-shared-slice-read-streak
+shared-slice-read-streak c = search needs
+
+cast-streak : tie.Need-cast-streak
+cast-streak c = omega (arith, c .shared-slice-known .given (c .before .args .i))
+
+mul-pattern : tie.Need-mul-pattern
+mul-pattern c = search needs
+
+add-pattern : tie.Need-add-pattern
+add-pattern c = omega (arith, streak-in (c .before .pre), c .before .pre)
+
+mul-pattern-2 : tie.Need-mul-pattern-2
+mul-pattern-2 c = omega (arith, streak-in (c .before .pre), c .before .pre)
+
+shared-slice-read-pattern : tie.Need-shared-slice-read-pattern
+shared-slice-read-pattern c = omega (arith, streak-in (c .before .before .pre), c .before .before .pre)
+
+cast-pattern : tie.Need-cast-pattern
+cast-pattern c = omega (arith, c .shared-slice-known2 .given (3 * length (c .before .before .args .kind .now) + getD (c .before .before .args .w .now) (c .before .before .args .i) 0))
+
+add-hit : tie.Need-add-hit
+add-hit c = omega (arith, pattern-in (c .before .before .pre), c .before .before .pre)
+
+mul-hit : tie.Need-mul-hit
+mul-hit c = omega (arith, pattern-in (c .before .before .pre), c .before .before .pre)
+
+shared-slice-read-hit : tie.Need-shared-slice-read-hit
+shared-slice-read-hit c = omega (arith, pattern-in (c .before .before .before .pre), c .before .before .before .pre)
+
+cast-hit : tie.Need-cast-hit
+cast-hit c = omega (arith, c .shared-slice-known3 .given (length (c .before .before .before .args .kind .now) + getD (c .before .before .before .args .w .now) (3 * length (c .before .before .before .args .kind .now) + getD (c .before .before .before .args .w .now) (c .before .before .before .args .i) 0) 0))
+
+returns : tie.Need-returns
+returns c = numbers-are (c .before .before .before .pre)
+
+pub numbers-at-spec : {M : Type 1} → statement M
+numbers-at-spec =
+    tie.close
+    (tie.spec
+    mul-streak
+    shared-slice-read-streak
+    cast-streak
+    mul-pattern
+    add-pattern
+    mul-pattern-2
+    shared-slice-read-pattern
+    cast-pattern
+    add-hit
+    mul-hit
+    shared-slice-read-hit
+    cast-hit
+    returns)

@@ -1,0 +1,36 @@
+-- Document 01, "Colour: one f64 per object": the colour value of each object of a chart.
+use Prim.Native.Nat.{ℕ, _-_}
+use mathlib.Core.Bool.{Bool, true, cond, not}
+use mathlib.Core.List.{List}
+use lib.Dec.{eqb}
+use lib.ListN.{length, getD}
+use lib.Ieee.{Float, nan, binary64, mul}
+use Rattle.grouping_marks.specs.Scan.{tabulate}
+use Rattle.grouping_color.specs.MonoStreak.{streakOf}
+use Rattle.grouping_color.specs.Preprocessor.{streakPlaceOf, patternOf, patternPlaceOf, hitOf, intervalOf}
+use Rattle.evaluator_color.specs.declared.Looked.{Looked}
+use Rattle.evaluator_color.specs.Color.{objectSum}
+use Rattle.evaluator_color.specs.RatioPenalty.{ratioPenalty}
+
+-- whether object i is the first of its group, by each object's group number
+unfoldable pub isFirst : List ℕ → ℕ → Bool
+isFirst numbers i = cond (eqb i 0) true (not (eqb (getD numbers i 0) (getD numbers (i - 1) 0)))
+
+-- what the evaluator looks at of object i, under the search limit
+unfoldable pub lookedAt : ℕ → List ℕ → ℕ → Looked
+lookedAt limit kinds i = record {
+  interval = getD (intervalOf limit kinds) i 0;
+  outer = getD (patternPlaceOf kinds) i 0;
+  inner = getD (streakPlaceOf kinds) i 0;
+  streak = isFirst (streakOf kinds) i;
+  pattern = isFirst (patternOf kinds) i;
+  hit = isFirst (hitOf kinds) i;
+}
+
+-- "The sum is multiplied by the ratio penalty", with "c its ratio and p that of idx − 2"
+unfoldable pub colourAt : ℕ → Float → List ℕ → List Float → ℕ → Float
+colourAt limit tolerance kinds ratios i =
+    mul binary64 (objectSum (lookedAt limit kinds i)) (ratioPenalty tolerance i (getD ratios i nan) (getD ratios (i - 2) nan))
+
+unfoldable pub colourValues : ℕ → Float → List ℕ → List Float → List Float
+colourValues limit tolerance kinds ratios = tabulate (colourAt limit tolerance kinds ratios) (length kinds)

@@ -1,0 +1,4 @@
+pub mod Colour
+pub mod Stretch
+pub mod Calls
+pub mod Passes

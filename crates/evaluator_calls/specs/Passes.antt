@@ -1,0 +1,61 @@
+-- What the passes of colour and stretch ask and leave.
+use mathlib.Core.Path.{_≡_}
+use Prim.Native.Nat.{ℕ, _*_, _≤_, _<_}
+use mathlib.Core.List.{List}
+use lib.ListN.{length, getD, replicate}
+use lib.Ieee.{Float, binary64, ofBits}
+use Rattle.grouping_marks.specs.Over.{over}
+use Rattle.grouping_color.specs.MonoStreak.{streakOf}
+use Rattle.grouping_color.specs.Preprocessor.{streakPlaceOf, patternOf, patternPlaceOf, hitOf, intervalOf}
+use Rattle.grouping_color.specs.Passes.{Regions, Tables}
+use Rattle.grouping_color.specs.declared.preprocessor.Counts.{Counts}
+use Rattle.grouping_encode.specs.Encode.{searchLimit}
+use Rattle.evaluator_color.specs.declared.Looked.{Looked}
+use Rattle.evaluator_calls.specs.Colour.{isFirst, colourValues}
+use Rattle.evaluator_calls.specs.Calls.{baseTolerance}
+use Rattle.evaluator_calls.specs.declared.tables.Numbers.{Numbers}
+
+-- the encoder's tables lie in w
+pub record Tabled (kinds w : List ℕ) (k : Counts) : Type 0 where
+  pub regions : Regions (length kinds) w
+  pub tables : Tables searchLimit kinds w w k
+
+-- an object of the chart, with the encoder's tables
+pub record ObjectIn (kinds w : List ℕ) (k : Counts) (i : ℕ) : Type 0 where
+  pub tabled : Tabled kinds w k
+  pub within : i < length kinds
+
+-- the object's group number on each level, below that level's count
+pub record NumbersAt (kinds : List ℕ) (k : Counts) (i : ℕ) (r : Numbers) : Type 0 where
+  pub streaks : r .streak ≡ getD (streakOf kinds) i 0
+  pub patterns : r .pattern ≡ getD (patternOf kinds) i 0
+  pub hits : r .hit ≡ getD (hitOf kinds) i 0
+  pub in-streaks : r .streak < k .streaks
+  pub in-patterns : r .pattern < k .patterns
+  pub in-hits : r .hit < k .hits
+
+-- all that the evaluator looks at of the object is as the definition has it
+pub record LookedIs (kinds : List ℕ) (i : ℕ) (r : Looked) : Type 0 where
+  pub interval : r .interval ≡ getD (intervalOf searchLimit kinds) i 0
+  pub outer : r .outer ≡ getD (patternPlaceOf kinds) i 0
+  pub inner : r .inner ≡ getD (streakPlaceOf kinds) i 0
+  pub streak : r .streak ≡ isFirst (streakOf kinds) i
+  pub pattern : r .pattern ≡ isFirst (patternOf kinds) i
+  pub hit : r .hit ≡ isFirst (hitOf kinds) i
+
+-- a place for each value, and a ratio for each object
+pub record ValueRoom (n : ℕ) (ratios values : List Float) : Type 0 where
+  pub ratio : length ratios ≡ n
+  pub room : n ≤ length values
+
+-- room for n objects in every slice that is written
+pub record ChartRoom (n : ℕ) (ratios value : List Float) (work : List ℕ) (scratch : List Float) : Type 0 where
+  pub regions : Regions n work
+  pub values : ValueRoom n ratios value
+  pub floats : n ≤ length scratch
+
+-- what both calls do with an accepted chart
+pub record Coloured (kinds : List ℕ) (ratios value₀ value : List Float) (work₀ work : List ℕ) (scratch₀ scratch : List Float) : Type 0 where
+  pub values : value ≡ over (colourValues searchLimit baseTolerance kinds ratios) value₀
+  pub cleared : work ≡ over (replicate (8 * length kinds) 0) work₀
+  pub floats : scratch ≡ over (replicate (length kinds) (ofBits binary64 0)) scratch₀

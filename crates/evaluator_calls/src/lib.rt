@@ -1,0 +1,109 @@
+// The calls colour and stretch: one f64 an object, and the mean of a stretch of them.
+ghost use mathlib.Core.Path.{_≡_};
+ghost use lib.ListN.{length};
+ghost use Rattle.evaluator_calls.specs.Calls.{Outcome, short, colourOutcome, stretchOutcome};
+ghost use Rattle.evaluator_calls.specs.Passes.{ChartRoom, Coloured};
+ghost use Rattle.evaluator_calls.specs.declared.Colouring.{Colouring};
+ghost use Rattle.evaluator_calls.specs.declared.Stretching.{Stretching};
+use grouping_chart::chart::Verdict;
+use grouping_chart::object::ObjectIndex;
+use grouping_marks::fill;
+
+pub mod mean;
+pub mod tables;
+
+// The values are filled, or the first refusal that applies and its place.
+pub enum Colouring {
+    Done,
+    Refused(u8, ObjectIndex),
+}
+
+// The mean and its tenths, or the first refusal that applies and its place.
+pub enum Stretching {
+    Done(f64, i64),
+    Refused(u8, ObjectIndex),
+}
+
+// Whether a slice has too few places for n objects.
+fn too_short(n: usize, value: &[f64], work: &[u16], scratch: &[f64]) -> bool
+    ensures { λ r. ⌜ r ≡ short n (record { value = now (value .entry); work = now (work .entry); scratch = now (scratch .entry) }) ⌝ }
+{
+    if value.len() < n {
+        return true;
+    }
+    // work.len() < 8 * n, without a product that could wrap
+    if work.len() / 8 < n {
+        return true;
+    }
+    scratch.len() < n
+}
+
+// What both calls do with an accepted chart: encode, fill the values, and clear the work slices.
+fn fill_chart(kind: &[u8], ratio: &[f64], value: &mut [f64], work: &mut [u16], scratch: &mut [f64])
+    requires { ⌜ ChartRoom (length (now kind)) (now ratio) (now value) (now work) (now scratch) ⌝ }
+    ensures { λ r. ⌜ Coloured (now (kind .entry)) (now (ratio .entry)) (now (value .entry)) (now (value .exit)) (now (work .entry)) (now (work .exit)) (now (scratch .entry)) (now (scratch .exit)) ⌝ }
+{
+    let n = kind.len();
+    let k = grouping_color::preprocessor::encode_colors(kind, work, 16);
+    tables::fill_values(kind, ratio, work, k, 0.01, value);
+    fill::clear(work, 8 * n);
+    fill::clear_floats(scratch, n);
+}
+
+pub fn colour(
+    kind: &[u8],
+    start: &[f64],
+    delta: &[f64],
+    ratio: &[f64],
+    value: &mut [f64],
+    work: &mut [u16],
+    scratch: &mut [f64],
+) -> Colouring
+    ensures { λ r. ⌜ _≡_ {A = Outcome Colouring}
+        (record { answer = r; memory = record { value = now (value .exit); work = now (work .exit); scratch = now (scratch .exit) } })
+        (colourOutcome (record { kinds = now (kind .entry); starts = now (start .entry); deltas = now (delta .entry); ratios = now (ratio .entry) })
+        (record { value = now (value .entry); work = now (work .entry); scratch = now (scratch .entry) })) ⌝ }
+{
+    let n = kind.len();
+    let short = too_short(n, value, work, scratch);
+    match grouping_chart::chart::check(kind, start, delta, ratio, short) {
+        Verdict::Refused(number, place) => Colouring::Refused(number, place),
+        Verdict::Accepted => {
+            fill_chart(kind, ratio, value, work, scratch);
+            Colouring::Done
+        }
+    }
+}
+
+pub fn stretch(
+    kind: &[u8],
+    start: &[f64],
+    delta: &[f64],
+    ratio: &[f64],
+    a: usize,
+    b: usize,
+    value: &mut [f64],
+    work: &mut [u16],
+    scratch: &mut [f64],
+) -> Stretching
+    ensures { λ r. ⌜ _≡_ {A = Outcome Stretching}
+        (record { answer = r; memory = record { value = now (value .exit); work = now (work .exit); scratch = now (scratch .exit) } })
+        (stretchOutcome (record { kinds = now (kind .entry); starts = now (start .entry); deltas = now (delta .entry); ratios = now (ratio .entry) }) a b
+        (record { value = now (value .entry); work = now (work .entry); scratch = now (scratch .entry) })) ⌝ }
+{
+    let n = kind.len();
+    let short = too_short(n, value, work, scratch);
+    match mean::with_bounds(
+        grouping_chart::chart::check(kind, start, delta, ratio, short),
+        n,
+        a,
+        b,
+    ) {
+        Verdict::Refused(number, place) => Stretching::Refused(number, place),
+        Verdict::Accepted => {
+            fill_chart(kind, ratio, value, work, scratch);
+            let mean = mean::mean(&value[a..b]);
+            Stretching::Done(mean, numeric::tenths::tenths(mean))
+        }
+    }
+}

@@ -1,0 +1,107 @@
+// Each object's value, from the encoder's tables.
+ghost use mathlib.Core.Path.{_≡_};
+ghost use Prim.Native.Nat.{_-_, _<_};
+ghost use lib.ListN.{length, getD};
+ghost use lib.Ieee.{nan};
+ghost use Rattle.grouping_marks.specs.Over.{over};
+ghost use Rattle.grouping_encode.specs.Encode.{searchLimit};
+ghost use Rattle.evaluator_calls.specs.Colour.{colourAt, colourValues};
+ghost use Rattle.evaluator_calls.specs.Passes.{Tabled, ObjectIn, NumbersAt, LookedIs, ValueRoom};
+use evaluator_color::Looked;
+use grouping_color::preprocessor::Counts;
+
+// An object's group number on each level.
+pub struct Numbers {
+    pub streak: usize,
+    pub pattern: usize,
+    pub hit: usize,
+}
+
+fn numbers_at(kind: &[u8], w: &[u16], k: Counts, i: usize) -> Numbers
+    requires { ⌜ ObjectIn (now kind) (now w) k i ⌝ }
+    ensures { λ r. ⌜ NumbersAt (now (kind .entry)) k i r ⌝ }
+{
+    let n = kind.len();
+    let streak = w[i] as usize;
+    let pattern = w[3 * n + streak] as usize;
+    let hit = w[n + pattern] as usize;
+    Numbers {
+        streak,
+        pattern,
+        hit,
+    }
+}
+
+// What the evaluator looks at of object i.
+fn look(kind: &[u8], w: &[u16], k: Counts, i: usize) -> Looked
+    requires { ⌜ ObjectIn (now kind) (now w) k i ⌝ }
+    ensures { λ r. ⌜ LookedIs (now (kind .entry)) i r ⌝ }
+{
+    let n = kind.len();
+    let at = numbers_at(kind, w, k, i);
+    let streak = at.streak;
+    let pattern = at.pattern;
+    let hit = at.hit;
+    let interval = w[7 * n + hit] as usize;
+    let outer = w[2 * n + pattern] as usize;
+    let inner = w[4 * n + streak] as usize;
+    if i == 0 {
+        return Looked {
+            interval,
+            outer,
+            inner,
+            streak: true,
+            pattern: true,
+            hit: true,
+        };
+    }
+    let before = numbers_at(kind, w, k, i - 1);
+    Looked {
+        interval,
+        outer,
+        inner,
+        streak: streak != before.streak,
+        pattern: pattern != before.pattern,
+        hit: hit != before.hit,
+    }
+}
+
+// The ratio of the object two before object i. Below 2 there is none, and the first stands in: the penalty does not look at it.
+fn earlier_ratio(ratio: &[f64], i: usize) -> f64
+    requires { ⌜ i < length (now ratio) ⌝ }
+    ensures { λ r. ⌜ r ≡ getD (now (ratio .entry)) (i - 2) nan ⌝ }
+{
+    if i < 2 {
+        return ratio[0];
+    }
+    ratio[i - 2]
+}
+
+fn value_at(kind: &[u8], ratio: &[f64], w: &[u16], k: Counts, tolerance: f64, i: usize) -> f64
+    requires { ⌜ ObjectIn (now kind) (now w) k i ⌝ ∗ ⌜ length (now ratio) ≡ length (now kind) ⌝ }
+    ensures { λ r. ⌜ r ≡ colourAt searchLimit tolerance (now (kind .entry)) (now (ratio .entry)) i ⌝ }
+{
+    let sum = evaluator_color::object_sum(look(kind, w, k, i));
+    let c = ratio[i];
+    let p = earlier_ratio(ratio, i);
+    sum * evaluator_color::ratio_penalty(i, c, p, tolerance)
+}
+
+// Fills the colour value of each object.
+pub fn fill_values(
+    kind: &[u8],
+    ratio: &[f64],
+    w: &[u16],
+    k: Counts,
+    tolerance: f64,
+    value: &mut [f64],
+)
+    requires { ⌜ Tabled (now kind) (now w) k ⌝ ∗ ⌜ ValueRoom (length (now kind)) (now ratio) (now value) ⌝ }
+    ensures { λ r. ⌜ now (value .exit) ≡ over (colourValues searchLimit tolerance (now (kind .entry)) (now (ratio .entry))) (now (value .entry)) ⌝ }
+{
+    let mut i = 0;
+    while i < kind.len() {
+        value[i] = value_at(kind, ratio, w, k, tolerance, i);
+        i += 1;
+    }
+}

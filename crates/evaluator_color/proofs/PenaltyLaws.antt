@@ -1,0 +1,48 @@
+-- Why the original's `smootherstep` line is never reached: its second comparison is of the object idx - 2 with itself, and a ratio in range divided by itself is 1.0, which is near 1.0.
+-- Its quotient's fraction is 1 / 1, and equal fractions round alike. Assumes nothing.
+use mathlib.Core.Path.{_≡_, refl, ap, _∙_}
+use mathlib.Core.Bool.{Bool, true, false, cond}
+use Prim.Native.Nat.{ℕ, zero, suc, _*_}
+use native.Mathlib.Nat.{mul-pos, zero-lt-suc, mul-comm}
+use lib.IntN.{ℤ}
+use lib.Dec.{T, eqb·suc-zero}
+use lib.Ieee.{Float, nan, inf, fin, binary64, up, down, le, round, sub, div}
+use lib.Ieee.Bits.{is-true}
+use lib.Ieee.Fits.{up-pos, down-pos}
+use lib.Ieee.Positive.{positive, between}
+use lib.Ieee.Scale.{round-same}
+use Rattle.numeric.specs.Near.{isNear}
+use Rattle.numeric.proofs.Values.{zero64}
+use Rattle.evaluator_color.specs.Color.{one}
+use Rattle.evaluator_color.proofs.BoundLaws.{lowest, highest}
+
+one-rounded : round binary64 false 1 1 ≡ one
+unfolding round
+one-rounded = refl
+
+-- m * 2 ^ e over itself
+whole-quotient : (m : ℕ) (e : ℤ) → div binary64 (fin false (suc m) e) (fin false (suc m) e) ≡ one
+unfolding div
+whole-quotient m e =
+    let a = suc m * up e * down e in
+    ap (λ (b : Bool). cond b (cond b nan (inf false)) (round binary64 false a a)) (eqb·suc-zero m)
+    ∙ round-same binary64 false a a 1 1 (mul-pos (mul-pos (zero-lt-suc m) (up-pos e)) (down-pos e)) (zero-lt-suc 0) (mul-comm a 1)
+    ∙ one-rounded
+
+-- of every positive value
+pub own-quotient : (p : Float) → T (positive p) → div binary64 p p ≡ one
+own-quotient nan h = absurd h
+own-quotient (inf s) h = absurd h
+own-quotient (fin true m e) h = absurd h
+own-quotient (fin false zero e) h = absurd h
+own-quotient (fin false (suc m) e) h = whole-quotient m e
+
+pub range-quotient : (p : Float) → T (le lowest p) → T (le p highest) → div binary64 p p ≡ one
+range-quotient p lo hi = own-quotient p (between lowest p highest tt tt lo hi)
+
+same-near : (tolerance : Float) → T (le zero64 tolerance) → isNear tolerance one one ≡ true
+unfolding isNear sub
+same-near tolerance t = is-true (le zero64 tolerance) t
+
+pub own-near : (tolerance p : Float) → T (le zero64 tolerance) → T (le lowest p) → T (le p highest) → isNear tolerance one (div binary64 p p) ≡ true
+own-near tolerance p t lo hi = ap (isNear tolerance one) (range-quotient p lo hi) ∙ same-near tolerance t

@@ -1,0 +1,17 @@
+-- `alt_value` meets its contract: `logistic` is T. Assumes nothing.
+use mathlib.Core.Path.{ap}
+use borrow.Author.Needs.{needs}
+use lib.Ieee.{Float, binary64, mul}
+use Rattle.evaluator_color.specs.Color.{altValue}
+use Rattle.evaluator_color.proofs.alt_value.Statement.{statement}
+use Rattle.evaluator_color.proofs.alt_value.Tie as tie
+
+logistic-requires : tie.Need-logistic-requires
+logistic-requires c κs = search needs
+
+returns : tie.Need-returns
+unfolding altValue
+returns c = ap (λ (t : Float). mul binary64 t (c .before .args .hit)) (c .logistic .ensures)
+
+pub alt-value-spec : {M : Type 1} → statement M
+alt-value-spec = tie.close (tie.spec logistic-requires returns)

@@ -1,0 +1,17 @@
+-- `mono_value` meets its contract: the literal computes to its value, and `logistic` is T. Assumes nothing.
+use mathlib.Core.Path.{ap}
+use borrow.Author.Needs.{needs}
+use lib.Ieee.{Float, binary64, ofBits, mul}
+use Rattle.evaluator_color.specs.Color.{half, monoValue}
+use Rattle.evaluator_color.proofs.mono_value.Statement.{statement}
+use Rattle.evaluator_color.proofs.mono_value.Tie as tie
+
+logistic-requires : tie.Need-logistic-requires
+logistic-requires c κs = search needs
+
+returns : tie.Need-returns
+unfolding monoValue ofBits
+returns c = ap (λ (t : Float). mul binary64 (mul binary64 t (c .before .args .alt)) half) (c .logistic .ensures)
+
+pub mono-value-spec : {M : Type 1} → statement M
+mono-value-spec = tie.close (tie.spec logistic-requires returns)

@@ -1,0 +1,51 @@
+-- `object_sum` meets its contract: the definition's steps are what the calls promise, in their order. Assumes nothing.
+use mathlib.Core.Path.{_≡_}
+use borrow.Author.Needs.{needs}
+use lib.Ieee.{Float, ofBits}
+use Rattle.evaluator_color.specs.declared.Looked.{Looked}
+use Rattle.evaluator_color.specs.Color.{zero, hitValue, altValue, monoValue, addIf, objectSum}
+use Rattle.evaluator_color.proofs.object_sum.Statement.{statement}
+use Rattle.evaluator_color.proofs.object_sum.Tie as tie
+
+summed : (o : Looked) {hit alt mono with-mono with-alt r : Float}
+    → hit ≡ hitValue (o .interval) → alt ≡ altValue (o .outer) hit → mono ≡ monoValue (o .inner) alt
+    → with-mono ≡ addIf (o .streak) zero mono → with-alt ≡ addIf (o .pattern) with-mono alt → r ≡ addIf (o .hit) with-alt hit → r ≡ objectSum o
+unfolding objectSum
+summed o h a m s p t = cc
+
+hit-value-requires : tie.Need-hit-value-requires
+hit-value-requires c κs = search needs
+
+alt-value-requires : tie.Need-alt-value-requires
+alt-value-requires c κs = search needs
+
+mono-value-requires : tie.Need-mono-value-requires
+mono-value-requires c κs = search needs
+
+add-if-requires : tie.Need-add-if-requires
+add-if-requires c κs = search needs
+
+add-if-requires-2 : tie.Need-add-if-requires-2
+add-if-requires-2 c κs = search needs
+
+add-if-requires-3 : tie.Need-add-if-requires-3
+add-if-requires-3 c κs = search needs
+
+returns : tie.Need-returns
+unfolding ofBits
+returns c =
+    let at-hit = c .before .before .before .before .before in
+    summed (at-hit .before .args .o) (at-hit .hit-value .ensures) (c .before .before .before .before .alt-value .ensures) (c .before .before .before .mono-value .ensures)
+    (c .before .before .add-if .ensures) (c .before .add-if2 .ensures) (c .add-if3 .ensures)
+
+pub object-sum-spec : {M : Type 1} → statement M
+object-sum-spec =
+    tie.close
+    (tie.spec
+    hit-value-requires
+    alt-value-requires
+    mono-value-requires
+    add-if-requires
+    add-if-requires-2
+    add-if-requires-3
+    returns)

@@ -1,0 +1,52 @@
+-- `ratio_penalty` meets its contract, by what its tests found. Assumes nothing.
+use mathlib.Core.Path.{refl, sym, _∙_}
+use mathlib.Core.Bool.{true, false}
+use borrow.Author.Needs.{needs}
+use borrow.Author.Tests.{lt-ltb, le-ltb}
+use lib.Ieee.{ofBits}
+use Rattle.evaluator_color.proofs.PenaltyCases.{tested}
+use Rattle.evaluator_color.proofs.ratio_penalty.Statement.{statement}
+use Rattle.evaluator_color.proofs.ratio_penalty.Tie as tie
+
+returns : tie.Need-returns
+unfolding ofBits
+returns c =
+    let start = c .before in
+    tested (start .args .tolerance) (start .args .idx) (start .args .c) (start .args .p) true _ _ (lt-ltb _ _ (c .if1 .taken)) refl refl
+
+near-requires : tie.Need-near-requires
+near-requires c κs = search needs
+
+lower-requires : tie.Need-lower-requires
+lower-requires c κs = search needs
+
+returns-2 : tie.Need-returns-2
+unfolding ofBits
+returns-2 c =
+    let start = c .before .before .before .before in
+    c .lower .ensures
+    ∙ tested (start .args .tolerance) (start .args .idx) (start .args .c) (start .args .p) false true _
+    (le-ltb _ _ (c .before .before .before .if1 .left)) (sym (c .before .before .near .ensures) ∙ c .before .if2 .taken) refl
+
+returns-3 : tie.Need-returns-3
+unfolding ofBits
+returns-3 c =
+    let start = c .before .before .before .before in
+    tested (start .args .tolerance) (start .args .idx) (start .args .c) (start .args .p) false false true
+    (le-ltb _ _ (c .before .before .before .if1 .left)) (sym (c .before .before .near .ensures) ∙ c .before .if2 .left) (lt-ltb _ _ (c .if3 .taken))
+
+lower-requires-2 : tie.Need-lower-requires-2
+lower-requires-2 c κs = search needs
+
+returns-4 : tie.Need-returns-4
+unfolding ofBits
+returns-4 c =
+    let start = c .before .before .before .before .before in
+    c .lower2 .ensures
+    ∙ tested (start .args .tolerance) (start .args .idx) (start .args .c) (start .args .p) false false false
+    (le-ltb _ _ (c .before .before .before .before .if1 .left)) (sym (c .before .before .before .near .ensures) ∙ c .before .before .if2 .left) (le-ltb _ _ (c .before .if3 .left))
+
+pub ratio-penalty-spec : {M : Type 1} → statement M
+ratio-penalty-spec =
+    tie.close
+    (tie.spec returns near-requires lower-requires returns-2 returns-3 lower-requires-2 returns-4)

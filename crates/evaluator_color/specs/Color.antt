@@ -1,0 +1,42 @@
+-- Document 01, evaluators/color.rs: "Operations in this order, each rounded" (IEEE 754-2019, 5.4.1), in binary64.
+use mathlib.Core.Bool.{Bool, false, cond}
+use Prim.Native.Nat.{ℕ}
+use lib.IntN.{pos, negsuc}
+use lib.Ieee.{Float, fin, binary64, add, sub, mul}
+use Rattle.numeric.specs.Logistic.{logisticAt}
+use Rattle.evaluator_color.specs.declared.Looked.{Looked}
+
+abbrev pub zero : Float
+zero = fin false 0 (pos 0)
+
+abbrev pub half : Float
+half = fin false 1 (negsuc 0)
+
+abbrev pub one : Float
+one = fin false 1 (pos 0)
+
+abbrev pub two : Float
+two = fin false 1 (pos 1)
+
+-- "hit = 2.0 × (1.0 − T(interval))"
+unfoldable pub hitValue : ℕ → Float
+hitValue interval = mul binary64 two (sub binary64 one (logisticAt interval))
+
+-- "alt = T(its place in the hit pattern) × hit"
+unfoldable pub altValue : ℕ → Float → Float
+altValue place hit = mul binary64 (logisticAt place) hit
+
+-- "mono = T(its place in the alternating pattern) × alt × 0.5"
+unfoldable pub monoValue : ℕ → Float → Float
+monoValue place alt = mul binary64 (mul binary64 (logisticAt place) alt) half
+
+-- x, added where the object is first
+unfoldable pub addIf : Bool → Float → Float → Float
+addIf first sum x = cond first (add binary64 sum x) sum
+
+-- "From 0.0, mono is added if the object is first of its streak, then alt if first of its alternating pattern, then hit if first of its hit pattern."
+unfoldable pub objectSum : Looked → Float
+objectSum o =
+    let hit = hitValue (o .interval) in
+    let alt = altValue (o .outer) hit in
+    addIf (o .hit) (addIf (o .pattern) (addIf (o .streak) zero (monoValue (o .inner) alt)) alt) hit

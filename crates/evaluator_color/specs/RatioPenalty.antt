@@ -1,0 +1,20 @@
+-- Document 01, evaluators/color.rs: "Ratio penalty: idx below 2 gives 1.0. Let c be its ratio and p that of idx − 2. If |1.0 − c / p| ≤ 0.01, it is 1.0 − c / 2.0 × 0.8.
+-- Else idx below 4 gives 1.0, and all others 1.0 − p / 2.0 × 0.8." The 0.01 is a parameter, the tolerance, as the source's threshold is.
+use mathlib.Core.Bool.{false, cond}
+use Prim.Native.Nat.{ℕ}
+use lib.Dec.{ltb}
+use lib.Ieee.{Float, binary64, round, sub, mul, div}
+use Rattle.numeric.specs.Near.{isNear}
+use Rattle.evaluator_color.specs.Color.{one, two}
+
+-- 0.8, the f64 nearest to 8 / 10
+unfoldable pub eightTenths : Float
+eightTenths = round binary64 false 8 10
+
+-- 1.0 − r / 2.0 × 0.8
+unfoldable pub lowered : Float → Float
+lowered r = sub binary64 one (mul binary64 (div binary64 r two) eightTenths)
+
+unfoldable pub ratioPenalty : Float → ℕ → Float → Float → Float
+ratioPenalty tolerance idx c p =
+    cond (ltb idx 2) one (cond (isNear tolerance one (div binary64 c p)) (lowered c) (cond (ltb idx 4) one (lowered p)))

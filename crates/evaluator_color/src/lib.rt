@@ -1,0 +1,77 @@
+// The colour evaluator's formulas, one function each: the same rounded operations as the source's, in its order.
+ghost use mathlib.Core.Path.{_≡_};
+ghost use Rattle.evaluator_color.specs.Color.{hitValue, altValue, monoValue, addIf, objectSum};
+ghost use Rattle.evaluator_color.specs.RatioPenalty.{lowered, ratioPenalty};
+use numeric::logistic::logistic;
+use numeric::near::near;
+
+// What the evaluator looks at of an object: its hit pattern's interval, its alternating pattern's place in that (outer),
+// its streak's place in the alternating pattern (inner), and of which of the three it is the first object.
+pub struct Looked {
+    pub interval: usize,
+    pub outer: usize,
+    pub inner: usize,
+    pub streak: bool,
+    pub pattern: bool,
+    pub hit: bool,
+}
+
+pub fn hit_value(interval: usize) -> f64
+    ensures { λ r. ⌜ r ≡ hitValue interval ⌝ }
+{
+    2.0 * (1.0 - logistic(interval))
+}
+
+pub fn alt_value(place: usize, hit: f64) -> f64
+    ensures { λ r. ⌜ r ≡ altValue place hit ⌝ }
+{
+    logistic(place) * hit
+}
+
+pub fn mono_value(place: usize, alt: f64) -> f64
+    ensures { λ r. ⌜ r ≡ monoValue place alt ⌝ }
+{
+    logistic(place) * alt * 0.5
+}
+
+pub fn add_if(first: bool, sum: f64, x: f64) -> f64
+    ensures { λ r. ⌜ r ≡ addIf first sum x ⌝ }
+{
+    if first { sum + x } else { sum }
+}
+
+// The object's value before its ratio penalty.
+pub fn object_sum(o: Looked) -> f64
+    ensures { λ r. ⌜ r ≡ objectSum o ⌝ }
+{
+    let hit = hit_value(o.interval);
+    let alt = alt_value(o.outer, hit);
+    let mono = mono_value(o.inner, alt);
+    add_if(
+        o.hit,
+        add_if(o.pattern, add_if(o.streak, 0.0, mono), alt),
+        hit,
+    )
+}
+
+fn lower(r: f64) -> f64
+    ensures { λ x. ⌜ x ≡ lowered r ⌝ }
+{
+    1.0 - r / 2.0 * 0.8
+}
+
+// By the object's ratio c and the ratio p of the object two before it. Below idx 2 there is none, and p is not looked at.
+pub fn ratio_penalty(idx: usize, c: f64, p: f64, tolerance: f64) -> f64
+    ensures { λ r. ⌜ r ≡ ratioPenalty tolerance idx c p ⌝ }
+{
+    if idx < 2 {
+        return 1.0;
+    }
+    if near(1.0, c / p, tolerance) {
+        return lower(c);
+    }
+    if idx < 4 {
+        return 1.0;
+    }
+    lower(p)
+}

@@ -1,0 +1,187 @@
+//! colour and stretch over the static library: document 01's example, a plain reimplementation, memory, and refusals 1 to 9.
+
+use host_tests::chart::Chart;
+use host_tests::colour::{colour, plain_tenths, plain_values, stretch, Coloured, Memory};
+use host_tests::samples::{biased_chart, Xorshift};
+
+/// The table T by the definition's own list of bit patterns.
+fn table() -> impl Fn(usize) -> f64 {
+    let spec = include_str!("../../../crates/numeric/specs/Logistic.antt");
+    let pattern = |word: &str| u64::from_str_radix(word.strip_prefix("0x")?, 16).ok();
+    let values: Vec<f64> = spec
+        .split_whitespace()
+        .filter_map(pattern)
+        .map(f64::from_bits)
+        .collect();
+    assert_eq!(values.len(), 264, "the definition's list");
+    move |n| values.get(n).copied().unwrap_or(0.0)
+}
+
+fn exact(n: usize) -> Memory {
+    Memory::of_sizes([n, 8 * n, n])
+}
+
+fn roomy(n: usize) -> Memory {
+    Memory::of_sizes([n + 3, 8 * n + 5, n + 2])
+}
+
+const DONE: Coloured = Coloured {
+    refusal: 0,
+    place: 0,
+};
+
+#[test]
+fn one_object_has_the_value_of_document_01() {
+    let mut memory = exact(1);
+    assert_eq!(colour(&Chart::of_text("d"), &mut memory), DONE);
+    assert_eq!(memory.value[0].to_bits(), 0x4013_ee42_c838_4268);
+}
+
+#[track_caller]
+fn check_values(chart: &Chart, table: &dyn Fn(usize) -> f64) -> Vec<f64> {
+    let values = plain_values(chart, table);
+    let n = values.len();
+    for lent in [exact(n), roomy(n)] {
+        let mut memory = lent.clone();
+        assert_eq!(colour(chart, &mut memory), DONE, "{chart}");
+        assert_eq!(memory.bits(), lent.filled(&values).bits(), "{chart}");
+    }
+    values
+}
+
+fn ratios(rng: &mut Xorshift, n: usize) -> Vec<f64> {
+    let common = [
+        1.0,
+        0.5,
+        2.0,
+        1.0 / 3.0,
+        4.0 / 3.0,
+        0.99,
+        1.01,
+        2f64.powi(-24),
+        2f64.powi(24),
+    ];
+    let pick = |rng: &mut Xorshift| common[rng.below(common.len())];
+    (0..n).map(|_| pick(rng)).collect()
+}
+
+#[test]
+fn values_and_stretches_follow_document_01() {
+    let table = table();
+    let mut rng = Xorshift::new(0x5EED);
+    let (mut stretches, mut negative) = (0, 0);
+    for round in 0..2_000 {
+        let n = rng.below(120);
+        let mut chart = biased_chart(&mut rng, n);
+        chart.ratio = ratios(&mut rng, n);
+        let values = check_values(&chart, &table);
+        if n == 0 {
+            continue;
+        }
+        let a = rng.below(n);
+        let b = if round % 4 == 0 {
+            n
+        } else {
+            a + 1 + rng.below(n - a)
+        };
+        let mean = values[a..b].iter().fold(0.0, |sum, x| sum + x) / (b - a) as f64;
+        let lent = roomy(n);
+        let mut memory = lent.clone();
+        let got = stretch(&chart, a, b, &mut memory);
+        assert_eq!((got.refusal, got.place), (0, 0), "{a}..{b} of {chart}");
+        assert_eq!(got.mean.to_bits(), mean.to_bits(), "{a}..{b} of {chart}");
+        assert_eq!(got.tenths, plain_tenths(mean), "{a}..{b} of {chart}");
+        assert_eq!(memory.bits(), lent.filled(&values).bits(), "{chart}");
+        stretches += 1;
+        negative += usize::from(mean < 0.0);
+    }
+    assert!(
+        stretches > 1_500 && negative > 100,
+        "{stretches} stretches, {negative} negative means"
+    );
+}
+
+#[track_caller]
+fn refused(
+    chart: &Chart,
+    bounds: Option<(usize, usize)>,
+    memory: Memory,
+    refusal: u64,
+    place: u64,
+) {
+    let mut after = memory.clone();
+    let got = match bounds {
+        None => {
+            let got = colour(chart, &mut after);
+            (got.refusal, got.place)
+        }
+        Some((a, b)) => {
+            let got = stretch(chart, a, b, &mut after);
+            assert_eq!(
+                (got.mean.to_bits(), got.tenths),
+                (0, 0),
+                "{a}..{b} of {chart}"
+            );
+            (got.refusal, got.place)
+        }
+    };
+    assert_eq!(got, (refusal, place), "{bounds:?} of {chart}");
+    assert_eq!(after.bits(), memory.bits(), "{bounds:?} of {chart}");
+}
+
+#[test]
+fn stretches_that_are_none_are_refused_9() {
+    let chart = Chart::of_text("ddkkd");
+    for bounds in [
+        (0, 6),
+        (5, 6),
+        (2, 2),
+        (3, 2),
+        (5, 5),
+        (0, 0),
+        (0, usize::MAX),
+        (usize::MAX, usize::MAX),
+        (usize::MAX, 0),
+    ] {
+        refused(&chart, Some(bounds), roomy(5), 9, 0);
+    }
+    let accepted = stretch(&chart, 0, 5, &mut exact(5));
+    assert_eq!((accepted.refusal, accepted.place), (0, 0), "b = n");
+    refused(&Chart::of_text(""), Some((0, 0)), exact(0), 9, 0);
+}
+
+#[test]
+fn earlier_refusals_come_before_9() {
+    let good = Chart::of_text("ddkkd");
+    let changed = |change: &dyn Fn(&mut Chart)| {
+        let mut chart = good.clone();
+        change(&mut chart);
+        chart
+    };
+    let faults: [(u64, Chart, [usize; 3]); 8] = [
+        (2, changed(&|c| c.ratio.truncate(4)), [5, 40, 5]),
+        (3, good.clone(), [4, 40, 5]),
+        (3, good.clone(), [5, 39, 5]),
+        (3, good.clone(), [5, 40, 4]),
+        (4, changed(&|c| c.kind[3] = 3), [5, 40, 5]),
+        (5, changed(&|c| c.start[3] = f64::NAN), [5, 40, 5]),
+        (6, changed(&|c| c.delta[3] = 16_777_217.0), [5, 40, 5]),
+        (7, changed(&|c| c.ratio[3] = 0.0), [5, 40, 5]),
+    ];
+    for (number, chart, sizes) in &faults {
+        let place = if *number > 3 { 3 } else { 0 };
+        for bounds in [None, Some((1, 4)), Some((4, 1))] {
+            refused(chart, bounds, Memory::of_sizes(*sizes), *number, place);
+        }
+    }
+    let huge = Chart::of_kinds(vec![0; 16_385]);
+    refused(&huge, None, exact(16_385), 1, 0);
+    refused(&huge, Some((1, 0)), exact(16_385), 1, 0);
+}
+
+#[test]
+fn the_largest_chart_is_accepted() {
+    let mut rng = Xorshift::new(7);
+    let values = check_values(&biased_chart(&mut rng, 16_384), &table());
+    assert_eq!(values.len(), 16_384);
+}
