@@ -5,7 +5,6 @@ ghost use Rattle.evaluator_calls.specs.Calls.{Outcome, short, colourOutc
 ghost use Rattle.evaluator_calls.specs.Passes.{ChartRoom, Coloured};
 ghost use Rattle.evaluator_calls.specs.declared.Colouring.{Colouring};
 ghost use Rattle.evaluator_calls.specs.declared.Stretching.{Stretching};
-
 use grouping_chart::chart::Verdict;
 use grouping_chart::object::ObjectIndex;
 use grouping_marks::fill;
