@@ -3,7 +3,10 @@
 pub mod chart;
 pub mod check;
 pub mod colour;
+pub mod heard;
+pub mod landmark;
 pub mod lent;
+pub mod pairs;
 pub mod plain;
 pub mod samples;
 

@@ -1,0 +1,3 @@
+pub mod TailsAgree
+pub mod RunsAgree
+pub mod FalseReadings

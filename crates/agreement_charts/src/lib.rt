@@ -1,0 +1,1 @@
+// Demand 3 whole, a statement and its proof: there is no code here.

@@ -1,0 +1,135 @@
+-- The colour half of demand 3 over the calls: what encode, colour and stretch answer on two accepted charts, from a colour landmark of their common tail on.
+use mathlib.Core.Path.{_≡_, refl, sym, ap, _∙_}
+use mathlib.Core.Logic.{_⊎_, _↔_}
+use mathlib.Core.Bool.{Bool, true, cond, not}
+use mathlib.Core.List.{List}
+use Prim.Native.Nat.{ℕ, _-_, _≤_, _<_}
+use native.Mathlib.Omega.{arith}
+use borrow.Author.Tests.{le-ltb, lt-leb}
+use lib.Dec.{eqb}
+use lib.ListN.{length, drop, getD, List·getD-append}
+use lib.Ieee.{nan}
+use Rattle.grouping_marks.specs.Over.{over}
+use Rattle.grouping_chart.specs.Chart.{Chart, size}
+use Rattle.grouping_chart.specs.Refusal.{verdict}
+use Rattle.grouping_chart.specs.declared.chart.Verdict.the-variants.{Accepted}
+use Rattle.grouping_chart.proofs.AcceptedLaws.{accepted-good}
+use Rattle.grouping_color.specs.Preprocessor.{hitOf, intervalOf}
+use Rattle.grouping_color.proofs.BoundLaws.{length-hitOf, length-intervalOf}
+use Rattle.grouping_encode.specs.Encode as encode
+use Rattle.grouping_encode.specs.Encode.{searchLimit, encodeOutcome}
+use Rattle.grouping_encode.proofs.EncodeLaws.{done-outcome}
+use Rattle.evaluator_calls.specs.Colour.{isFirst}
+use Rattle.evaluator_calls.specs.Stretch.{meanOf, meanTenths}
+use Rattle.evaluator_calls.specs.Calls.{Memory, Outcome, short, baseTolerance, valuesOf, filled, colourOutcome, stretchVerdict, stretchOutcome}
+use Rattle.evaluator_calls.specs.declared.Stretching.{Stretching}
+use Rattle.evaluator_calls.specs.declared.Stretching.the-variants.{Done}
+use Rattle.evaluator_calls.proofs.LookLaws.{value-of}
+use Rattle.evaluator_calls.proofs.CallsLaws.{colour-done, stretch-done}
+use Rattle.evaluator_calls.proofs.BoundLaws.{length-valuesOf}
+use Rattle.agreement.specs.Landmark.{Landmark}
+use Rattle.agreement_colour.specs.ColourClaim.{Counterparts, CommonTail, Settled, ColourClaim}
+use Rattle.agreement_colour.specs.CallsClaim.{AlikeCharts, EncodeClaim, CallsClaim}
+use Rattle.agreement_colour.proofs.ColourClaimed.{colour-claim}
+
+-- what was written is read back
+getD-over : {A : Type 0} (new old : List A) (i : ℕ) (d : A) → i < length new → getD (over new old) i d ≡ getD new i d
+unfolding over
+getD-over new old i d h = List·getD-append new (drop (length new) old) d i h
+
+-- ---- one accepted call of colour or stretch
+
+module _ (c : Chart) (lent : Memory) (accepted : verdict c (short (size c) lent) ≡ Accepted) where
+  written : (i : ℕ) → i < size c → getD (colourOutcome c lent .memory .value) i nan ≡ getD (valuesOf c) i nan
+  unfolding filled
+  written i h =
+      ap (λ (o : Outcome _). getD (o .memory .value) i nan) (sym (colour-done c lent (filled c lent) accepted refl))
+      ∙ getD-over (valuesOf c) (lent .value) i nan (omega (arith, length-valuesOf c (short (size c) lent) accepted))
+
+  in-bounds : (a b : ℕ) → a < b → b ≤ size c → stretchVerdict (verdict c (short (size c) lent)) (size c) a b ≡ Accepted
+  unfolding stretchVerdict
+  in-bounds a b h k = rw (accepted, lt-leb b a h, le-ltb (size c) b k)
+
+  done : (a b : ℕ) → a < b → b ≤ size c → stretchOutcome c a b lent .answer ≡ Done (meanOf (valuesOf c) a b) (meanTenths (valuesOf c) a b)
+  done a b h k = sym (ap (λ (o : Outcome Stretching). o .answer) (stretch-done c lent a b _ _ (filled c lent) (in-bounds a b h k) refl refl refl))
+
+-- ---- one accepted call of encode
+
+module _ (c : Chart) (lent : encode.Memory) (accepted : verdict c (encode.short (size c) lent) ≡ Accepted) where
+  encoded : encodeOutcome c lent .memory ≡ encode.filled (c .kinds) lent
+  encoded = sym (ap (λ (o : encode.Outcome). o .memory) (done-outcome c lent _ (encode.filled (c .kinds) lent) accepted refl refl))
+
+  hit-written : (i : ℕ) → i < size c → getD (encodeOutcome c lent .memory .hit) i 0 ≡ getD (hitOf (c .kinds)) i 0
+  unfolding encode.filled
+  hit-written i h = ap (λ (m : encode.Memory). getD (m .hit) i 0) encoded ∙ getD-over (hitOf (c .kinds)) (lent .hit) i 0 (omega (arith, length-hitOf (c .kinds)))
+
+  -- two objects are of one hit pattern by what was written exactly when they are by the definition
+  together : (i j : ℕ) → i < size c → j < size c
+      → (getD (encodeOutcome c lent .memory .hit) i 0 ≡ getD (encodeOutcome c lent .memory .hit) j 0) ↔ (getD (hitOf (c .kinds)) i 0 ≡ getD (hitOf (c .kinds)) j 0)
+  together i j h k = (λ e. sym (hit-written i h) ∙ e ∙ hit-written j k, λ e. hit-written i h ∙ e ∙ sym (hit-written j k))
+
+  interval-written : (i : ℕ) → i < size c → getD (encodeOutcome c lent .memory .interval) i 0 ≡ getD (intervalOf searchLimit (c .kinds)) i 0
+  unfolding encode.filled
+  interval-written i h =
+      ap (λ (m : encode.Memory). getD (m .interval) i 0) encoded
+      ∙ getD-over (intervalOf searchLimit (c .kinds)) (lent .interval) i 0 (omega (arith, length-intervalOf (c .kinds) searchLimit))
+
+  first-written : (i : ℕ) → i < size c → isFirst (encodeOutcome c lent .memory .hit) i ≡ isFirst (hitOf (c .kinds)) i
+  unfolding isFirst
+  first-written i h t = cond (eqb i 0) true (not (eqb (hit-written i h t) (hit-written (i - 1) (omega arith) t)))
+
+-- ---- the theorems
+
+-- two charts accepted by any calls
+common-tail : (c c′ : Chart) (m : ℕ) (s s′ : Bool) → verdict c s ≡ Accepted → verdict c′ s′ ≡ Accepted → AlikeCharts c c′ m
+    → CommonTail (c .kinds) (c .ratios) (c′ .kinds) (c′ .ratios) m
+common-tail c c′ m s s′ x x′ t = record {
+  a-ratio-each = accepted-good c s x .lengths .ratio;
+  a-ratio-each′ = accepted-good c′ s′ x′ .lengths .ratio;
+  inside = t .inside;
+  inside′ = t .inside′;
+  kinds-alike = t .kinds-alike;
+  ratios-alike = t .ratios-alike;
+}
+
+module _ (c c′ : Chart) (m position position′ : ℕ) (tail : AlikeCharts c c′ m) (far : Counterparts (c .kinds) (c′ .kinds) position position′)
+    (landmark : Landmark (c .kinds) m position ⊎ Landmark (c′ .kinds) m position′) where
+  -- the claim at the base's limit and tolerance
+  pub base-claim : (s s′ : Bool) → verdict c s ≡ Accepted → verdict c′ s′ ≡ Accepted
+      → ColourClaim searchLimit baseTolerance (c .kinds) (c .ratios) (c′ .kinds) (c′ .ratios) position position′
+  base-claim s s′ x x′ =
+      colour-claim searchLimit baseTolerance (c .kinds) (c .ratios) (c′ .kinds) (c′ .ratios) m position position′ (common-tail c c′ m s s′ x x′ tail) far landmark
+
+  pub encode-claim : (lent lent′ : encode.Memory) → verdict c (encode.short (size c) lent) ≡ Accepted → verdict c′ (encode.short (size c′) lent′) ≡ Accepted
+      → EncodeClaim c c′ lent lent′ position position′
+  encode-claim lent lent′ x x′ =
+      let k = base-claim (encode.short (size c) lent) (encode.short (size c′) lent′) x x′ in
+      record {
+        opens = λ i i′ p l e. first-written c lent x i l ∙ k .opens i i′ p l e ∙ sym (first-written c′ lent′ x′ i′ (omega arith));
+        all-after = λ i j p l n e. k .all-after i j p l n (together c lent x i j l n .0 e);
+        all-after′ = λ i j p l n e. k .all-after′ i j p l n (together c′ lent′ x′ i j l n .0 e);
+        same-objects = λ i i′ j j′ p l e q n f.
+          let one = together c lent x i j l n in
+          let other = together c′ lent′ x′ i′ j′ (omega arith) (omega arith) in
+          let both = k .same-objects i i′ j j′ p l e q n f in
+          (λ z. other .1 (both .0 (one .0 z)), λ z. one .1 (both .1 (other .0 z)));
+        interval = λ i i′ s e. interval-written c lent x i (s .there) ∙ k .interval i i′ s e ∙ sym (interval-written c′ lent′ x′ i′ (omega (arith, s .there)));
+      }
+
+  pub calls-claim : (lent lent′ : Memory) → verdict c (short (size c) lent) ≡ Accepted → verdict c′ (short (size c′) lent′) ≡ Accepted
+      → CallsClaim c c′ lent lent′ position position′
+  unfolding valuesOf
+  calls-claim lent lent′ x x′ = record {
+    value = value;
+    written = λ i i′ s e. written c lent x i (s .there) ∙ value i i′ s e ∙ sym (written c′ lent′ x′ i′ (omega (arith, s .there)));
+    done = done c lent x;
+    stretch = λ a b a′ b′ s some inside from to. done c lent x a b some inside ∙ (λ t. Done (k .mean a b a′ b′ s some inside from to t) (k .tenths a b a′ b′ s some inside from to t))
+        ∙ sym (done c′ lent′ x′ a′ b′ (omega arith) (omega arith));
+  }
+    where
+      k : ColourClaim searchLimit baseTolerance (c .kinds) (c .ratios) (c′ .kinds) (c′ .ratios) position position′
+      k = base-claim (short (size c) lent) (short (size c′) lent′) x x′
+      value : (i i′ : ℕ) → Settled searchLimit (c .kinds) position i → Counterparts (c .kinds) (c′ .kinds) i i′ → getD (valuesOf c) i nan ≡ getD (valuesOf c′) i′ nan
+      value i i′ s e =
+          value-of searchLimit baseTolerance (c .kinds) (c .ratios) i (s .there) ∙ k .value i i′ s e
+          ∙ sym (value-of searchLimit baseTolerance (c′ .kinds) (c′ .ratios) i′ (omega (arith, s .there)))

@@ -1,0 +1,6 @@
+pub mod ValueAgree
+pub mod RiseLaws
+pub mod StretchAgree
+pub mod ColourClaimed
+pub mod Calls
+pub mod Examples

@@ -1,0 +1,2 @@
+pub mod ColourClaim
+pub mod CallsClaim

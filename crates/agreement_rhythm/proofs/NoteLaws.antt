@@ -1,0 +1,93 @@
+-- A common tail of objects alike in kind and delta gives a common tail of the notes' deltas, and objects of it that are counterparts are so as notes.
+use mathlib.Core.Path.{_≡_, refl, sym, ap, _∙_}
+use mathlib.Core.Bool.{Bool, true, false, cond}
+use mathlib.Core.List.{List, [], _∷_, _++_}
+use Prim.Native.Nat.{ℕ, suc, _+_, _-_, _≤_, _<_}
+use native.Mathlib.Omega.{arith}
+use lib.ListN.{length, take, drop, getD, length-append, take-append-drop}
+use lib.Seq.{length-take-le, drop-at}
+use lib.Ieee.{Float}
+use Rattle.grouping_chart.specs.Object.{isNote, notes, noteIdx}
+use Rattle.grouping_chart.proofs.ObjectLaws.{notes-append}
+use Rattle.agreement_rhythm.specs.NoteDeltas.{noteDeltas}
+use Rattle.agreement_rhythm.specs.RhythmClaim.{Counterparts, lastOf, CommonTail, tailNotes}
+use Rattle.agreement_rhythm.proofs.RhythmAgree.{same-behind, same-at}
+
+pub note-deltas-append : (ks ks′ : List ℕ) (ds ds′ : List Float) → length ds ≡ length ks → noteDeltas (ks ++ ks′) (ds ++ ds′) ≡ noteDeltas ks ds ++ noteDeltas ks′ ds′
+unfolding noteDeltas
+note-deltas-append [] ks′ [] ds′ e = refl
+note-deltas-append [] ks′ (d ∷ ds) ds′ e = absurd (omega arith)
+note-deltas-append (k ∷ ks) ks′ [] ds′ e = absurd (omega arith)
+note-deltas-append (k ∷ ks) ks′ (d ∷ ds) ds′ e = by (isNote k) (note-deltas-append ks ks′ ds ds′ (omega arith))
+  where
+    by : (b : Bool) → noteDeltas (ks ++ ks′) (ds ++ ds′) ≡ noteDeltas ks ds ++ noteDeltas ks′ ds′
+        → cond b (d ∷ noteDeltas (ks ++ ks′) (ds ++ ds′)) (noteDeltas (ks ++ ks′) (ds ++ ds′)) ≡ cond b (d ∷ noteDeltas ks ds) (noteDeltas ks ds) ++ noteDeltas ks′ ds′
+    by true u = ap (λ (l : List Float). d ∷ l) u
+    by false u = u
+
+-- as many as there are notes
+length-note-deltas : (ks : List ℕ) (ds : List Float) → length ds ≡ length ks → length (noteDeltas ks ds) ≡ length (notes ks)
+unfolding noteDeltas notes
+length-note-deltas [] ds e = refl
+length-note-deltas (k ∷ ks) [] e = absurd (omega arith)
+length-note-deltas (k ∷ ks) (d ∷ ds) e = by (isNote k) (length-note-deltas ks ds (omega arith))
+  where
+    by : (b : Bool) → length (noteDeltas ks ds) ≡ length (notes ks) → length (cond b (d ∷ noteDeltas ks ds) (noteDeltas ks ds)) ≡ length (cond b (k ∷ notes ks) (notes ks))
+    by true u = ap suc u
+    by false u = u
+
+notes-split : (kinds : List ℕ) (o : ℕ) → length (notes kinds) ≡ length (notes (take o kinds)) + length (notes (drop o kinds))
+notes-split kinds o =
+    ap (λ (ks : List ℕ). length (notes ks)) (sym (take-append-drop o kinds)) ∙ ap length (notes-append (take o kinds) (drop o kinds)) ∙ length-append (notes (take o kinds)) (notes (drop o kinds))
+
+-- the deltas of a chart's notes end in those of its last m objects
+module _ (m : ℕ) (kinds : List ℕ) (deltas : List Float) (whole : length deltas ≡ length kinds) (fits : m ≤ length kinds) where
+  front : List Float
+  front = noteDeltas (take (length kinds - m) kinds) (take (length deltas - m) deltas)
+
+  note-deltas-cut : noteDeltas kinds deltas ≡ front ++ noteDeltas (lastOf m kinds) (lastOf m deltas)
+  unfolding front
+  note-deltas-cut =
+      sym (λ i. noteDeltas (take-append-drop (length kinds - m) kinds i) (take-append-drop (length deltas - m) deltas i))
+      ∙ note-deltas-append (take (length kinds - m) kinds) (lastOf m kinds) (take (length deltas - m) deltas) (lastOf m deltas)
+        (omega (arith, length-take-le (length kinds - m) kinds (omega arith), length-take-le (length deltas - m) deltas (omega arith)))
+
+  pub notes-fit : tailNotes m kinds deltas ≤ length (noteDeltas kinds deltas)
+  unfolding tailNotes
+  notes-fit = omega (arith, ap length note-deltas-cut, length-append front (noteDeltas (lastOf m kinds) (lastOf m deltas)))
+
+  pub notes-last : lastOf (tailNotes m kinds deltas) (noteDeltas kinds deltas) ≡ noteDeltas (lastOf m kinds) (lastOf m deltas)
+  unfolding tailNotes
+  notes-last =
+      ap (λ (l : List Float). drop (length (noteDeltas kinds deltas) - length (noteDeltas (lastOf m kinds) (lastOf m deltas))) l) note-deltas-cut
+      ∙ drop-at front (noteDeltas (lastOf m kinds) (lastOf m deltas)) (length (noteDeltas kinds deltas) - length (noteDeltas (lastOf m kinds) (lastOf m deltas)))
+        (omega (arith, ap length note-deltas-cut, length-append front (noteDeltas (lastOf m kinds) (lastOf m deltas))))
+
+-- two charts with a common tail have a common tail of notes
+module _ {m : ℕ} {kinds : List ℕ} {deltas : List Float} {kinds′ : List ℕ} {deltas′ : List Float} (c : CommonTail m kinds deltas kinds′ deltas′) where
+  same-tail : noteDeltas (lastOf m kinds) (lastOf m deltas) ≡ noteDeltas (lastOf m kinds′) (lastOf m deltas′)
+  same-tail i = noteDeltas (c .kind-alike i) (c .delta-alike i)
+
+  pub same-count : tailNotes m kinds deltas ≡ tailNotes m kinds′ deltas′
+  unfolding tailNotes
+  same-count = ap length same-tail
+
+  pub notes-alike : lastOf (tailNotes m kinds deltas) (noteDeltas kinds deltas) ≡ lastOf (tailNotes m kinds deltas) (noteDeltas kinds′ deltas′)
+  notes-alike =
+      notes-last m kinds deltas (c .whole) (c .fits) ∙ same-tail ∙ sym (notes-last m kinds′ deltas′ (c .whole′) (c .fits′))
+      ∙ ap (λ (n : ℕ). lastOf n (noteDeltas kinds′ deltas′)) (sym same-count)
+
+  -- ---- objects of the tail that are counterparts
+
+  module _ (o o′ : ℕ) (h : length kinds ≤ o + m) (l : o < length kinds) (e : length kinds + o′ ≡ length kinds′ + o) where
+    pub same-kind : isNote (getD kinds o 0) ≡ isNote (getD kinds′ o′ 0)
+    same-kind = ap isNote (same-at kinds kinds′ m (c .fits) (c .fits′) (c .kind-alike) o o′ h e 0)
+
+    pub note-counterparts : isNote (getD kinds o 0) ≡ true → Counterparts (noteDeltas kinds deltas) (noteDeltas kinds′ deltas′) (noteIdx kinds o) (noteIdx kinds′ o′)
+    unfolding noteIdx
+    note-counterparts n =
+        let n′ : isNote (getD kinds′ o′ 0) ≡ true = sym same-kind ∙ n in
+        rw (n, n′)
+          (omega
+          (arith, length-note-deltas kinds deltas (c .whole), length-note-deltas kinds′ deltas′ (c .whole′), notes-split kinds o, notes-split kinds′ o′,
+          ap (λ (ks : List ℕ). length (notes ks)) (same-behind kinds kinds′ m (c .fits) (c .fits′) (c .kind-alike) o o′ h e)))

@@ -1,0 +1,3 @@
+pub mod NoteDeltas
+pub mod RhythmLandmark
+pub mod RhythmClaim

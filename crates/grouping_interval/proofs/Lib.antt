@@ -1,0 +1,4 @@
+pub mod IntervalLaws
+pub mod Examples
+pub mod GroupLaws
+pub mod NumberLaws

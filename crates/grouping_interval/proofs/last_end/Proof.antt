@@ -1,0 +1,67 @@
+-- Each path ends in the case of `endAfter` that its tests name.
+use native.Mathlib.Omega.{arith}
+use mathlib.Core.Path.{sym, _∙_}
+use mathlib.Core.Bool.{true, false}
+use Rattle.grouping_interval.proofs.GroupLaws.{end-none, end-few, end-last}
+use borrow.Author.Needs.{needs}
+use Rattle.grouping_interval.proofs.last_end.Statement.{statement}
+use Rattle.grouping_interval.proofs.last_end.Tie as tie
+
+returns : tie.Need-returns
+returns c = sym (end-none _ _ _ (c .if1 .taken))
+
+returns-2 : tie.Need-returns-2
+returns-2 c =
+    let s = c .before .before .before in
+    sym (end-few (s .args .margin) (s .args .values .now) (s .args .i) (c .before .if1 .left) (s .pre) (omega arith))
+
+mul-near : tie.Need-mul-near
+mul-near c = search needs
+
+shared-slice-read-near : tie.Need-shared-slice-read-near
+shared-slice-read-near c = search needs
+
+sub-near : tie.Need-sub-near
+sub-near c = search needs
+
+mul-near-2 : tie.Need-mul-near-2
+mul-near-2 c = search needs
+
+shared-slice-read-near-2 : tie.Need-shared-slice-read-near-2
+shared-slice-read-near-2 c = search needs
+
+near-requires : tie.Need-near-requires
+near-requires c κs = search needs
+
+add-result : tie.Need-add-result
+add-result c = search needs
+
+returns-3 : tie.Need-returns-3
+returns-3 c =
+    let at-if1 = c .before .before .before .before .before in
+    let s = at-if1 .before .before in
+    sym
+    (end-last (s .args .margin) (s .args .values .now) (s .args .i) true (at-if1 .if1 .left) (s .pre) (omega arith) (sym (c .before .near .ensures) ∙ c .if3 .taken))
+
+returns-4 : tie.Need-returns-4
+returns-4 c =
+    let at-if1 = c .before .before .before .before .before in
+    let s = at-if1 .before .before in
+    sym
+    (end-last (s .args .margin) (s .args .values .now) (s .args .i) false (at-if1 .if1 .left) (s .pre) (omega arith) (sym (c .before .near .ensures) ∙ c .if3 .left))
+
+pub last-end-spec : {M : Type 1} → statement M
+last-end-spec =
+    tie.close
+    (tie.spec
+    returns
+    returns-2
+    mul-near
+    shared-slice-read-near
+    sub-near
+    mul-near-2
+    shared-slice-read-near-2
+    near-requires
+    add-result
+    returns-3
+    returns-4)

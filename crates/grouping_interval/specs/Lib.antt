@@ -1,0 +1,3 @@
+pub mod IntervalGrouping
+pub mod GroupEnd
+pub mod Grouped
