@@ -25,8 +25,8 @@ pub record TailAgreement (limit : ℕ) (tolerance margin : Float) (c c′ : Char
   -- hold the same objects. From the sixteenth such hit pattern on, every object has its counterpart's repetition interval and, in all bits, its colour value; every accepted stretch
   -- lying wholly there has its counterpart's mean, in all bits, and its tenths." ColourClaim says this, field by field
   pub colour : (position position′ : ℕ) → Counterparts (c .kinds) (c′ .kinds) position position′
-    → Landmark (c .kinds) m position ⊎ Landmark (c′ .kinds) m position′
-    → ColourClaim limit tolerance (c .kinds) (c .ratios) (c′ .kinds) (c′ .ratios) position position′
+      → Landmark (c .kinds) m position ⊎ Landmark (c′ .kinds) m position′
+      → ColourClaim limit tolerance (c .kinds) (c .ratios) (c′ .kinds) (c′ .ratios) position position′
   -- from every rhythm landmark in the tail, read in either chart: "A rhythm group opens at a note at or after a rhythm landmark exactly when one opens at its counterpart, and the two
   -- hold the same notes." RhythmHalf says this
   pub rhythm : RhythmHalf margin m (c .kinds) (c .deltas) (c′ .kinds) (c′ .deltas)

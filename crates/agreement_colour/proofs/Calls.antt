@@ -109,10 +109,10 @@ module _ (c c′ : Chart) (m position position′ : ℕ) (tail : AlikeCharts c c
         all-after = λ i j p l n e. k .all-after i j p l n (together c lent x i j l n .0 e);
         all-after′ = λ i j p l n e. k .all-after′ i j p l n (together c′ lent′ x′ i j l n .0 e);
         same-objects = λ i i′ j j′ p l e q n f.
-          let one = together c lent x i j l n in
-          let other = together c′ lent′ x′ i′ j′ (omega arith) (omega arith) in
-          let both = k .same-objects i i′ j j′ p l e q n f in
-          (λ z. other .1 (both .0 (one .0 z)), λ z. one .1 (both .1 (other .0 z)));
+            let one = together c lent x i j l n in
+            let other = together c′ lent′ x′ i′ j′ (omega arith) (omega arith) in
+            let both = k .same-objects i i′ j j′ p l e q n f in
+            (λ z. other .1 (both .0 (one .0 z)), λ z. one .1 (both .1 (other .0 z)));
         interval = λ i i′ s e. interval-written c lent x i (s .there) ∙ k .interval i i′ s e ∙ sym (interval-written c′ lent′ x′ i′ (omega (arith, s .there)));
       }
 
@@ -129,6 +129,7 @@ module _ (c c′ : Chart) (m position position′ : ℕ) (tail : AlikeCharts c c
     where
       k : ColourClaim searchLimit baseTolerance (c .kinds) (c .ratios) (c′ .kinds) (c′ .ratios) position position′
       k = base-claim (short (size c) lent) (short (size c′) lent′) x x′
+
       value : (i i′ : ℕ) → Settled searchLimit (c .kinds) position i → Counterparts (c .kinds) (c′ .kinds) i i′ → getD (valuesOf c) i nan ≡ getD (valuesOf c′) i′ nan
       value i i′ s e =
           value-of searchLimit baseTolerance (c .kinds) (c .ratios) i (s .there) ∙ k .value i i′ s e

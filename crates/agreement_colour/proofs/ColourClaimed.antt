@@ -26,7 +26,7 @@ module _ {kinds : List ℕ} {position before : ℕ} (x : HitsCut kinds position 
   cut-opens : position < length kinds → isFirst (hitOf kinds) position ≡ true
   cut-opens l =
       let e : eqb (getD (hitOf kinds) position 0) (getD (hitOf kinds) (position - 1) 0) ≡ false =
-          ne-eqb (getD (hitOf kinds) position 0) (getD (hitOf kinds) (position - 1) 0) (λ z. omega (arith, x .opens l, x .some, x .earlier (position - 1) (omega (arith, x .some)))) in
+      ne-eqb (getD (hitOf kinds) position 0) (getD (hitOf kinds) (position - 1) 0) (λ z. omega (arith, x .opens l, x .some, x .earlier (position - 1) (omega (arith, x .some)))) in
       sym (change-first (hitOf kinds) position _ _ (λ z. omega (arith, x .some)) refl refl) ∙ ap not e
 
   cut-after : (i j : ℕ) → position ≤ i → i < length kinds → j < length kinds → getD (hitOf kinds) i 0 ≡ getD (hitOf kinds) j 0 → position ≤ j
@@ -70,6 +70,7 @@ module _ {limit : ℕ} {kinds : List ℕ} {a g : ℕ} {kinds′ : List ℕ} {b h
       there s =
           counts-settled (r .cut′) (omega (arith, r .objects, s .after)) (omega (arith, s .there))
           (omega (arith, settled-counts (r .cut) s, hit-agree i i′ (s .after) e (s .there)))
+
       back : Settled limit kinds′ b i′ → Settled limit kinds a i
       back s =
           let p : a ≤ i = omega (arith, r .objects, s .after) in

@@ -21,8 +21,12 @@ Rising n xs = (i j : ℕ) → i ≤ j → j < n → getD xs i 0 ≤ getD xs j 0
 gathered-rises : (n : ℕ) (marks numbers : List ℕ) → length numbers ≡ n → ((i : ℕ) → i < n → getD numbers i 0 < length marks) → Rising n numbers
     → Rising n (gathered (groupNumbers marks) numbers)
 gathered-rises n marks numbers e below rise i j l h =
-    omega (arith, getD-gathered (groupNumbers marks) numbers i (omega arith), getD-gathered (groupNumbers marks) numbers j (omega arith),
-      numbers-rise marks (getD numbers i 0) (getD numbers j 0) (rise i j l h) (below j h))
+    omega (
+      arith,
+      getD-gathered (groupNumbers marks) numbers i (omega arith),
+      getD-gathered (groupNumbers marks) numbers j (omega arith),
+      numbers-rise marks (getD numbers i 0) (getD numbers j 0) (rise i j l h) (below j h),
+    )
 
 module _ (kinds : List ℕ) where
   streak-rises : Rising (length kinds) (streakOf kinds)

@@ -58,8 +58,8 @@ module _ {limit : ℕ} {kinds : List ℕ} {a g : ℕ} {kinds′ : List ℕ} {b h
           let l′ : length (part s′ (e′ - s′) values′) ≡ e′ - s′ = length-part s′ (e′ - s′) values′ (omega (arith, length-values limit tolerance kinds′ ratios′)) in
           ext-getD nan (part s (e - s) values) (part s′ (e′ - s′) values′) (l ∙ same-size ∙ sym l′)
           (λ i k. getD-part s (e - s) values i nan (omega arith)
-            ∙ values-at (s + i) (s′ + i) (omega arith) (omega arith) (omega arith) (omega (arith, hit-rises kinds s (s + i) (omega arith) (omega arith)))
-            ∙ sym (getD-part s′ (e′ - s′) values′ i nan (omega arith)))
+          ∙ values-at (s + i) (s′ + i) (omega arith) (omega arith) (omega arith) (omega (arith, hit-rises kinds s (s + i) (omega arith) (omega arith)))
+          ∙ sym (getD-part s′ (e′ - s′) values′ i nan (omega arith)))
 
       pub mean-agree : meanOf values s e ≡ meanOf values′ s′ e′
       unfolding meanOf

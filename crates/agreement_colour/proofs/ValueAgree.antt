@@ -58,9 +58,9 @@ module _ {limit : ℕ} {kinds : List ℕ} {a g : ℕ} {kinds′ : List ℕ} {b h
   unfolding colourAt
   value-agree tolerance ratios ratios′ m c late j l n =
       let at : (i i′ : ℕ) → length kinds ≤ i + m → length kinds + i′ ≡ length kinds′ + i → getD ratios i nan ≡ getD ratios′ i′ nan =
-          λ i i′ f k. tail-at ratios ratios′ (length kinds - m) (length kinds′ - m) (c .ratios-alike) i i′ nan (omega arith) (omega (arith, c .inside, c .inside′)) in
+      λ i i′ f k. tail-at ratios ratios′ (length kinds - m) (length kinds′ - m) (c .ratios-alike) i i′ nan (omega arith) (omega (arith, c .inside, c .inside′)) in
       let this = at (a + j) (b + j) (omega arith) (omega (arith, r .objects)) in
       let earlier = at (a + j - 2) (b + j - 2) (omega arith) (omega (arith, r .objects, c .inside, c .inside′)) in
       (λ t. mul binary64 (objectSum (looked-agree j l n t)) (ratioPenalty tolerance (a + j) (this t) (earlier t)))
       ∙ ap (λ (x : Float). mul binary64 (objectSum (lookedAt limit kinds′ (b + j))) x)
-        (penalty-agree tolerance (a + j) (b + j) _ _ (omega (arith, c .inside)) (omega (arith, r .objects, c .inside′)))
+      (penalty-agree tolerance (a + j) (b + j) _ _ (omega (arith, c .inside)) (omega (arith, r .objects, c .inside′)))

@@ -30,7 +30,7 @@ pub record EncodeClaim (c c′ : Chart) (lent lent′ : encode.Memory) (position
       → getD (encodeOutcome c′ lent′ .memory .hit) i 0 ≡ getD (encodeOutcome c′ lent′ .memory .hit) j 0 → position′ ≤ j
   pub same-objects : (i i′ j j′ : ℕ) → position ≤ i → i < size c → Counterparts (c .kinds) (c′ .kinds) i i′ → position ≤ j → j < size c → Counterparts (c .kinds) (c′ .kinds) j j′
       → (getD (encodeOutcome c lent .memory .hit) i 0 ≡ getD (encodeOutcome c lent .memory .hit) j 0)
-        ↔ (getD (encodeOutcome c′ lent′ .memory .hit) i′ 0 ≡ getD (encodeOutcome c′ lent′ .memory .hit) j′ 0)
+      ↔ (getD (encodeOutcome c′ lent′ .memory .hit) i′ 0 ≡ getD (encodeOutcome c′ lent′ .memory .hit) j′ 0)
   pub interval : (i i′ : ℕ) → Settled searchLimit (c .kinds) position i → Counterparts (c .kinds) (c′ .kinds) i i′
       → getD (encodeOutcome c lent .memory .interval) i 0 ≡ getD (encodeOutcome c′ lent′ .memory .interval) i′ 0
 

@@ -27,14 +27,19 @@ test-landmark margin deltas t i e = record {
   where
     n : Bool
     n = isNear margin (getD deltas (i - 1) nan) (getD deltas i nan)
+
     f : Bool
     f = not (isNear margin (getD deltas i nan) (getD deltas (i + 1) nan))
+
     a : (ltb 0 i ≡ true) × (ltb (i + 1) (length deltas) && (leb (length deltas) (i - 1 + t) && (n && f)) ≡ true)
     a = both (ltb 0 i) (ltb (i + 1) (length deltas) && (leb (length deltas) (i - 1 + t) && (n && f))) e
+
     b : (ltb (i + 1) (length deltas) ≡ true) × (leb (length deltas) (i - 1 + t) && (n && f) ≡ true)
     b = both (ltb (i + 1) (length deltas)) (leb (length deltas) (i - 1 + t) && (n && f)) (a .1)
+
     c : (leb (length deltas) (i - 1 + t) ≡ true) × (n && f ≡ true)
     c = both (leb (length deltas) (i - 1 + t)) (n && f) (b .1)
+
     d : (n ≡ true) × (f ≡ true)
     d = both n f (c .1)
 

@@ -50,7 +50,7 @@ module _ (m : ℕ) (kinds : List ℕ) (deltas : List Float) (whole : length delt
   note-deltas-cut =
       sym (λ i. noteDeltas (take-append-drop (length kinds - m) kinds i) (take-append-drop (length deltas - m) deltas i))
       ∙ note-deltas-append (take (length kinds - m) kinds) (lastOf m kinds) (take (length deltas - m) deltas) (lastOf m deltas)
-        (omega (arith, length-take-le (length kinds - m) kinds (omega arith), length-take-le (length deltas - m) deltas (omega arith)))
+      (omega (arith, length-take-le (length kinds - m) kinds (omega arith), length-take-le (length deltas - m) deltas (omega arith)))
 
   pub notes-fit : tailNotes m kinds deltas ≤ length (noteDeltas kinds deltas)
   unfolding tailNotes
@@ -61,7 +61,7 @@ module _ (m : ℕ) (kinds : List ℕ) (deltas : List Float) (whole : length delt
   notes-last =
       ap (λ (l : List Float). drop (length (noteDeltas kinds deltas) - length (noteDeltas (lastOf m kinds) (lastOf m deltas))) l) note-deltas-cut
       ∙ drop-at front (noteDeltas (lastOf m kinds) (lastOf m deltas)) (length (noteDeltas kinds deltas) - length (noteDeltas (lastOf m kinds) (lastOf m deltas)))
-        (omega (arith, ap length note-deltas-cut, length-append front (noteDeltas (lastOf m kinds) (lastOf m deltas))))
+      (omega (arith, ap length note-deltas-cut, length-append front (noteDeltas (lastOf m kinds) (lastOf m deltas))))
 
 -- two charts with a common tail have a common tail of notes
 module _ {m : ℕ} {kinds : List ℕ} {deltas : List Float} {kinds′ : List ℕ} {deltas′ : List Float} (c : CommonTail m kinds deltas kinds′ deltas′) where
@@ -88,6 +88,11 @@ module _ {m : ℕ} {kinds : List ℕ} {deltas : List Float} {kinds′ : List ℕ
     note-counterparts n =
         let n′ : isNote (getD kinds′ o′ 0) ≡ true = sym same-kind ∙ n in
         rw (n, n′)
-          (omega
-          (arith, length-note-deltas kinds deltas (c .whole), length-note-deltas kinds′ deltas′ (c .whole′), notes-split kinds o, notes-split kinds′ o′,
-          ap (λ (ks : List ℕ). length (notes ks)) (same-behind kinds kinds′ m (c .fits) (c .fits′) (c .kind-alike) o o′ h e)))
+        (omega (
+          arith,
+          length-note-deltas kinds deltas (c .whole),
+          length-note-deltas kinds′ deltas′ (c .whole′),
+          notes-split kinds o,
+          notes-split kinds′ o′,
+          ap (λ (ks : List ℕ). length (notes ks)) (same-behind kinds kinds′ m (c .fits) (c .fits′) (c .kind-alike) o o′ h e),
+        ))

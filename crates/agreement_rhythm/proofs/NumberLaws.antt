@@ -48,7 +48,9 @@ numbers-shift marks marks′ a b e (suc j) h =
   where
     there : suc (b + j) < length marks′
     there = omega (arith, length-drop (suc a) marks, length-drop (suc b) marks′, ap length e)
+
     at : (l : List ℕ) (c : ℕ) → getD l (suc (c + j)) 0 ≡ getD (drop (suc c) l) j 0
     at l c = ap (λ (n : ℕ). getD l n 0) (let z : suc (c + j) ≡ suc c + j = omega arith in z) ∙ sym (getD-drop (suc c) l j 0)
+
     mark : getD marks (suc (a + j)) 0 ≡ getD marks′ (suc (b + j)) 0
     mark = at marks a ∙ ap (λ (l : List ℕ). getD l j 0) e ∙ sym (at marks′ b)

@@ -29,12 +29,12 @@ unfolding marksAfter
 after-sync margin last u v w [] rest e = ap (drop 1) (marks-near margin true last u v (w ∷ rest) e)
 after-sync margin last u v w (x ∷ []) rest e =
     pick (isNear margin x u) (rises margin x u) 2 (0 ∷ marksAfter margin true x (u ∷ v ∷ w ∷ rest)) (0 ∷ 1 ∷ marksAfter margin true u (v ∷ w ∷ rest))
-      (1 ∷ marksAfter margin true x (u ∷ v ∷ w ∷ rest)) (marksAfter margin true u (v ∷ w ∷ rest))
-      (after-sync margin x u v w [] rest e) refl (after-sync margin x u v w [] rest e)
+    (1 ∷ marksAfter margin true x (u ∷ v ∷ w ∷ rest)) (marksAfter margin true u (v ∷ w ∷ rest))
+    (after-sync margin x u v w [] rest e) refl (after-sync margin x u v w [] rest e)
 after-sync margin last u v w (x ∷ y ∷ xs) rest e =
     pick (isNear margin x y) (rises margin x y) (suc (suc (suc (length xs)))) (0 ∷ marksAfter margin true x (y ∷ xs ++ u ∷ v ∷ w ∷ rest))
-      (0 ∷ 1 ∷ marksAfter margin true y (xs ++ u ∷ v ∷ w ∷ rest)) (1 ∷ marksAfter margin true x (y ∷ xs ++ u ∷ v ∷ w ∷ rest)) (marksAfter margin true u (v ∷ w ∷ rest))
-      (after-sync margin x u v w (y ∷ xs) rest e) (after-sync margin y u v w xs rest e) (after-sync margin x u v w (y ∷ xs) rest e)
+    (0 ∷ 1 ∷ marksAfter margin true y (xs ++ u ∷ v ∷ w ∷ rest)) (1 ∷ marksAfter margin true x (y ∷ xs ++ u ∷ v ∷ w ∷ rest)) (marksAfter margin true u (v ∷ w ∷ rest))
+    (after-sync margin x u v w (y ∷ xs) rest e) (after-sync margin y u v w xs rest e) (after-sync margin x u v w (y ∷ xs) rest e)
 
 marks-sync : (margin u v w : Float) (xs rest : List Float) → isNear margin u v ≡ true
     → drop (suc (length xs)) (intervalMarks margin (xs ++ u ∷ v ∷ w ∷ rest)) ≡ marksAfter margin true u (v ∷ w ∷ rest)
@@ -42,7 +42,7 @@ unfolding intervalMarks
 marks-sync margin u v w [] rest e = ap (λ (b : Bool). marksAfter margin b u (v ∷ w ∷ rest)) (lt-ltb 1 (suc (suc (length rest))) (omega arith))
 marks-sync margin u v w (x ∷ xs) rest e =
     ap (λ (b : Bool). drop (suc (length xs)) (marksAfter margin b x (xs ++ u ∷ v ∷ w ∷ rest)))
-      (lt-ltb 1 (length (xs ++ u ∷ v ∷ w ∷ rest)) (omega (arith, length-append xs (u ∷ v ∷ w ∷ rest))))
+    (lt-ltb 1 (length (xs ++ u ∷ v ∷ w ∷ rest)) (omega (arith, length-append xs (u ∷ v ∷ w ∷ rest))))
     ∙ after-sync margin x u v w xs rest e
 
 -- notes j and j + 1 are near, and there is a note j + 2: the marks from note j + 1 on
@@ -55,11 +55,13 @@ marks-from margin deltas j h e =
   where
     size : j ≡ length (take j deltas)
     size = sym (length-take-le j deltas (omega arith))
+
     behind : drop (suc j) deltas ≡ getD deltas (suc j) nan ∷ getD deltas (suc (suc j)) nan ∷ drop (suc (suc (suc j))) deltas
     behind = drop-cons deltas (suc j) nan (omega arith) ∙ ap (λ (l : List Float). getD deltas (suc j) nan ∷ l) (drop-cons deltas (suc (suc j)) nan h)
+
     whole : deltas ≡ take j deltas ++ getD deltas j nan ∷ getD deltas (suc j) nan ∷ getD deltas (suc (suc j)) nan ∷ drop (suc (suc (suc j))) deltas
     whole = sym (take-append-drop j deltas)
-      ∙ ap (λ (l : List Float). take j deltas ++ l) (drop-cons deltas j nan (omega arith) ∙ ap (λ (l : List Float). getD deltas j nan ∷ l) behind)
+        ∙ ap (λ (l : List Float). take j deltas ++ l) (drop-cons deltas j nan (omega arith) ∙ ap (λ (l : List Float). getD deltas j nan ∷ l) behind)
 
 -- the marks from a landmark on
 pub landmark-marks : (margin : Float) (deltas : List Float) (t i : ℕ) → RhythmLandmark margin deltas t i
@@ -67,7 +69,7 @@ pub landmark-marks : (margin : Float) (deltas : List Float) (t i : ℕ) → Rhyt
 landmark-marks margin deltas t i m =
     let e : suc (i - 1) ≡ i = omega (arith, m .before-there) in
     subst (λ (n : ℕ). drop n (intervalMarks margin deltas) ≡ marksAfter margin true (getD deltas (i - 1) nan) (drop n deltas)) e
-      (marks-from margin deltas (i - 1) (omega (arith, m .next-there)) (ap (λ (n : ℕ). isNear margin (getD deltas (i - 1) nan) (getD deltas n nan)) e ∙ m .near))
+    (marks-from margin deltas (i - 1) (omega (arith, m .next-there)) (ap (λ (n : ℕ). isNear margin (getD deltas (i - 1) nan) (getD deltas n nan)) e ∙ m .near))
 
 -- ---- two lists whose last t elements are alike
 
@@ -102,8 +104,10 @@ module _ (xs ys : List Float) (t : ℕ) (fits : t ≤ length xs) (fits′ : t �
     where
       before : getD xs (i - 1) nan ≡ getD ys (i′ - 1) nan
       before = same-delta (i - 1) (i′ - 1) (m .of-tail) (omega (arith, m .before-there, m .of-tail))
+
       here : getD xs i nan ≡ getD ys i′ nan
       here = same-delta i i′ (omega (arith, m .of-tail)) c
+
       next : getD xs (i + 1) nan ≡ getD ys (i′ + 1) nan
       next = same-delta (i + 1) (i′ + 1) (omega (arith, m .of-tail)) (omega arith)
 

@@ -44,10 +44,14 @@ module _ {margin : Float} {xs : List Float} {a : ℕ} {ys : List Float} {b : ℕ
   opens-over p q l c o = record {
     there = omega (arith, o .there);
     first = λ n h e.
-      o .first (p - 1) (omega arith)
-        (omega
-        (arith, s .shift (p - 1) (q - 1) (omega arith) (omega (arith, o .there)) (omega (arith, s .start)), s .shift p q (omega arith) (o .there) c,
-        group-rise margin ys n (q - 1) (omega arith) (omega (arith, o .there)), group-rise margin ys (q - 1) q (omega arith) (omega (arith, o .there))));
+        o .first (p - 1) (omega arith)
+        (omega (
+          arith,
+          s .shift (p - 1) (q - 1) (omega arith) (omega (arith, o .there)) (omega (arith, s .start)),
+          s .shift p q (omega arith) (o .there) c,
+          group-rise margin ys n (q - 1) (omega arith) (omega (arith, o .there)),
+          group-rise margin ys (q - 1) q (omega arith) (omega (arith, o .there)),
+        ));
   }
 
   -- and each note of the group has its counterpart in the other
@@ -66,9 +70,9 @@ claim-shifted {margin} {xs} {ys} {a} {b} s e f = record {
   same = λ p q l c o. record {
     forth = notes-over s p q (omega arith) c o;
     back = λ k h g.
-      let x : (n : ℕ) × (Counterparts ys xs k n × (groupAt margin xs n ≡ groupAt margin xs p)) =
-          notes-over (shifted-sym s) q p (omega (arith, s .start)) (sym c) (opens-over s p q (omega arith) c o) k h g in
-      (x .0, (sym (x .1 .0), x .1 .1));
+        let x : (n : ℕ) × (Counterparts ys xs k n × (groupAt margin xs n ≡ groupAt margin xs p)) =
+        notes-over (shifted-sym s) q p (omega (arith, s .start)) (sym c) (opens-over s p q (omega arith) c o) k h g in
+        (x .0, (sym (x .1 .0), x .1 .1));
   };
 }
 
@@ -82,19 +86,22 @@ module _ (margin : Float) (xs ys : List Float) (t : ℕ) (fits : t ≤ length xs
   rhythm-numbers = record {
     start = omega (arith, some, some′);
     shift = λ p q l h d.
-      let e : p ≡ i - 1 + (p - (i - 1)) = omega arith in
-      let f : q ≡ i′ - 1 + (p - (i - 1)) = omega (arith, some, some′) in
-      subst (λ (n : ℕ). getD (groupNumbers (intervalMarks margin xs)) n 0 + groupAt margin ys (i′ - 1) ≡ groupAt margin ys q + groupAt margin xs (i - 1)) (sym e)
+        let e : p ≡ i - 1 + (p - (i - 1)) = omega arith in
+        let f : q ≡ i′ - 1 + (p - (i - 1)) = omega (arith, some, some′) in
+        subst (λ (n : ℕ). getD (groupNumbers (intervalMarks margin xs)) n 0 + groupAt margin ys (i′ - 1) ≡ groupAt margin ys q + groupAt margin xs (i - 1)) (sym e)
         (subst (λ (n : ℕ). getD (groupNumbers (intervalMarks margin xs)) (i - 1 + (p - (i - 1))) 0 + groupAt margin ys (i′ - 1) ≡ getD (groupNumbers (intervalMarks margin ys)) n 0 + groupAt margin xs (i - 1)) (sym f)
-          (numbers-shift (intervalMarks margin xs) (intervalMarks margin ys) (i - 1) (i′ - 1) marks (p - (i - 1)) (omega (arith, length-marks margin xs))));
+        (numbers-shift (intervalMarks margin xs) (intervalMarks margin ys) (i - 1) (i′ - 1) marks (p - (i - 1)) (omega (arith, length-marks margin xs))));
   }
     where
       mark : RhythmLandmark margin xs t i
       mark = either-list margin xs ys t fits fits′ alike i i′ c m
+
       some : 0 < i
       some = mark .before-there
+
       some′ : 0 < i′
       some′ = omega (arith, some, mark .of-tail)
+
       marks : drop (suc (i - 1)) (intervalMarks margin xs) ≡ drop (suc (i′ - 1)) (intervalMarks margin ys)
       marks =
           let e : suc (i - 1) ≡ i = omega (arith, some) in
@@ -107,6 +114,7 @@ module _ (margin : Float) (xs ys : List Float) (t : ℕ) (fits : t ≤ length xs
     where
       mark : RhythmLandmark margin xs t i
       mark = either-list margin xs ys t fits fits′ alike i i′ c m
+
       some : 0 < i
       some = mark .before-there
 
@@ -117,8 +125,8 @@ unfolding groupAt more
 opens-by-mark margin deltas p l e = record {
   there = l;
   first = λ n h g.
-    omega
-    (arith, number-step (intervalMarks margin deltas) p (omega (arith, length-marks margin deltas)), ap more e, group-rise margin deltas n p (omega arith) (omega arith));
+      omega
+      (arith, number-step (intervalMarks margin deltas) p (omega (arith, length-marks margin deltas)), ap more e, group-rise margin deltas n p (omega arith) (omega arith));
 }
 
 pub landmark-opens : (margin : Float) (deltas : List Float) (t i : ℕ) → RhythmLandmark margin deltas t i → OpensAt margin deltas i ⊎ OpensAt margin deltas (i + 1)
@@ -126,31 +134,37 @@ landmark-opens margin deltas t i m = by (rises margin (getD deltas i nan) (getD 
   where
     v : Float
     v = getD deltas i nan
+
     w : Float
     w = getD deltas (i + 1) nan
+
     rest : List Float
     rest = drop (suc (i + 1)) deltas
+
     behind : drop i deltas ≡ v ∷ w ∷ rest
     behind =
         drop-cons deltas i nan (omega (arith, m .next-there))
         ∙ ap (λ (l : List Float). v ∷ l) (ap (λ (n : ℕ). drop n deltas) (sym (add-one i)) ∙ drop-cons deltas (i + 1) nan (m .next-there))
+
     marks : drop i (intervalMarks margin deltas) ≡ marksAfter margin true (getD deltas (i - 1) nan) (v ∷ w ∷ rest)
     marks = landmark-marks margin deltas t i m ∙ ap (marksAfter margin true (getD deltas (i - 1) nan)) behind
+
     mark : (k : ℕ) (ms : List ℕ) → drop i (intervalMarks margin deltas) ≡ ms → getD (intervalMarks margin deltas) (i + k) 0 ≡ getD ms k 0
     mark k ms e = sym (getD-drop i (intervalMarks margin deltas) k 0) ∙ ap (λ (l : List ℕ). getD l k 0) e
+
     by : (b : Bool) → rises margin v w ≡ b → OpensAt margin deltas i ⊎ OpensAt margin deltas (i + 1)
     by true r =
         inr (subst (OpensAt margin deltas) (sym (add-one i))
-          (opens-by-mark margin deltas i (omega (arith, m .next-there))
-            (ap (λ (n : ℕ). getD (intervalMarks margin deltas) n 0) (sym (add-one i))
-            ∙ mark 1 (0 ∷ 1 ∷ marksAfter margin true w rest) (marks ∙ marks-rise margin true (getD deltas (i - 1) nan) v w rest (m .not-near) r))))
+        (opens-by-mark margin deltas i (omega (arith, m .next-there))
+        (ap (λ (n : ℕ). getD (intervalMarks margin deltas) n 0) (sym (add-one i))
+        ∙ mark 1 (0 ∷ 1 ∷ marksAfter margin true w rest) (marks ∙ marks-rise margin true (getD deltas (i - 1) nan) v w rest (m .not-near) r))))
     by false r =
         let s : suc (i - 1) ≡ i = omega (arith, m .before-there) in
         let z : i + 0 ≡ i = omega arith in
         inl (subst (OpensAt margin deltas) s
-          (opens-by-mark margin deltas (i - 1) (omega (arith, m .before-there, m .next-there))
-            (ap (λ (n : ℕ). getD (intervalMarks margin deltas) n 0) (s ∙ sym z)
-            ∙ mark 0 (1 ∷ marksAfter margin true v (w ∷ rest)) (marks ∙ marks-neither margin true (getD deltas (i - 1) nan) v w rest (m .not-near) r))))
+        (opens-by-mark margin deltas (i - 1) (omega (arith, m .before-there, m .next-there))
+        (ap (λ (n : ℕ). getD (intervalMarks margin deltas) n 0) (s ∙ sym z)
+        ∙ mark 0 (1 ∷ marksAfter margin true v (w ∷ rest)) (marks ∙ marks-neither margin true (getD deltas (i - 1) nan) v w rest (m .not-near) r))))
 
 -- ---- two charts
 
@@ -160,7 +174,7 @@ rhythm-half margin m kinds deltas kinds′ deltas′ c = record {
   both-notes = same-kind c;
   note-counterparts = note-counterparts c;
   from-landmark = λ i i′ d x.
-    rhythm-claim margin (noteDeltas kinds deltas) (noteDeltas kinds′ deltas′) (tailNotes m kinds deltas) (notes-fit m kinds deltas (c .whole) (c .fits))
+      rhythm-claim margin (noteDeltas kinds deltas) (noteDeltas kinds′ deltas′) (tailNotes m kinds deltas) (notes-fit m kinds deltas (c .whole) (c .fits))
       (omega (arith, same-count c, notes-fit m kinds′ deltas′ (c .whole′) (c .fits′))) (notes-alike c) i i′ d
       (subst (λ (n : ℕ). RhythmLandmark margin (noteDeltas kinds deltas) (tailNotes m kinds deltas) i ⊎ RhythmLandmark margin (noteDeltas kinds′ deltas′) n i′) (sym (same-count c)) x);
 }

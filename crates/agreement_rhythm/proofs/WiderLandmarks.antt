@@ -59,13 +59,13 @@ three-notes-hold xs ys t i i′ f f′ a c h l o e e′ =
     let y : (n ≡ true) × (not k ≡ true) = both n (not k) (x .1) in
     let s : i - 1 + 1 ≡ i = omega arith in
     rhythm-claim margin xs ys t f f′ a i i′ c
-      (inl (record {
-        before-there = h;
-        next-there = ltb-true (i + 1) (length xs) (x .0);
-        of-tail = o;
-        near = rw s at (y .0);
-        not-near = not-true k (y .1);
-      }))
+    (inl (record {
+      before-there = h;
+      next-there = ltb-true (i + 1) (length xs) (x .0);
+      of-tail = o;
+      near = rw s at (y .0);
+      not-near = not-true k (y .1);
+    }))
 
 -- ---- how a wider one is refuted
 
@@ -77,14 +77,14 @@ changes deltas i = ltb (groupAt margin deltas (i - 1)) (groupAt margin deltas i)
 unfoldable refutes : (List Float → ℕ → Bool) → List Float → List Float → List Float → ℕ → Bool
 refutes test before before′ tail offset =
     ltb 0 offset && (ltb offset (length tail) && (test (before ++ tail) (length before + offset) && (test (before′ ++ tail) (length before′ + offset)
-      && (changes (before ++ tail) (length before + offset) && not (changes (before′ ++ tail) (length before′ + offset))))))
+    && (changes (before ++ tail) (length before + offset) && not (changes (before′ ++ tail) (length before′ + offset))))))
 
 -- a group opens at note i of the one list and none at note i′ of the other
 disagree : (xs ys : List Float) (i i′ : ℕ) → 0 < i → i < length xs → 0 < i′ → i′ < length ys → changes xs i ≡ true → changes ys i′ ≡ false → RhythmClaim margin xs i ys i′ → ⊥
 unfolding changes
 disagree xs ys i i′ h l h′ l′ e e′ r =
     r .opens i i′ (omega arith) (r .counterparts) .0 opens .first (i′ - 1) (omega arith)
-      (omega (arith, ltb-false (groupAt margin ys (i′ - 1)) (groupAt margin ys i′) e′, group-rise margin ys (i′ - 1) i′ (omega arith) l′))
+    (omega (arith, ltb-false (groupAt margin ys (i′ - 1)) (groupAt margin ys i′) e′, group-rise margin ys (i′ - 1) i′ (omega arith) l′))
   where
     opens : OpensAt margin xs i
     opens = record {
@@ -98,31 +98,41 @@ refuted test before before′ tail offset e f =
     let some : 0 < offset = ltb-true 0 offset (r₁ .0) in
     let inside : offset < length tail = ltb-true offset (length tail) (r₂ .0) in
     disagree xs ys (length before + offset) (length before′ + offset) (omega arith) (omega (arith, length-append before tail)) (omega arith) (omega (arith, length-append before′ tail))
-      (r₅ .0) (not-true (changes ys (length before′ + offset)) (r₅ .1))
-      (f xs ys (length tail) (length before + offset) (length before′ + offset) (omega (arith, length-append before tail)) (omega (arith, length-append before′ tail))
-        (last before ∙ sym (last before′)) (omega (arith, length-append before tail, length-append before′ tail)) (omega arith) (omega (arith, length-append before tail))
-        (omega (arith, length-append before tail)) (r₃ .0) (r₄ .0))
+    (r₅ .0) (not-true (changes ys (length before′ + offset)) (r₅ .1))
+    (f xs ys (length tail) (length before + offset) (length before′ + offset) (omega (arith, length-append before tail)) (omega (arith, length-append before′ tail))
+    (last before ∙ sym (last before′)) (omega (arith, length-append before tail, length-append before′ tail)) (omega arith) (omega (arith, length-append before tail))
+    (omega (arith, length-append before tail)) (r₃ .0) (r₄ .0))
   where
     xs : List Float
     xs = before ++ tail
+
     ys : List Float
     ys = before′ ++ tail
+
     last : (front : List Float) → lastOf (length tail) (front ++ tail) ≡ tail
     last front = drop-at front tail (length (front ++ tail) - length tail) (omega (arith, length-append front tail))
+
     b₅ : Bool
     b₅ = changes xs (length before + offset) && not (changes ys (length before′ + offset))
+
     b₄ : Bool
     b₄ = test ys (length before′ + offset) && b₅
+
     b₃ : Bool
     b₃ = test xs (length before + offset) && b₄
+
     r₁ : (ltb 0 offset ≡ true) × (ltb offset (length tail) && b₃ ≡ true)
     r₁ = both (ltb 0 offset) (ltb offset (length tail) && b₃) e
+
     r₂ : (ltb offset (length tail) ≡ true) × (b₃ ≡ true)
     r₂ = both (ltb offset (length tail)) b₃ (r₁ .1)
+
     r₃ : (test xs (length before + offset) ≡ true) × (b₄ ≡ true)
     r₃ = both (test xs (length before + offset)) b₄ (r₂ .1)
+
     r₄ : (test ys (length before′ + offset) ≡ true) × (b₅ ≡ true)
     r₄ = both (test ys (length before′ + offset)) b₅ (r₃ .1)
+
     r₅ : (changes xs (length before + offset) ≡ true) × (not (changes ys (length before′ + offset)) ≡ true)
     r₅ = both (changes xs (length before + offset)) (not (changes ys (length before′ + offset))) (r₄ .1)
 

@@ -32,10 +32,10 @@ pub record OpensAt (margin : Float) (deltas : List Float) (p : ℕ) : Type 0 whe
 pub record SameNotes (margin : Float) (deltas : List Float) (p : ℕ) (deltas′ : List Float) (q : ℕ) : Type 0 where
   -- each note n of the one group has a counterpart k, and that is of the other group
   pub forth : (n : ℕ) → n < length deltas → groupAt margin deltas n ≡ groupAt margin deltas p
-    → (k : ℕ) × (Counterparts deltas deltas′ n k × (groupAt margin deltas′ k ≡ groupAt margin deltas′ q))
+      → (k : ℕ) × (Counterparts deltas deltas′ n k × (groupAt margin deltas′ k ≡ groupAt margin deltas′ q))
   -- each note k of the other group has a counterpart n, and that is of the one group
   pub back : (k : ℕ) → k < length deltas′ → groupAt margin deltas′ k ≡ groupAt margin deltas′ q
-    → (n : ℕ) × (Counterparts deltas deltas′ n k × (groupAt margin deltas n ≡ groupAt margin deltas p))
+      → (n : ℕ) × (Counterparts deltas deltas′ n k × (groupAt margin deltas n ≡ groupAt margin deltas p))
 
 -- what holds from note i of the one list and its counterpart, note i′ of the other, on
 pub record RhythmClaim (margin : Float) (deltas : List Float) (i : ℕ) (deltas′ : List Float) (i′ : ℕ) : Type 0 where
@@ -73,8 +73,8 @@ pub record RhythmHalf (margin : Float) (m : ℕ) (kinds : List ℕ) (deltas : Li
   -- objects of the tail that are counterparts are notes both or neither, and as notes they are counterparts too
   pub both-notes : (o o′ : ℕ) → length kinds ≤ o + m → o < length kinds → length kinds + o′ ≡ length kinds′ + o → isNote (getD kinds o 0) ≡ isNote (getD kinds′ o′ 0)
   pub note-counterparts : (o o′ : ℕ) → length kinds ≤ o + m → o < length kinds → length kinds + o′ ≡ length kinds′ + o → isNote (getD kinds o 0) ≡ true
-    → Counterparts (noteDeltas kinds deltas) (noteDeltas kinds′ deltas′) (noteIdx kinds o) (noteIdx kinds′ o′)
+      → Counterparts (noteDeltas kinds deltas) (noteDeltas kinds′ deltas′) (noteIdx kinds o) (noteIdx kinds′ o′)
   -- from every rhythm landmark in the tail, read in either chart
   pub from-landmark : (i i′ : ℕ) → Counterparts (noteDeltas kinds deltas) (noteDeltas kinds′ deltas′) i i′
-    → RhythmLandmark margin (noteDeltas kinds deltas) (tailNotes m kinds deltas) i ⊎ RhythmLandmark margin (noteDeltas kinds′ deltas′) (tailNotes m kinds′ deltas′) i′
-    → RhythmClaim margin (noteDeltas kinds deltas) i (noteDeltas kinds′ deltas′) i′
+      → RhythmLandmark margin (noteDeltas kinds deltas) (tailNotes m kinds deltas) i ⊎ RhythmLandmark margin (noteDeltas kinds′ deltas′) (tailNotes m kinds′ deltas′) i′
+      → RhythmClaim margin (noteDeltas kinds deltas) i (noteDeltas kinds′ deltas′) i′

@@ -24,4 +24,4 @@ pub record RhythmLandmark (margin : Float) (deltas : List Float) (t i : ℕ) : T
 unfoldable pub isRhythmLandmark : Float → List Float → ℕ → ℕ → Bool
 isRhythmLandmark margin deltas t i =
     ltb 0 i && (ltb (i + 1) (length deltas) && (leb (length deltas) (i - 1 + t)
-      && (isNear margin (getD deltas (i - 1) nan) (getD deltas i nan) && not (isNear margin (getD deltas i nan) (getD deltas (i + 1) nan)))))
+    && (isNear margin (getD deltas (i - 1) nan) (getD deltas i nan) && not (isNear margin (getD deltas i nan) (getD deltas (i + 1) nan)))))

@@ -44,12 +44,12 @@ module _ (margin : Float) (v : List Float) (i : ℕ) where
       let many : Bool = ltb 2 (length v) in
       let x : Float = getD v i nan in
       let g : grow margin many (getD v (i - 1) nan) (drop i v) ≡ suc (grow margin many x (drop (i + 1) v)) =
-          ap (grow margin many (getD v (i - 1) nan)) (two h)
-          ∙ grow-near margin many (getD v (i - 1) nan) x (getD v (i + 1) nan) (drop (suc (i + 1)) v) e
-          ∙ ap (λ (l : List Float). suc (grow margin many x l)) (sym (drop-cons v (i + 1) nan h)) in
+      ap (grow margin many (getD v (i - 1) nan)) (two h)
+      ∙ grow-near margin many (getD v (i - 1) nan) x (getD v (i + 1) nan) (drop (suc (i + 1)) v) e
+      ∙ ap (λ (l : List Float). suc (grow margin many x l)) (sym (drop-cons v (i + 1) nan h)) in
       let b : i + 1 - 1 ≡ i = omega arith in
       let k : grow margin many (getD v (i + 1 - 1) nan) (drop (i + 1) v) ≡ grow margin many x (drop (i + 1) v) =
-          ap (λ (n : ℕ). grow margin many (getD v n nan) (drop (i + 1) v)) b in
+      ap (λ (n : ℕ). grow margin many (getD v n nan) (drop (i + 1) v)) b in
       omega arith
 
   -- it is not: the group ends, with the value if the next one rises

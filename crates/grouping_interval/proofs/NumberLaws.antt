@@ -81,7 +81,7 @@ module _ {g : List ℕ} {n : ℕ} {w₀ w : List ℕ} {i : ℕ} (new rest : List
       let a : take i w ≡ take i g = ap (take i) f ∙ front (take i g) w₀ i l in
       let b : drop k (drop i w) ≡ drop (i + k) w₀ = drop-drop k i w ∙ ap (drop (i + k)) f ∙ drop-over (take i g) w₀ (i + k) (omega arith) in
       let t : take (i + k) g ≡ take i g ++ new =
-          take-add i k g ∙ ap (λ (l : List ℕ). take i g ++ take k l) e ∙ ap (λ (l : List ℕ). take i g ++ l) (take-at new rest k refl) in
+      take-add i k g ∙ ap (λ (l : List ℕ). take i g ++ take k l) e ∙ ap (λ (l : List ℕ). take i g ++ l) (take-at new rest k refl) in
       ap (λ (l : List ℕ). l ++ (new ++ drop k (drop i w))) a
       ∙ ap (λ (l : List ℕ). take i g ++ (new ++ l)) b
       ∙ sym (append-assoc (take i g) new (drop (i + k) w₀))
@@ -136,7 +136,7 @@ module _ {margin : Float} {values : List Float} {group₀ group : List ℕ} {n c
       let m : marksFrom margin (ltb 2 (length values)) (drop at values) ≡ 1 ∷ replicate (end - at - 1) 0 ++ rest = rw e (marks-at margin values at k) in
       let s : suc (end - at - 1) ≡ end - at = omega arith in
       let l : drop at (groupNumbers (intervalMarks margin values)) ≡ replicate (end - at) count ++ numbered (count + 1) rest =
-          x .left ∙ ap (numbered count) m ∙ numbers-group count (end - at - 1) rest ∙ ap (λ (j : ℕ). replicate j count ++ numbered (count + 1) rest) s in
+      x .left ∙ ap (numbered count) m ∙ numbers-group count (end - at - 1) rest ∙ ap (λ (j : ℕ). replicate j count ++ numbered (count + 1) rest) s in
       let z : at + length (replicate (end - at) count) ≡ end = ap (λ (j : ℕ). at + j) (length-replicate (end - at) count) ∙ omega arith in
       record {
         all = x .all;
