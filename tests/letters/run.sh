@@ -31,7 +31,8 @@ letters() {
 }
 
 text=$(letters 1024)
-lines="$(printf %s "$text" | python3 "$here/expected.py")\n"
+# what these print, by document 01's text alone: expected.py made it of `letters 1024`
+lines="$(cat "$here/expected.txt")\n"
 
 expect "document 01's example" 'dkkddk\n' '17 d\n17 kk,dd\n2 k\n'
 expect 'a letter and no line feed' 'd' '17 d\n'
