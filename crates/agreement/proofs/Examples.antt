@@ -1,8 +1,7 @@
 -- Landmarks of short charts (d is 0, k is 1, n is 2), each chart as what stands before its tail and the tail, with the offsets in the tail at which the test finds a landmark.
 use mathlib.Core.Path.{_≡_, refl}
-use mathlib.Core.Bool.{cond}
 use mathlib.Core.List.{List, [], _∷_, _++_, map}
-use Prim.Native.Nat.{ℕ, zero, suc, _+_}
+use Prim.Native.Nat.{ℕ, _+_}
 use lib.ListN.{length}
 use Rattle.grouping_marks.specs.Scan.{scan, after, tabulate, gathered}
 use Rattle.grouping_marks.specs.Marks.{opened, groupCount, groupNumbers, sizesFrom, groupSizes, firstsFrom, groupFirsts}
@@ -11,18 +10,13 @@ use Rattle.grouping_color.specs.MonoStreak.{continues, opensStreak, streakMarks
 use Rattle.grouping_color.specs.AlternatingMonoPattern.{opensPattern, patternMarks, coupledAt, coupled}
 use Rattle.grouping_color.specs.Preprocessor.{patternsOpen, firstLengths, streakCounts, patternTypes, patternOf}
 use Rattle.agreement.specs.Landmark.{coupledPatterns, Landmark}
-use Rattle.agreement.specs.LandmarkTest.{anyBelow, allTrue, objectServes, streakServes, patternServes, endsAt, landmarkBy, isLandmark}
+use Rattle.agreement.specs.LandmarkTest.{anyBelow, allTrue, objectServes, streakServes, patternServes, endsAt, landmarkBy, isLandmark, landmarksBelow, landmarks}
 use Rattle.agreement.proofs.LandmarkLaws.{test-landmark}
 
 record Example : Type 0 where
   before : List ℕ
   tail : List ℕ
   offsets : List ℕ
-
--- the offsets from n down to 0 at which there is a landmark
-unfoldable offsetsUpTo : List ℕ → List ℕ → ℕ → List ℕ → List ℕ
-offsetsUpTo before tail zero found = cond (isLandmark (before ++ tail) (length tail) (length before)) (0 ∷ found) found
-offsetsUpTo before tail (suc n) found = offsetsUpTo before tail n (cond (isLandmark (before ++ tail) (length tail) (length before + suc n)) (suc n ∷ found) found)
 
 examples : List Example
 examples =
@@ -46,8 +40,9 @@ examples =
     ∷ []
 
 -- every chart of the list comes out as it says
-examples-right : map (λ (e : Example). offsetsUpTo (e .before) (e .tail) (length (e .tail)) []) examples ≡ map (λ (e : Example). e .offsets) examples
-unfolding examples offsetsUpTo scan after tabulate gathered opened groupCount groupNumbers sizesFrom groupSizes firstsFrom groupFirsts isNote notes noteIdx noteBefore previousNote continues opensStreak streakMarks streakOf streakLengths streakTypes opensPattern patternMarks coupledAt coupled patternsOpen firstLengths streakCounts patternTypes patternOf coupledPatterns anyBelow allTrue objectServes streakServes patternServes endsAt landmarkBy isLandmark
+examples-right : map (λ (e : Example). landmarks (e .before ++ e .tail) (length (e .tail))) examples
+    ≡ map (λ (e : Example). map (λ (offset : ℕ). length (e .before) + offset) (e .offsets)) examples
+unfolding examples landmarks landmarksBelow scan after tabulate gathered opened groupCount groupNumbers sizesFrom groupSizes firstsFrom groupFirsts isNote notes noteIdx noteBefore previousNote continues opensStreak streakMarks streakOf streakLengths streakTypes opensPattern patternMarks coupledAt coupled patternsOpen firstLengths streakCounts patternTypes patternOf coupledPatterns anyBelow allTrue objectServes streakServes patternServes endsAt landmarkBy isLandmark
 examples-right = refl
 
 -- so there are landmarks: d before the tail d k dd k n k d

@@ -1,7 +1,7 @@
 -- The landmark of Landmark.antt as a test that computes: the object of (a) and its note, the streak of (b) and the pattern of (c) are searched for.
 use Prim.Native.Nat.{ℕ, zero, suc, _+_, _-_}
 use mathlib.Core.Bool.{Bool, true, false, cond, not}
-use mathlib.Core.List.{List, [], _∷_}
+use mathlib.Core.List.{List, [], _∷_, _++_}
 use lib.Dec.{eqb, leb, ltb}
 use lib.ListN.{length, getD}
 use Rattle.grouping_marks.specs.Marks.{groupCount, groupNumbers}
@@ -54,3 +54,12 @@ landmarkBy kinds marks numbers lengths opens groups flags patterns m position =
 unfoldable pub isLandmark : List ℕ → ℕ → ℕ → Bool
 isLandmark kinds m position =
     landmarkBy kinds (streakMarks kinds) (streakOf kinds) (streakLengths kinds) (patternsOpen kinds) (groupNumbers (patternsOpen kinds)) (coupledPatterns kinds) (patternOf kinds) m position
+
+-- the positions below n at which there is a landmark, in rising order
+unfoldable pub landmarksBelow : List ℕ → ℕ → ℕ → List ℕ
+landmarksBelow kinds m zero = []
+landmarksBelow kinds m (suc n) = landmarksBelow kinds m n ++ cond (isLandmark kinds m n) (n ∷ []) []
+
+-- all landmarks of a chart with these kinds, where its last m objects are the common tail
+unfoldable pub landmarks : List ℕ → ℕ → List ℕ
+landmarks kinds m = landmarksBelow kinds m (suc (length kinds))
