@@ -1,0 +1,27 @@
+// Links the static library of a crate, which `rt staticlib CRATE` writes. The build.rs of each test package includes this file.
+
+use std::env;
+use std::path::{Path, PathBuf};
+
+const FOLDER_VARIABLE: &str = "DRESSERDUCK_STATICLIB";
+
+fn archive_folder() -> PathBuf {
+    match env::var_os(FOLDER_VARIABLE) {
+        Some(folder) => PathBuf::from(folder),
+        None => Path::new(env!("CARGO_MANIFEST_DIR")).join("../../target/staticlib"),
+    }
+}
+
+fn link(name: &str) {
+    let folder = archive_folder();
+    let archive = folder.join(format!("lib{name}.a"));
+    println!("cargo:rerun-if-env-changed={FOLDER_VARIABLE}");
+    println!("cargo:rerun-if-changed={}", archive.display());
+    assert!(
+        archive.is_file(),
+        "{} is missing: run `rt staticlib {name}` at the repository's root first",
+        archive.display()
+    );
+    println!("cargo:rustc-link-search=native={}", folder.display());
+    println!("cargo:rustc-link-lib=static={name}");
+}
