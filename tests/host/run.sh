@@ -1,5 +1,5 @@
 #!/usr/bin/env bash
-# Compiles and runs the C program as C11 and as C++ against libdresserduck.a, then runs the Rust tests.
+# Compiles and runs the C programs as C11 and as C++ against libdresserduck.a, then runs the Rust tests.
 # The archive is that of `rt staticlib dresserduck`, or the one in the folder DRESSERDUCK_STATICLIB.
 set -eu
 root=$(cd "$(dirname "$0")/../.." && pwd)
@@ -16,16 +16,17 @@ archive="$DRESSERDUCK_STATICLIB/libdresserduck.a"
 made=$(mktemp -d)
 trap 'rm -rf "$made"' EXIT
 strict=(-Wall -Wextra -Wpedantic -Werror -I "$root/include")
-program="$root/tests/host/c/encode.c"
 
-gcc -std=c11 "${strict[@]}" "$program" "$archive" -o "$made/as_c"
-"$made/as_c"
-if command -v g++ > /dev/null; then
-    g++ -std=c++17 "${strict[@]}" -x c++ "$program" -x none "$archive" -o "$made/as_cpp"
-    "$made/as_cpp"
-else
-    echo "no g++ here: the header is not tried as C++"
-fi
+for program in "$root"/tests/host/c/*.c; do
+    gcc -std=c11 "${strict[@]}" "$program" "$archive" -o "$made/as_c"
+    "$made/as_c"
+    if command -v g++ > /dev/null; then
+        g++ -std=c++17 "${strict[@]}" -x c++ "$program" -x none "$archive" -o "$made/as_cpp"
+        "$made/as_cpp"
+    else
+        echo "no g++ here: the header is not tried as C++"
+    fi
+done
 
 cd "$root/tests/host"
 cargo test --release --offline --quiet

@@ -8,7 +8,7 @@ use lib.ListN.{length}
 use lib.Ieee.{Float, fin, binary64, round, sub, le, ofInt}
 use Rattle.numeric.specs.Near.{absOf, isNear}
 use Rattle.grouping_chart.specs.Object.{isNote}
-use Rattle.agreement_rhythm.specs.NoteDeltas.{noteDeltas}
+use Rattle.grouping_chart.specs.Notes.{noteDeltas}
 use Rattle.agreement_rhythm.specs.RhythmLandmark.{RhythmLandmark, isRhythmLandmark}
 use Rattle.agreement_rhythm.proofs.LandmarkLaws.{test-landmark}
 

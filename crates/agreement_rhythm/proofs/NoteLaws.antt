@@ -2,14 +2,15 @@
 use mathlib.Core.Path.{_≡_, refl, sym, ap, _∙_}
 use mathlib.Core.Bool.{Bool, true, false, cond}
 use mathlib.Core.List.{List, [], _∷_, _++_}
-use Prim.Native.Nat.{ℕ, suc, _+_, _-_, _≤_, _<_}
+use Prim.Native.Nat.{ℕ, _+_, _-_, _≤_, _<_}
 use native.Mathlib.Omega.{arith}
 use lib.ListN.{length, take, drop, getD, length-append, take-append-drop}
 use lib.Seq.{length-take-le, drop-at}
 use lib.Ieee.{Float}
 use Rattle.grouping_chart.specs.Object.{isNote, notes, noteIdx}
+use Rattle.grouping_chart.specs.Notes.{noteDeltas}
 use Rattle.grouping_chart.proofs.ObjectLaws.{notes-append}
-use Rattle.agreement_rhythm.specs.NoteDeltas.{noteDeltas}
+use Rattle.grouping_chart.proofs.NoteLaws.{length-note-deltas}
 use Rattle.agreement_rhythm.specs.RhythmClaim.{Counterparts, lastOf, CommonTail, tailNotes}
 use Rattle.agreement_rhythm.proofs.RhythmAgree.{same-behind, same-at}
 
@@ -23,17 +24,6 @@ note-deltas-append (k ∷ ks) ks′ (d ∷ ds) ds′ e = by (isNote k) (note-del
     by : (b : Bool) → noteDeltas (ks ++ ks′) (ds ++ ds′) ≡ noteDeltas ks ds ++ noteDeltas ks′ ds′
         → cond b (d ∷ noteDeltas (ks ++ ks′) (ds ++ ds′)) (noteDeltas (ks ++ ks′) (ds ++ ds′)) ≡ cond b (d ∷ noteDeltas ks ds) (noteDeltas ks ds) ++ noteDeltas ks′ ds′
     by true u = ap (λ (l : List Float). d ∷ l) u
-    by false u = u
-
--- as many as there are notes
-length-note-deltas : (ks : List ℕ) (ds : List Float) → length ds ≡ length ks → length (noteDeltas ks ds) ≡ length (notes ks)
-unfolding noteDeltas notes
-length-note-deltas [] ds e = refl
-length-note-deltas (k ∷ ks) [] e = absurd (omega arith)
-length-note-deltas (k ∷ ks) (d ∷ ds) e = by (isNote k) (length-note-deltas ks ds (omega arith))
-  where
-    by : (b : Bool) → length (noteDeltas ks ds) ≡ length (notes ks) → length (cond b (d ∷ noteDeltas ks ds) (noteDeltas ks ds)) ≡ length (cond b (k ∷ notes ks) (notes ks))
-    by true u = ap suc u
     by false u = u
 
 notes-split : (kinds : List ℕ) (o : ℕ) → length (notes kinds) ≡ length (notes (take o kinds)) + length (notes (drop o kinds))

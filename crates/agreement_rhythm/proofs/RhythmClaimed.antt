@@ -13,7 +13,7 @@ use Rattle.grouping_marks.specs.Marks.{groupNumbers}
 use Rattle.grouping_interval.specs.IntervalGrouping.{rises, marksAfter, intervalMarks}
 use Rattle.grouping_interval.proofs.IntervalLaws.{marks-rise, marks-neither, length-marks}
 use Rattle.agreement.proofs.CutLaws.{numbers-rise}
-use Rattle.agreement_rhythm.specs.NoteDeltas.{noteDeltas}
+use Rattle.grouping_chart.specs.Notes.{noteDeltas}
 use Rattle.agreement_rhythm.specs.RhythmLandmark.{RhythmLandmark}
 use Rattle.agreement_rhythm.specs.RhythmClaim.{Counterparts, groupAt, OpensAt, RhythmClaim, lastOf, CommonTail, tailNotes, RhythmHalf}
 use Rattle.agreement_rhythm.proofs.NumberLaws.{more, number-step, numbers-shift}

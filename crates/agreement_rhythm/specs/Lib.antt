@@ -1,3 +1,2 @@
-pub mod NoteDeltas
 pub mod RhythmLandmark
 pub mod RhythmClaim

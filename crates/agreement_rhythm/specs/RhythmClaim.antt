@@ -10,7 +10,7 @@ use lib.Ieee.{Float}
 use Rattle.grouping_marks.specs.Marks.{groupNumbers}
 use Rattle.grouping_chart.specs.Object.{isNote, noteIdx}
 use Rattle.grouping_interval.specs.IntervalGrouping.{intervalMarks}
-use Rattle.agreement_rhythm.specs.NoteDeltas.{noteDeltas}
+use Rattle.grouping_chart.specs.Notes.{noteDeltas}
 use Rattle.agreement_rhythm.specs.RhythmLandmark.{RhythmLandmark}
 
 -- ---- two lists of notes, given by their deltas

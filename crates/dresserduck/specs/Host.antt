@@ -1,17 +1,28 @@
 -- What a host gets for each answer: document 01's numbers in a record of plain numbers. `refusal` is 0 on acceptance; on refusal every other field but `place` is 0.
+use Prim.Native.Nat.{ℕ}
 use lib.IntN.{pos}
-use lib.Ieee.{binary64, ofBits}
+use lib.Ieee.{binary64, ofBits, toBits}
 use Rattle.grouping_encode.specs.Encode as encode
 use Rattle.evaluator_calls.specs.Calls as calls
+use Rattle.grouping_rhythm.specs.Rhythm as rhythm
+use Rattle.evaluator_record.specs.Calls as recording
 use Rattle.grouping_encode.specs.declared.Encoding.{Encoding}
 use Rattle.grouping_encode.specs.declared.Encoding.the-variants as encoding
 use Rattle.evaluator_calls.specs.declared.Colouring.{Colouring}
 use Rattle.evaluator_calls.specs.declared.Colouring.the-variants as colouring
 use Rattle.evaluator_calls.specs.declared.Stretching.{Stretching}
 use Rattle.evaluator_calls.specs.declared.Stretching.the-variants as stretching
+use Rattle.grouping_same_rhythm.specs.declared.own.Own.{Own}
+use Rattle.grouping_same_rhythm.specs.declared.own.Own.the-variants.{Absent, Millis}
+use Rattle.grouping_rhythm.specs.declared.Grouping.{Grouping}
+use Rattle.grouping_rhythm.specs.declared.Grouping.the-variants as grouping
+use Rattle.evaluator_record.specs.declared.Recording.{Recording}
+use Rattle.evaluator_record.specs.declared.Recording.the-variants as record-answer
 use Rattle.dresserduck.specs.declared.Encoded.{Encoded}
 use Rattle.dresserduck.specs.declared.Coloured.{Coloured}
 use Rattle.dresserduck.specs.declared.Stretched.{Stretched}
+use Rattle.dresserduck.specs.declared.Grouped.{Grouped}
+use Rattle.dresserduck.specs.declared.Recorded.{Recorded}
 
 unfoldable pub encodedOf : Encoding → Encoded
 encodedOf (encoding.Done count) = record { refusal = 0; place = 0; hitpatterns = count }
@@ -24,6 +35,48 @@ colouredOf (colouring.Refused number place) = record { refusal = number; place =
 unfoldable pub stretchedOf : Stretching → Stretched
 stretchedOf (stretching.Done mean tenths) = record { refusal = 0; place = 0; mean = mean; tenths = tenths }
 stretchedOf (stretching.Refused number place) = record { refusal = number; place = place .0; mean = ofBits binary64 0; tenths = pos 0 }
+
+unfoldable pub groupedOf : Grouping → Grouped
+groupedOf (grouping.Done groups patterns) = record { refusal = 0; place = 0; groups = groups; patterngroups = patterns }
+groupedOf (grouping.Refused number place) = record { refusal = number; place = place .0; groups = 0; patterngroups = 0 }
+
+-- an own interval, absent or not, and its bits
+unfoldable pub hasOwn : Own → ℕ
+hasOwn Absent = 0
+hasOwn (Millis x) = 1
+
+unfoldable pub ownBits : Own → ℕ
+ownBits Absent = 0
+ownBits (Millis x) = toBits binary64 x
+
+-- a float leaves as its bits: a NaN as 7FF8000000000000
+unfoldable pub recordedOf : Recording → Recorded
+recordedOf (record-answer.Done r) = record {
+  refusal = 0;
+  place = 0;
+  firstnote = r .first .0;
+  notecount = r .notes;
+  hasown = hasOwn (r .own);
+  ownbits = ownBits (r .own);
+  ratiobits = toBits binary64 (r .ratio);
+  intervalbits = toBits binary64 (r .interval);
+  penaltybits = toBits binary64 (r .penalty);
+  patterngroup = r .pattern;
+  patternratiobits = toBits binary64 (r .patternratio);
+}
+recordedOf (record-answer.Refused number place) = record {
+  refusal = number;
+  place = place .0;
+  firstnote = 0;
+  notecount = 0;
+  hasown = 0;
+  ownbits = 0;
+  ratiobits = 0;
+  intervalbits = 0;
+  penaltybits = 0;
+  patterngroup = 0;
+  patternratiobits = 0;
+}
 
 -- the record and the lent memory after a call
 pub record HostOutcome (Answer Lent : Type 0) : Type 0 where
@@ -38,3 +91,9 @@ colourForHost o = record { answer = colouredOf (o .answer); memory = o .memory }
 
 unfoldable pub stretchForHost : calls.Outcome Stretching → HostOutcome Stretched calls.Memory
 stretchForHost o = record { answer = stretchedOf (o .answer); memory = o .memory }
+
+unfoldable pub rhythmForHost : rhythm.Outcome → HostOutcome Grouped rhythm.Memory
+rhythmForHost o = record { answer = groupedOf (o .answer); memory = o .memory }
+
+unfoldable pub recordForHost : recording.Outcome → HostOutcome Recorded recording.Memory
+recordForHost o = record { answer = recordedOf (o .answer); memory = o .memory }

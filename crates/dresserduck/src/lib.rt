@@ -3,10 +3,19 @@ ghost use mathlib.Core.Path.{_≡_};
 ghost use Rattle.grouping_encode.specs.Encode.{Memory, encodeOutcome};
 ghost use Rattle.evaluator_calls.specs.Calls as calls;
 ghost use Rattle.evaluator_calls.specs.Calls.{colourOutcome, stretchOutcome};
-ghost use Rattle.dresserduck.specs.Host.{encodedOf, colouredOf, stretchedOf, HostOutcome, encodeForHost, colourForHost, stretchForHost};
+ghost use Rattle.grouping_rhythm.specs.Rhythm as rhythm;
+ghost use Rattle.grouping_rhythm.specs.Rhythm.{rhythmOutcome};
+ghost use Rattle.evaluator_record.specs.Calls as recording;
+ghost use Rattle.evaluator_record.specs.declared.Recording.the-variants as answer;
+ghost use Rattle.evaluator_record.specs.Calls.{recordOutcome};
+ghost use Rattle.dresserduck.specs.Host.{encodedOf, colouredOf, stretchedOf, groupedOf, hasOwn, ownBits, recordedOf, HostOutcome, encodeForHost, colourForHost, stretchForHost, rhythmForHost, recordForHost};
 use evaluator_calls::Colouring;
 use evaluator_calls::Stretching;
+use evaluator_record::Recording;
 use grouping_encode::Encoding;
+use grouping_rhythm::Grouping;
+use grouping_same_rhythm::own::Own;
+use numeric::canonical::bits;
 
 // dresserduck_encoded in the header.
 #[repr(C)]
@@ -167,4 +176,152 @@ pub extern "C" fn dresserduck_stretch(
 {
     let answer = evaluator_calls::stretch(kind, start, delta, ratio, a, b, value, work, scratch);
     stretched_of(answer)
+}
+
+// dresserduck_grouped in the header.
+#[repr(C)]
+pub struct Grouped {
+    pub refusal: u64,
+    pub place: u64,
+    pub groups: u64,
+    pub patterngroups: u64,
+}
+
+fn grouped_of(answer: Grouping) -> Grouped
+    ensures { λ r. ⌜ r ≡ groupedOf answer ⌝ }
+{
+    match answer {
+        Grouping::Done(groups, patterns) => Grouped {
+            refusal: 0,
+            place: 0,
+            groups: groups as u64,
+            patterngroups: patterns as u64,
+        },
+        Grouping::Refused(number, place) => {
+            let at = place.0;
+            Grouped {
+                refusal: number as u64,
+                place: at as u64,
+                groups: 0,
+                patterngroups: 0,
+            }
+        }
+    }
+}
+
+#[no_mangle]
+pub extern "C" fn dresserduck_rhythm(
+    kind: &[u8],
+    start: &[f64],
+    delta: &[f64],
+    ratio: &[f64],
+    group: &mut [u16],
+    pattern: &mut [u16],
+    work: &mut [u16],
+    scratch: &mut [f64],
+) -> Grouped
+    ensures { λ r. ⌜ _≡_ {A = HostOutcome Grouped rhythm.Memory}
+        (record { answer = r; memory = record { group = now (group .exit); pattern = now (pattern .exit); work = now (work .exit); scratch = now (scratch .exit) } })
+        (rhythmForHost (rhythmOutcome (record { kinds = now (kind .entry); starts = now (start .entry); deltas = now (delta .entry); ratios = now (ratio .entry) })
+        (record { group = now (group .entry); pattern = now (pattern .entry); work = now (work .entry); scratch = now (scratch .entry) }))) ⌝ }
+{
+    let answer = grouping_rhythm::rhythm(kind, start, delta, ratio, group, pattern, work, scratch);
+    grouped_of(answer)
+}
+
+// dresserduck_recorded in the header. A float leaves as its bits.
+#[repr(C)]
+pub struct Recorded {
+    pub refusal: u64,
+    pub place: u64,
+    pub firstnote: u64,
+    pub notecount: u64,
+    pub hasown: u64,
+    pub ownbits: u64,
+    pub ratiobits: u64,
+    pub intervalbits: u64,
+    pub penaltybits: u64,
+    pub patterngroup: u64,
+    pub patternratiobits: u64,
+}
+
+fn has_own(own: Own) -> u64
+    ensures { λ r. ⌜ r ≡ hasOwn own ⌝ }
+{
+    match own {
+        Own::Absent => 0,
+        Own::Millis(_) => 1,
+    }
+}
+
+fn own_bits(own: Own) -> u64
+    ensures { λ r. ⌜ r ≡ ownBits own ⌝ }
+{
+    match own {
+        Own::Absent => 0,
+        Own::Millis(x) => bits(x),
+    }
+}
+
+fn recorded_of(answer: Recording) -> Recorded
+    ensures { λ r. ⌜ r ≡ recordedOf answer ⌝ }
+{
+    match answer {
+        Recording::Done(r) => {
+            let first = r.first;
+            let own = r.own;
+            Recorded {
+                refusal: 0,
+                place: 0,
+                firstnote: first.0 as u64,
+                notecount: r.notes as u64,
+                hasown: has_own(own),
+                ownbits: own_bits(own),
+                ratiobits: bits(r.ratio),
+                intervalbits: bits(r.interval),
+                penaltybits: bits(r.penalty),
+                patterngroup: r.pattern as u64,
+                patternratiobits: bits(r.patternratio),
+            }
+        }
+        Recording::Refused(number, place) => refused_record(number, place.0),
+    }
+}
+
+fn refused_record(number: u8, place: usize) -> Recorded
+    ensures { λ r. ⌜ r ≡ recordedOf (answer.Refused number (record { 0 = place })) ⌝ }
+{
+    Recorded {
+        refusal: number as u64,
+        place: place as u64,
+        firstnote: 0,
+        notecount: 0,
+        hasown: 0,
+        ownbits: 0,
+        ratiobits: 0,
+        intervalbits: 0,
+        penaltybits: 0,
+        patterngroup: 0,
+        patternratiobits: 0,
+    }
+}
+
+#[no_mangle]
+pub extern "C" fn dresserduck_record(
+    kind: &[u8],
+    start: &[f64],
+    delta: &[f64],
+    ratio: &[f64],
+    group: usize,
+    window: f64,
+    work: &mut [u16],
+    scratch: &mut [f64],
+) -> Recorded
+    ensures { λ r. ⌜ _≡_ {A = HostOutcome Recorded recording.Memory}
+        (record { answer = r; memory = record { work = now (work .exit); scratch = now (scratch .exit) } })
+        (recordForHost (recordOutcome (record { kinds = now (kind .entry); starts = now (start .entry); deltas = now (delta .entry); ratios = now (ratio .entry) }) group window
+        (record { work = now (work .entry); scratch = now (scratch .entry) }))) ⌝ }
+{
+    let answer = evaluator_record::record(kind, start, delta, ratio, group, window, work, scratch);
+    recorded_of(answer)
 }

@@ -1,3 +1,4 @@
 pub mod Object
+pub mod Notes
 pub mod Chart
 pub mod Refusal

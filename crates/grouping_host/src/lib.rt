@@ -1,5 +1,7 @@
-// `group_by_interval` under a C name, for the host tests alone.
+// `group_by_interval` and the normaliser under C names, for the host tests alone.
 ghost use Rattle.grouping_interval.specs.Grouped.{Places, Grouped};
+ghost use Rattle.grouping_normalizer.specs.Ordered.{AllFinite};
+ghost use Rattle.grouping_normalizer.specs.Normalizer.{NormalOf};
 
 #[no_mangle]
 pub extern "C" fn grouping_group_by_interval(
@@ -11,4 +13,12 @@ pub extern "C" fn grouping_group_by_interval(
     ensures { λ r. ⌜ Grouped margin (now (values .entry)) (now (group .entry)) (now (group .exit)) r ⌝ }
 {
     grouping_interval::group_by_interval(values, margin, group)
+}
+
+#[no_mangle]
+pub extern "C" fn grouping_normal_of(deltas: &mut [f64], margin: f64, x: f64) -> f64
+    requires { ⌜ AllFinite (now deltas) ⌝ }
+    ensures { λ r. ⌜ NormalOf margin (now (deltas .entry)) (now (deltas .exit)) x r ⌝ }
+{
+    grouping_normalizer::normal_of(deltas, margin, x)
 }

@@ -131,7 +131,7 @@ marks-all margin [] = refl
 marks-all margin (v ∷ values) = ap (λ (b : Bool). 1 ∷ marksAfter margin b v values) (more (length values))
 
 module _ (margin : Float) (values : List Float) (at : ℕ) where
-  pub end-past : length values ≤ at → at ≡ groupEnd margin values at
+  pub end-past : length values ≤ at → groupEnd margin values at ≡ at
   unfolding groupEnd
   end-past h = rw (le-ltb _ _ h)
 
@@ -139,15 +139,19 @@ module _ (margin : Float) (values : List Float) (at : ℕ) where
   unfolding groupEnd
   end-inside h = rw (lt-ltb _ _ h)
 
-  grown : at < length values → groupEnd margin values at ≡ suc at + grow margin (ltb 2 (length values)) (getD values at nan) (drop (suc at) values)
+  pub grown : at < length values → groupEnd margin values at ≡ suc at + grow margin (ltb 2 (length values)) (getD values at nan) (drop (suc at) values)
   unfolding endAfter
   grown h =
       let b : at + 1 - 1 ≡ at = omega arith in
       sym (end-inside h) ∙ ap (λ (n : ℕ). at + 1 + grow margin (ltb 2 (length values)) (getD values n nan) (drop (at + 1) values)) b
       ∙ ap (λ (n : ℕ). n + grow margin (ltb 2 (length values)) (getD values at nan) (drop n values)) (add-one at)
 
-  -- a group takes a value at least, and only values
-  pub end-within : at < length values → (at < groupEnd margin values at) × (groupEnd margin values at ≤ length values)
+  -- a group takes a value at least
+  pub end-after : at < length values → at < groupEnd margin values at
+  end-after h = omega (arith, grown h)
+
+  -- and only values
+  pub end-within : at < length values → groupEnd margin values at ≤ length values
   end-within h =
       omega (arith, grown h, grow-le margin (ltb 2 (length values)) (getD values at nan) (drop (suc at) values), length-drop (suc at) values)
 
@@ -173,7 +177,7 @@ pub marks-next : (margin : Float) (values : List Float) (at : ℕ) → at < leng
 marks-next margin values at h e =
     let end : ℕ = groupEnd margin values at in
     let many : Bool = ltb 2 (length values) in
-    let b : (at < end) × (end ≤ length values) = end-within margin values at h in
+    let b : at < end = end-after margin values at h in
     let zeros : List ℕ = 1 ∷ replicate (end - at - 1) 0 in
     let l : length zeros ≡ end - at = ap suc (length-replicate (end - at - 1) 0) ∙ omega arith in
     let k : at + (end - at) ≡ end = omega arith in

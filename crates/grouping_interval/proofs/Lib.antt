@@ -2,3 +2,4 @@ pub mod IntervalLaws
 pub mod Examples
 pub mod GroupLaws
 pub mod NumberLaws
+pub mod EndLaws

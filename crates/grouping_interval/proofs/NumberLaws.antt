@@ -19,7 +19,7 @@ use Rattle.grouping_interval.specs.IntervalGrouping.{intervalMarks}
 use Rattle.grouping_interval.specs.GroupEnd.{groupEnd, marksFrom}
 use Rattle.grouping_interval.specs.Grouped.{Places, Grouped}
 use Rattle.grouping_interval.proofs.IntervalLaws.{length-marks}
-use Rattle.grouping_interval.proofs.GroupLaws.{marks-all, marks-at, end-within}
+use Rattle.grouping_interval.proofs.GroupLaws.{marks-all, marks-at, end-after, end-within}
 
 -- ---- a group's marks
 
@@ -131,7 +131,7 @@ module _ {margin : Float} {values : List Float} {group₀ group : List ℕ} {n c
       → Walked margin values group₀ new n (count + 1) end
   walked-group h end e new q =
       let k : at < length values = omega arith in
-      let b : (at < end) × (end ≤ length values) = rw e (end-within margin values at k) in
+      let b : at < end = rw e (end-after margin values at k) in
       let rest : List ℕ = marksFrom margin (ltb 2 (length values)) (drop end values) in
       let m : marksFrom margin (ltb 2 (length values)) (drop at values) ≡ 1 ∷ replicate (end - at - 1) 0 ++ rest = rw e (marks-at margin values at k) in
       let s : suc (end - at - 1) ≡ end - at = omega arith in
@@ -148,8 +148,10 @@ module _ {margin : Float} {values : List Float} {group₀ group : List ℕ} {n c
 
   pub walked-on : at < n → (end : ℕ) → end ≡ groupEnd margin values at → Next group n at end
   walked-on h end e =
-      let b : (at < end) × (end ≤ length values) = rw e (end-within margin values at (omega arith)) in
-      record { on = b .0; upto = omega arith; room = omega (arith, x .fill .long, x .fill .room) }
+      let k : at < length values = omega arith in
+      let b : at < end = rw e (end-after margin values at k) in
+      let w : end ≤ length values = rw e (end-within margin values at k) in
+      record { on = b; upto = omega arith; room = omega (arith, x .fill .long, x .fill .room) }
 
   pub walked-end : n ≤ at → Grouped margin values group₀ group count
   unfolding after marksFrom

@@ -8,6 +8,8 @@ ghost use Rattle.grouping_interval.specs.GroupEnd.{endAfter, groupEnd};
 ghost use Rattle.grouping_interval.specs.Grouped.{Places, Grouped};
 use numeric::near::near;
 
+pub mod walk;
+
 fn rise(a: f64, b: f64, margin: f64) -> bool
     ensures { λ r. ⌜ r ≡ rises margin a b ⌝ }
 {
@@ -77,7 +79,7 @@ pub fn group_by_interval(values: &[f64], margin: f64, group: &mut [u16]) -> usiz
     let mut count: u16 = 0;
     let mut at = 0;
     while at < n {
-        let end = group_end(values, margin, at);
+        let end = walk::next_end(values, margin, at);
         number_group(group, at, end - at, count);
         count += 1;
         at = end;

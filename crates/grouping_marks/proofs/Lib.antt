@@ -3,3 +3,4 @@ pub mod FillLaws
 pub mod ScanLaws
 pub mod MarksLaws
 pub mod PassLaws
+pub mod PartedLaws

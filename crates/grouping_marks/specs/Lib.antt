@@ -2,3 +2,4 @@ pub mod Over
 pub mod Scan
 pub mod Marks
 pub mod Passes
+pub mod Parted

@@ -1,4 +1,4 @@
-//! The export of libgrouping_host.a as a safe function, document 01's rule beside it, and the values that the tests try.
+//! The exports of libgrouping_host.a as safe functions, document 01's rules beside them, and the values that the tests try.
 
 pub mod plain;
 pub mod samples;
@@ -15,6 +15,8 @@ mod host {
             group: *mut u16,
             group_count: usize,
         ) -> usize;
+        pub fn grouping_normal_of(deltas: *mut f64, delta_count: usize, margin: f64, x: f64)
+            -> f64;
     }
 }
 
@@ -32,4 +34,11 @@ pub fn group_by_interval(values: &[f64], margin: f64, group: &mut [u16]) -> usiz
             group.len(),
         )
     }
+}
+
+/// What x counts as among the deltas, which are put in order, the distinct ones in front.
+pub fn normal_of(deltas: &mut [f64], margin: f64, x: f64) -> f64 {
+    assert!(deltas.iter().all(|x| x.is_finite()), "{deltas:?}");
+    // The slice is a list's own memory.
+    unsafe { host::grouping_normal_of(deltas.as_mut_ptr(), deltas.len(), margin, x) }
 }

@@ -1,22 +1,10 @@
 /* The header and the archive from C11 and from C++: one chart encoded, one refused. Prints `ok`, or each line that fails. */
 #include "dresserduck.h"
 
-#include <stdio.h>
-#include <string.h>
+#include "check.h"
 
 #define N 6
 #define PLACES (N + 1) /* one more than needed */
-#define CHECK(fact) check((fact) ? 1 : 0, #fact, __LINE__)
-
-static int failures = 0;
-
-static void check(int holds, const char *fact, int line)
-{
-    if (!holds) {
-        printf("%s:%d: %s\n", __FILE__, line, fact);
-        failures += 1;
-    }
-}
 
 static const double start[N] = {0.0, 100.0, 200.0, 300.0, 400.0, 500.0};
 static const double delta[N] = {100.0, 100.0, 100.0, 100.0, 100.0, 100.0};
@@ -34,14 +22,6 @@ static void set_sentinels(void)
     memset(interval, 0xA5, sizeof interval);
     memset(work, 0xA5, sizeof work);
     memset(scratch, 0xA5, sizeof scratch);
-}
-
-static int all_sentinels(const void *memory, size_t bytes)
-{
-    const unsigned char *at = (const unsigned char *)memory;
-    size_t i;
-    for (i = 0; i < bytes && at[i] == 0xA5; i++) {}
-    return i == bytes;
 }
 
 static dresserduck_encoded encode(const uint8_t *kind)
@@ -86,9 +66,5 @@ int main(void)
 {
     accepted();
     refused();
-    if (failures > 0) {
-        return 1;
-    }
-    printf("ok\n");
-    return 0;
+    return finish();
 }

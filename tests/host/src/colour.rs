@@ -99,47 +99,11 @@ impl Memory {
 }
 
 pub fn colour(chart: &Chart, memory: &mut Memory) -> Coloured {
-    unsafe {
-        host::dresserduck_colour(
-            chart.kind.as_ptr(),
-            chart.kind.len(),
-            chart.start.as_ptr(),
-            chart.start.len(),
-            chart.delta.as_ptr(),
-            chart.delta.len(),
-            chart.ratio.as_ptr(),
-            chart.ratio.len(),
-            memory.value.as_mut_ptr(),
-            memory.value.len(),
-            memory.work.as_mut_ptr(),
-            memory.work.len(),
-            memory.scratch.as_mut_ptr(),
-            memory.scratch.len(),
-        )
-    }
+    call!(dresserduck_colour(chart) => memory.value, memory.work, memory.scratch)
 }
 
 pub fn stretch(chart: &Chart, a: usize, b: usize, memory: &mut Memory) -> Stretched {
-    unsafe {
-        host::dresserduck_stretch(
-            chart.kind.as_ptr(),
-            chart.kind.len(),
-            chart.start.as_ptr(),
-            chart.start.len(),
-            chart.delta.as_ptr(),
-            chart.delta.len(),
-            chart.ratio.as_ptr(),
-            chart.ratio.len(),
-            a,
-            b,
-            memory.value.as_mut_ptr(),
-            memory.value.len(),
-            memory.work.as_mut_ptr(),
-            memory.work.len(),
-            memory.scratch.as_mut_ptr(),
-            memory.scratch.len(),
-        )
-    }
+    call!(dresserduck_stretch(chart, a, b) => memory.value, memory.work, memory.scratch)
 }
 
 fn penalty(idx: usize, ratio: &[f64]) -> f64 {

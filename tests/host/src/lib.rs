@@ -1,5 +1,26 @@
 //! The exports of libdresserduck.a as safe functions over a chart and lent memory whose every place is known.
 
+/// Calls an export on a chart, with the arguments that follow it and the slices that are lent.
+/// A list's own memory is aligned, not null, and apart from every other's.
+macro_rules! call {
+    ($name:ident($chart:expr $(, $argument:expr)*) => $($slice:expr),*) => {
+        unsafe {
+            host::$name(
+                $chart.kind.as_ptr(),
+                $chart.kind.len(),
+                $chart.start.as_ptr(),
+                $chart.start.len(),
+                $chart.delta.as_ptr(),
+                $chart.delta.len(),
+                $chart.ratio.as_ptr(),
+                $chart.ratio.len(),
+                $($argument,)*
+                $($slice.as_mut_ptr(), $slice.len()),*
+            )
+        }
+    };
+}
+
 pub mod chart;
 pub mod check;
 pub mod colour;
@@ -8,6 +29,8 @@ pub mod landmark;
 pub mod lent;
 pub mod pairs;
 pub mod plain;
+pub mod plain_rhythm;
+pub mod rhythm;
 pub mod samples;
 
 use chart::Chart;

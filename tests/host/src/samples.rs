@@ -135,3 +135,63 @@ pub fn scatter(random: &mut Xorshift, chart: &mut Chart) {
         chart.ratio[object] = random.pick(&ratios);
     }
 }
+
+/// Ratios that come again, about the tolerance apart, or at the limits.
+pub fn ratios(random: &mut Xorshift, n: usize) -> Vec<f64> {
+    let common = [
+        1.0,
+        0.5,
+        2.0,
+        1.0 / 3.0,
+        4.0 / 3.0,
+        0.99,
+        1.01,
+        2f64.powi(-24),
+        2f64.powi(24),
+    ];
+    let pick = |random: &mut Xorshift| common[random.below(common.len())];
+    (0..n).map(|_| pick(random)).collect()
+}
+
+/// Deltas around the margin, about zero, or off a beat.
+fn deltas(random: &mut Xorshift, n: usize) -> Vec<f64> {
+    let style = random.below(4);
+    let mut last = 100.0;
+    let mut next = |_| {
+        let small = [0.0, -0.0, 0.25, -0.5, 2.5, 5.0, -5.0, 7.0];
+        last = match style {
+            0 => random.pick(&small),
+            1 => last + random.pick(&[0.0, 5.0, -5.0, 5.5, -5.5, 2.5, -2.5]),
+            2 => random.pick(&[100.0, 101.0, 103.0, 105.0, 107.0, 150.0]),
+            _ => {
+                random.pick(&[75.0, 75.0, 90.0, 100.0, 110.0, 150.0])
+                    + random.pick(&[0.0, 0.5, 1.0])
+            }
+        };
+        last
+    };
+    (0..n).map(&mut next).collect()
+}
+
+/// Starts that rise by the deltas, fall by them, or stand close together.
+fn starts(random: &mut Xorshift, deltas: &[f64]) -> Vec<f64> {
+    let style = random.below(3);
+    let mut now = 0.0;
+    let mut next = |delta: &f64| {
+        now = match style {
+            0 => now + delta,
+            1 => now - delta,
+            _ => random.pick(&[0.0, 5.0, 7.0, -3.0]),
+        };
+        now
+    };
+    deltas.iter().map(&mut next).collect()
+}
+
+/// The same kinds, with other deltas and starts.
+pub fn rhythmic_chart(random: &mut Xorshift, n: usize) -> Chart {
+    let mut chart = biased_chart(random, n);
+    chart.delta = deltas(random, n);
+    chart.start = starts(random, &chart.delta);
+    chart
+}

@@ -2,7 +2,7 @@
 
 use host_tests::chart::Chart;
 use host_tests::colour::{colour, plain_tenths, plain_values, stretch, Coloured, Memory};
-use host_tests::samples::{biased_chart, Xorshift};
+use host_tests::samples::{biased_chart, ratios, Xorshift};
 
 /// The table T by the definition's own list of bit patterns.
 fn table() -> impl Fn(usize) -> f64 {
@@ -47,22 +47,6 @@ fn check_values(chart: &Chart, table: &dyn Fn(usize) -> f64) -> Vec<f64> {
         assert_eq!(memory.bits(), lent.filled(&values).bits(), "{chart}");
     }
     values
-}
-
-fn ratios(rng: &mut Xorshift, n: usize) -> Vec<f64> {
-    let common = [
-        1.0,
-        0.5,
-        2.0,
-        1.0 / 3.0,
-        4.0 / 3.0,
-        0.99,
-        1.01,
-        2f64.powi(-24),
-        2f64.powi(24),
-    ];
-    let pick = |rng: &mut Xorshift| common[rng.below(common.len())];
-    (0..n).map(|_| pick(rng)).collect()
 }
 
 #[test]

@@ -16,18 +16,18 @@ abbrev μ-loop : tie.MeasureT-loop
 loop-holds : tie.Need-loop-holds Inv-loop μ-loop
 loop-holds c = walked-start _ _ _ _ refl (c .before .before .pre)
 
-group-end-requires : tie.Need-group-end-requires Inv-loop μ-loop
-group-end-requires c κs = search needs
+next-end-requires : tie.Need-next-end-requires Inv-loop μ-loop
+next-end-requires c κs = search needs
 
 sub-number-group : tie.Need-sub-number-group Inv-loop μ-loop
 sub-number-group c =
     let l = c .before .before .before in
-    omega (arith, walked-on (l .loop .inv) (c .before .before .loop-test .taken) (c .before .group-end .result) (c .before .group-end .ensures))
+    omega (arith, walked-on (l .loop .inv) (c .before .before .loop-test .taken) (c .before .next-end .result) (c .before .next-end .ensures))
 
 number-group-requires : tie.Need-number-group-requires Inv-loop μ-loop
 number-group-requires c κs =
     let l = c .before .before .before in
-    walked-on (l .loop .inv) (c .before .before .loop-test .taken) (c .before .group-end .result) (c .before .group-end .ensures) .room
+    walked-on (l .loop .inv) (c .before .before .loop-test .taken) (c .before .next-end .result) (c .before .next-end .ensures) .room
 
 add-count : tie.Need-add-count Inv-loop μ-loop
 add-count c = omega arith
@@ -35,12 +35,12 @@ add-count c = omega arith
 loop-less : tie.Need-loop-less Inv-loop μ-loop
 loop-less c =
     let g = c .before .before .before .before in
-    omega (arith, walked-on (g .before .before .loop .inv) (g .before .loop-test .taken) (g .group-end .result) (g .group-end .ensures))
+    omega (arith, walked-on (g .before .before .loop .inv) (g .before .loop-test .taken) (g .next-end .result) (g .next-end .ensures))
 
 loop-again : tie.Need-loop-again Inv-loop μ-loop
 loop-again c =
     let g = c .before .before .before .before in
-    walked-group (g .before .before .loop .inv) (g .before .loop-test .taken) (g .group-end .result) (g .group-end .ensures) _ (c .before .before .number-group .ensures)
+    walked-group (g .before .before .loop .inv) (g .before .loop-test .taken) (g .next-end .result) (g .next-end .ensures) _ (c .before .before .number-group .ensures)
 
 cast-result : tie.Need-cast-result Inv-loop μ-loop
 cast-result c = omega arith
@@ -58,7 +58,7 @@ group-by-interval-spec =
     Inv-loop
     μ-loop
     loop-holds
-    group-end-requires
+    next-end-requires
     sub-number-group
     number-group-requires
     add-count

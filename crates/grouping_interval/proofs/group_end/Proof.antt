@@ -16,7 +16,7 @@ abbrev μ-loop : tie.MeasureT-loop
 μ-loop values margin at n i₀ i = n - i
 
 returns : tie.Need-returns Inv-loop μ-loop
-returns c = end-past _ _ _ (c .if1 .taken)
+returns c = sym (end-past _ _ _ (c .if1 .taken))
 
 add-i : tie.Need-add-i Inv-loop μ-loop
 add-i c = omega arith

@@ -1,0 +1,34 @@
+//! Which stretches of a drum chart swap colour too fast for a player who uses one hand or a foot switch, and the chart's
+//! rhythm groups. The answers come from code that is proved to give them: they are the same in every build, bit for bit.
+//!
+//! A [`Chart`] borrows four slices. A [`Workspace`] has the memory that the calls work in; it grows as needed and can be
+//! used again and again. Every call answers every chart: with its result, or with the first [`Refusal`] that applies.
+//!
+//! ```
+//! use dresserduck::{Chart, Workspace};
+//!
+//! // d kk dd k, an eighth apart
+//! let kind = [0, 1, 1, 0, 0, 1];
+//! let start = [0.0, 125.0, 250.0, 375.0, 500.0, 625.0];
+//! let chart = Chart::new(&kind, &start, &[125.0; 6], &[1.0; 6]);
+//!
+//! let mut workspace = Workspace::new();
+//! let encoding = workspace.encode(&chart)?;
+//! assert_eq!(encoding.hit_patterns, 3);
+//! assert_eq!(encoding.interval, [17, 17, 17, 17, 17, 2]);
+//!
+//! let stretch = workspace.stretch(&chart, 1..5)?;
+//! println!("the middle has a mean of {} tenths", stretch.tenths);
+//! # Ok::<(), dresserduck::Refusal>(())
+//! ```
+
+mod chart;
+mod ffi;
+mod refusal;
+mod result;
+mod workspace;
+
+pub use chart::{Chart, LARGEST_CHART};
+pub use refusal::Refusal;
+pub use result::{Encoding, GroupRecord, Rhythm, Stretch};
+pub use workspace::Workspace;

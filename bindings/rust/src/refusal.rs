@@ -1,0 +1,117 @@
+//! Why a call was refused.
+
+use std::error::Error;
+use std::fmt;
+
+/// The first refusal that applies. The first three are the host programmer's, the next four the chart writer's, the last
+/// two the player's settings'.
+#[derive(Clone, Copy, Debug, PartialEq, Eq, Hash)]
+#[non_exhaustive]
+pub enum Refusal {
+    /// 1: more than 16,384 objects.
+    TooManyObjects,
+    /// 2: the chart's four slices are not of one length.
+    LengthsDiffer,
+    /// 3: an answer or work slice is too short. A [`Workspace`](crate::Workspace) never lends one.
+    SliceTooShort,
+    /// 4: an object's kind is above 2.
+    BadKind { object: usize },
+    /// 5: an object's start is not finite or outside ±16,777,216.
+    BadStart { object: usize },
+    /// 6: an object's delta is not finite or outside ±16,777,216.
+    BadDelta { object: usize },
+    /// 7: an object's ratio is below 2^−24, above 2^24, or NaN.
+    BadRatio { object: usize },
+    /// 8: the window is not from 1.0 to 1,000.0.
+    BadWindow,
+    /// 9: the stretch is empty or ends past the chart, or there is no group of this number.
+    OutsideChart,
+}
+
+impl Refusal {
+    /// The number by which the library refuses.
+    pub const fn number(self) -> u64 {
+        match self {
+            Refusal::TooManyObjects => 1,
+            Refusal::LengthsDiffer => 2,
+            Refusal::SliceTooShort => 3,
+            Refusal::BadKind { .. } => 4,
+            Refusal::BadStart { .. } => 5,
+            Refusal::BadDelta { .. } => 6,
+            Refusal::BadRatio { .. } => 7,
+            Refusal::BadWindow => 8,
+            Refusal::OutsideChart => 9,
+        }
+    }
+
+    /// The object that is refused, where it is one.
+    pub const fn object(self) -> Option<usize> {
+        match self {
+            Refusal::BadKind { object }
+            | Refusal::BadStart { object }
+            | Refusal::BadDelta { object }
+            | Refusal::BadRatio { object } => Some(object),
+            _ => None,
+        }
+    }
+
+    /// The refusal with this number, none for 0.
+    pub(crate) fn of(number: u64, place: u64) -> Option<Self> {
+        let object = place as usize;
+        match number {
+            0 => None,
+            1 => Some(Refusal::TooManyObjects),
+            2 => Some(Refusal::LengthsDiffer),
+            3 => Some(Refusal::SliceTooShort),
+            4 => Some(Refusal::BadKind { object }),
+            5 => Some(Refusal::BadStart { object }),
+            6 => Some(Refusal::BadDelta { object }),
+            7 => Some(Refusal::BadRatio { object }),
+            8 => Some(Refusal::BadWindow),
+            9 => Some(Refusal::OutsideChart),
+            _ => unreachable!("the library has no refusal {number}"),
+        }
+    }
+}
+
+impl fmt::Display for Refusal {
+    fn fmt(&self, out: &mut fmt::Formatter<'_>) -> fmt::Result {
+        match self {
+            Refusal::TooManyObjects => {
+                write!(out, "The chart has more than 16,384 objects.")
+            }
+            Refusal::LengthsDiffer => write!(
+                out,
+                "The program gave a kind, a start, a delta or a ratio for some objects only."
+            ),
+            Refusal::SliceTooShort => {
+                write!(out, "The program gave too little memory for this chart.")
+            }
+            Refusal::BadKind { object } => {
+                write!(out, "Object {object} of the chart is of an unknown kind.")
+            }
+            Refusal::BadStart { object } => write!(
+                out,
+                "Object {object} of the chart starts too far from the chart's zero, or at no time at all."
+            ),
+            Refusal::BadDelta { object } => write!(
+                out,
+                "Object {object} of the chart is too far from the one before, or at no distance at all."
+            ),
+            Refusal::BadRatio { object } => write!(
+                out,
+                "Object {object} of the chart has a rhythm ratio that is too small, too large, or none."
+            ),
+            Refusal::BadWindow => write!(
+                out,
+                "The hit window in the settings is not from 1 to 1,000 milliseconds."
+            ),
+            Refusal::OutsideChart => write!(
+                out,
+                "The passage or rhythm group that was asked for is not in the chart."
+            ),
+        }
+    }
+}
+
+impl Error for Refusal {}

@@ -1,0 +1,45 @@
+-- What the passes of record ask and leave.
+use mathlib.Core.Path.{_≡_}
+use Prim.Native.Nat.{ℕ, _*_, _≤_, _<_}
+use mathlib.Core.List.{List}
+use lib.Dec.{T}
+use lib.ListN.{length, drop, getD, replicate}
+use lib.Ieee.{Float, nan, binary64, ofBits}
+use lib.Ieee.Scale.{finite}
+use Rattle.grouping_marks.specs.Over.{over}
+use Rattle.grouping_same_rhythm.specs.SameRhythm.{groupIntervals}
+use Rattle.grouping_same_rhythm.specs.SamePatterns.{patternOf}
+use Rattle.grouping_rhythm.specs.Rhythm.{baseMargin, groupsIn}
+use Rattle.evaluator_record.specs.Record.{objectsIn, ownsAt, durationOf, recordOf}
+use Rattle.evaluator_record.specs.Calls.{baseThreshold}
+use Rattle.evaluator_record.specs.declared.Record.{Record}
+use Rattle.evaluator_record.specs.declared.found.Found.{Found}
+
+-- a start and a finite delta for each object, a group g, and room in the work slices
+pub record GroupRoom (kinds : List ℕ) (starts deltas : List Float) (g : ℕ) (work : List ℕ) (scratch : List Float) : Type 0 where
+  pub few : length kinds ≤ 16384
+  pub started : length starts ≡ length kinds
+  pub whole : length deltas ≡ length kinds
+  pub numbers : (i : ℕ) → i < length deltas → T (finite (getD deltas i nan))
+  pub there : g < groupsIn baseMargin kinds deltas
+  pub regions : 8 * length kinds ≤ length work
+  pub floats : length kinds ≤ length scratch
+
+-- what is found of group g; nothing is written past the regions
+pub record FoundIs (kinds : List ℕ) (starts deltas : List Float) (g : ℕ) (work₀ work : List ℕ) (scratch₀ scratch : List Float) (r : Found) : Type 0 where
+  pub first : r .first ≡ getD (objectsIn baseMargin kinds deltas g) 0 0
+  pub notes : r .notes ≡ length (objectsIn baseMargin kinds deltas g)
+  pub owns : r .owns ≡ ownsAt baseMargin kinds deltas g
+  pub duration : r .duration ≡ durationOf starts (objectsIn baseMargin kinds deltas g)
+  pub interval : r .interval ≡ getD (groupIntervals baseMargin kinds starts deltas) g nan
+  pub pattern : r .pattern ≡ patternOf baseMargin (groupIntervals baseMargin kinds starts deltas) g
+  pub regions : length work ≡ length work₀
+  pub floats : length scratch ≡ length scratch₀
+  pub past : drop (8 * length kinds) work ≡ drop (8 * length kinds) work₀
+  pub past-floats : drop (length kinds) scratch ≡ drop (length kinds) scratch₀
+
+-- what record does with an accepted chart
+pub record Recorded (kinds : List ℕ) (starts deltas : List Float) (g : ℕ) (window : Float) (work₀ work : List ℕ) (scratch₀ scratch : List Float) (r : Record) : Type 0 where
+  pub answer : r ≡ recordOf baseMargin baseThreshold window kinds starts deltas g
+  pub work-cleared : work ≡ over (replicate (8 * length kinds) 0) work₀
+  pub scratch-cleared : scratch ≡ over (replicate (length kinds) (ofBits binary64 0)) scratch₀

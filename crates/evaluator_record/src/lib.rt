@@ -1,0 +1,119 @@
+// The call record: what is said of one rhythm group.
+ghost use mathlib.Core.Path.{_≡_};
+ghost use Prim.Native.Nat.{_<_};
+ghost use Rattle.evaluator_record.specs.Record.{recordOf};
+ghost use Rattle.evaluator_record.specs.Calls.{Outcome, short, windowGood, recordOutcome};
+ghost use Rattle.evaluator_record.specs.Passes.{GroupRoom, Recorded};
+use evaluator_rhythm::repeated_interval_penalty;
+use grouping_chart::chart::Verdict;
+use grouping_chart::object::ObjectIndex;
+use grouping_marks::fill;
+use grouping_same_rhythm::own::Own;
+use numeric::canonical::canonical;
+
+pub mod found;
+
+// A rhythm group: its first note's object, how many notes it has, its own interval and the ratio to that before, its interval, the penalty for a repeated
+// interval, its pattern group, and the ratio of that one's interval to the one before.
+pub struct Record {
+    pub first: ObjectIndex,
+    pub notes: usize,
+    pub own: Own,
+    pub ratio: f64,
+    pub interval: f64,
+    pub penalty: f64,
+    pub pattern: usize,
+    pub patternratio: f64,
+}
+
+// The record, or the first refusal that applies and its place.
+pub enum Recording {
+    Done(Record),
+    Refused(u8, ObjectIndex),
+}
+
+// Whether a slice has too few places for n objects.
+fn too_short(n: usize, work: &[u16], scratch: &[f64]) -> bool
+    ensures { λ r. ⌜ r ≡ short n (record { work = now (work .entry); scratch = now (scratch .entry) }) ⌝ }
+{
+    // work.len() < 8 * n, without a product that could wrap
+    if work.len() / 8 < n {
+        return true;
+    }
+    scratch.len() < n
+}
+
+fn window_good(window: f64) -> bool
+    ensures { λ r. ⌜ r ≡ windowGood window ⌝ }
+{
+    if 1.0 <= window {
+        return window <= 1000.0;
+    }
+    false
+}
+
+// What the call does with an accepted chart and group number: finds the group, clears the work slices, and scores.
+fn make_record(
+    kind: &[u8],
+    start: &[f64],
+    delta: &[f64],
+    g: usize,
+    window: f64,
+    work: &mut [u16],
+    scratch: &mut [f64],
+) -> Record
+    requires { ⌜ GroupRoom (now kind) (now start) (now delta) g (now work) (now scratch) ⌝ }
+    ensures { λ r. ⌜ Recorded (now (kind .entry)) (now (start .entry)) (now (delta .entry)) g window (now (work .entry)) (now (work .exit)) (now (scratch .entry)) (now (scratch .exit)) r ⌝ }
+{
+    let n = kind.len();
+    let found = found::find(kind, start, delta, g, work, scratch);
+    fill::clear(work, 8 * n);
+    fill::clear_floats(scratch, n);
+    let owns = found.owns;
+    let own = owns.newest;
+    let previous = owns.second;
+    let ratio = grouping_same_rhythm::own::ratio(own, previous);
+    let penalty = repeated_interval_penalty(owns, found.notes, found.duration, window, 0.1);
+    let pattern = found.pattern;
+    Record {
+        first: ObjectIndex(found.first),
+        notes: found.notes,
+        own,
+        ratio: canonical(ratio),
+        interval: found.interval,
+        penalty,
+        pattern: pattern.number,
+        patternratio: canonical(pattern.ratio),
+    }
+}
+
+pub fn record(
+    kind: &[u8],
+    start: &[f64],
+    delta: &[f64],
+    ratio: &[f64],
+    g: usize,
+    window: f64,
+    work: &mut [u16],
+    scratch: &mut [f64],
+) -> Recording
+    ensures { λ r. ⌜ _≡_ {A = Outcome}
+        (record { answer = r; memory = record { work = now (work .exit); scratch = now (scratch .exit) } })
+        (recordOutcome (record { kinds = now (kind .entry); starts = now (start .entry); deltas = now (delta .entry); ratios = now (ratio .entry) }) g window
+        (record { work = now (work .entry); scratch = now (scratch .entry) })) ⌝ }
+{
+    let n = kind.len();
+    let short = too_short(n, work, scratch);
+    match grouping_chart::chart::check(kind, start, delta, ratio, short) {
+        Verdict::Refused(number, place) => Recording::Refused(number, place),
+        Verdict::Accepted => {
+            if !window_good(window) {
+                return Recording::Refused(8, ObjectIndex(0));
+            }
+            if grouping_notes::count_groups(kind, delta, 5.0) <= g {
+                return Recording::Refused(9, ObjectIndex(0));
+            }
+            Recording::Done(make_record(kind, start, delta, g, window, work, scratch))
+        }
+    }
+}

@@ -1,0 +1,19 @@
+-- `penalty_if` meets its contract, arm by arm: each literal computes to its value. Assumes nothing.
+use mathlib.Core.Path.{sym, ap}
+use mathlib.Core.Bool.{Bool, cond}
+use lib.Ieee.{ofBits, round}
+use Rattle.grouping_same_rhythm.specs.Own.{one}
+use Rattle.evaluator_rhythm.specs.RepeatedInterval.{eightTenths}
+use Rattle.evaluator_rhythm.proofs.penalty_if.Statement.{statement}
+use Rattle.evaluator_rhythm.proofs.penalty_if.Tie as tie
+
+returns : tie.Need-returns
+unfolding eightTenths ofBits round
+returns c = sym (ap (λ (b : Bool). cond b eightTenths one) (c .if1 .taken))
+
+returns-2 : tie.Need-returns-2
+unfolding ofBits
+returns-2 c = sym (ap (λ (b : Bool). cond b eightTenths one) (c .if1 .left))
+
+pub penalty-if-spec : {M : Type 1} → statement M
+penalty-if-spec = tie.close (tie.spec returns returns-2)

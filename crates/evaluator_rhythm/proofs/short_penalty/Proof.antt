@@ -1,0 +1,28 @@
+-- `short_penalty` meets its contract, by its test. Assumes nothing.
+use mathlib.Core.Path.{sym, ap, _∙_}
+use mathlib.Core.Bool.{Bool, cond}
+use borrow.Author.Needs.{needs}
+use borrow.Author.Tests.{lt-ltb, le-ltb}
+use lib.Ieee.{ofBits}
+use Rattle.grouping_same_rhythm.specs.Own.{one}
+use Rattle.evaluator_rhythm.specs.RepeatedInterval.{walkPenalty, newestFirst}
+use Rattle.evaluator_rhythm.proofs.short_penalty.Statement.{statement}
+use Rattle.evaluator_rhythm.proofs.short_penalty.Tie as tie
+
+walk-four-requires : tie.Need-walk-four-requires
+walk-four-requires c κs = search needs
+
+returns : tie.Need-returns
+returns c =
+    let start = c .before .before in
+    c .walk-four .ensures
+    ∙ sym (ap (λ (b : Bool). cond b (walkPenalty (start .args .threshold) 4 (newestFirst (start .args .owns))) one) (lt-ltb (start .args .notes) 6 (c .before .if1 .taken)))
+
+returns-2 : tie.Need-returns-2
+unfolding ofBits
+returns-2 c =
+    let start = c .before in
+    sym (ap (λ (b : Bool). cond b (walkPenalty (start .args .threshold) 4 (newestFirst (start .args .owns))) one) (le-ltb (start .args .notes) 6 (c .if1 .left)))
+
+pub short-penalty-spec : {M : Type 1} → statement M
+short-penalty-spec = tie.close (tie.spec walk-four-requires returns returns-2)

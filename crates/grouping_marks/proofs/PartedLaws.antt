@@ -1,0 +1,97 @@
+-- The items of each group: how many groups there are, the first group and the rest, and items that a function changes. Each is proved of the groups behind an open one.
+use mathlib.Core.Path.{_≡_, refl, sym, ap, _∙_}
+use mathlib.Core.Bool.{Bool, true, false, cond}
+use mathlib.Core.List.{List, [], _∷_, _++_, map, append-nil, map-append}
+use Prim.Native.Nat.{ℕ, zero, suc, _+_, _≤_}
+use native.Mathlib.Nat.{le-refl, le-of-suc-le-suc, not-suc-le-zero}
+use native.Mathlib.Omega.{arith}
+use lib.Dec.{eqb}
+use lib.ListN.{length, take, drop, getD, replicate, length-append, length-replicate}
+use lib.Seq.{append-snoc, drop-at}
+use Rattle.grouping_marks.specs.Marks.{groupCount, sizesFrom, groupSizes}
+use Rattle.grouping_marks.specs.Parted.{partedAfter, parted}
+use Rattle.grouping_marks.proofs.MarksLaws.{length-sizes}
+
+-- ---- how many
+
+after-count : {A : Type 0} (p : ℕ) (group : List A) (marks : List ℕ) (xs : List A) → length marks ≤ length xs
+    → length (partedAfter group marks xs) ≡ length (sizesFrom p marks)
+unfolding partedAfter sizesFrom
+after-count p group [] xs h = refl
+after-count p group (m ∷ ms) [] h = absurd (not-suc-le-zero h)
+after-count p group (m ∷ ms) (x ∷ xs) h =
+    go (eqb m 0) (after-count (p + 1) (group ++ (x ∷ [])) ms xs (le-of-suc-le-suc h)) (after-count 1 (x ∷ []) ms xs (le-of-suc-le-suc h))
+  where
+    go : (b : Bool) → length (partedAfter (group ++ (x ∷ [])) ms xs) ≡ length (sizesFrom (p + 1) ms) → length (partedAfter (x ∷ []) ms xs) ≡ length (sizesFrom 1 ms)
+        → length (cond b (partedAfter (group ++ (x ∷ [])) ms xs) (group ∷ partedAfter (x ∷ []) ms xs)) ≡ length (cond b (sizesFrom (p + 1) ms) (p ∷ sizesFrom 1 ms))
+    go true u v = u
+    go false u v = ap suc v
+
+-- as many as the marks say
+pub length-parted : {A : Type 0} (marks : List ℕ) (xs : List A) → length marks ≤ length xs → length (parted marks xs) ≡ groupCount marks
+unfolding parted groupSizes
+length-parted [] xs h = length-sizes []
+length-parted (m ∷ ms) [] h = absurd (not-suc-le-zero h)
+length-parted (m ∷ ms) (x ∷ xs) h = after-count 1 (x ∷ []) ms xs (le-of-suc-le-suc h) ∙ length-sizes (m ∷ ms)
+
+-- ---- the first group and the rest
+
+-- the open group ends before marks of which the first, if there is one, is 1
+after-open : {A : Type 0} (group : List A) (marks : List ℕ) (xs : List A) → getD marks 0 1 ≡ 1 → partedAfter group marks xs ≡ group ∷ parted marks xs
+unfolding partedAfter parted
+after-open group [] xs o = refl
+after-open group (m ∷ ms) [] o = refl
+after-open group (m ∷ ms) (x ∷ xs) o = rw (o, partedAfter)
+
+after-zeros : {A : Type 0} (group : List A) (k : ℕ) (marks : List ℕ) (xs : List A) → k ≤ length xs → getD marks 0 1 ≡ 1
+    → partedAfter group (replicate k 0 ++ marks) xs ≡ (group ++ take k xs) ∷ parted marks (drop k xs)
+unfolding partedAfter
+after-zeros group zero marks xs h o = after-open group marks xs o ∙ ap (λ (g : List _). g ∷ parted marks xs) (sym (append-nil group))
+after-zeros group (suc k) marks [] h o = absurd (not-suc-le-zero h)
+after-zeros group (suc k) marks (x ∷ xs) h o =
+    after-zeros (group ++ (x ∷ [])) k marks xs (le-of-suc-le-suc h) o ∙ ap (λ (g : List _). g ∷ parted marks (drop k xs)) (append-snoc group x (take k xs))
+
+-- a mark and k zeros are a group of suc k items, if the next mark is 1 or there is none
+pub parted-first : {A : Type 0} (m k : ℕ) (marks : List ℕ) (x : A) (xs : List A) → k ≤ length xs → getD marks 0 1 ≡ 1
+    → parted (m ∷ (replicate k 0 ++ marks)) (x ∷ xs) ≡ (x ∷ take k xs) ∷ parted marks (drop k xs)
+unfolding parted
+parted-first m k marks x xs h o = after-zeros (x ∷ []) k marks xs h o
+
+-- no marks, no groups
+pub parted-none : {A : Type 0} (xs : List A) → parted [] xs ≡ []
+unfolding parted
+parted-none xs = refl
+
+-- and one group in the count, which is that of any items' groups: here the marks stand for items
+pub count-first : (m k : ℕ) (marks : List ℕ) → getD marks 0 1 ≡ 1 → groupCount (m ∷ (replicate k 0 ++ marks)) ≡ 1 + groupCount marks
+count-first m k marks o =
+    let rest : List ℕ = replicate k 0 ++ marks in
+    let l : length rest ≡ k + length marks = length-append (replicate k 0) marks ∙ ap (λ (n : ℕ). n + length marks) (length-replicate k 0) in
+    let d : drop k rest ≡ marks = drop-at (replicate k 0) marks k (length-replicate k 0) in
+    let whole : length (parted (m ∷ rest) (m ∷ rest)) ≡ groupCount (m ∷ rest) = length-parted (m ∷ rest) (m ∷ rest) (le-refl _) in
+    let first : length (parted (m ∷ rest) (m ∷ rest)) ≡ suc (length (parted marks (drop k rest))) = ap length (parted-first m k marks m rest (omega arith) o) in
+    let others : length (parted marks (drop k rest)) ≡ groupCount marks = ap (λ (l : List ℕ). length (parted marks l)) d ∙ length-parted marks marks (le-refl _) in
+    omega arith
+
+-- ---- items that a function changes
+
+after-map : {A B : Type 0} (f : A → B) (group : List A) (marks : List ℕ) (xs : List A)
+    → partedAfter (map f group) marks (map f xs) ≡ map (map f) (partedAfter group marks xs)
+unfolding partedAfter
+after-map f group [] xs = refl
+after-map f group (m ∷ ms) [] = refl
+after-map f group (m ∷ ms) (x ∷ xs) = go (eqb m 0) (after-map f (group ++ (x ∷ [])) ms xs) (after-map f (x ∷ []) ms xs)
+  where
+    go : (b : Bool) → partedAfter (map f (group ++ (x ∷ []))) ms (map f xs) ≡ map (map f) (partedAfter (group ++ (x ∷ [])) ms xs)
+        → partedAfter (f x ∷ []) ms (map f xs) ≡ map (map f) (partedAfter (x ∷ []) ms xs)
+        → cond b (partedAfter (map f group ++ (f x ∷ [])) ms (map f xs)) (map f group ∷ partedAfter (f x ∷ []) ms (map f xs))
+        ≡ map (map f) (cond b (partedAfter (group ++ (x ∷ [])) ms xs) (group ∷ partedAfter (x ∷ []) ms xs))
+    go true u v = ap (λ (g : List _). partedAfter g ms (map f xs)) (sym (map-append f group (x ∷ []))) ∙ u
+    go false u v = ap (λ (r : List (List _)). map f group ∷ r) v
+
+-- the groups of the changed items are the groups' items changed
+pub parted-map : {A B : Type 0} (f : A → B) (marks : List ℕ) (xs : List A) → parted marks (map f xs) ≡ map (map f) (parted marks xs)
+unfolding parted
+parted-map f [] xs = refl
+parted-map f (m ∷ ms) [] = refl
+parted-map f (m ∷ ms) (x ∷ xs) = after-map f (x ∷ []) ms xs

@@ -1,0 +1,62 @@
+-- The loop's invariant: whether x is held is what the values from i on say.
+use Prim.Native.Nat.{_-_}
+use native.Mathlib.Omega.{arith}
+use mathlib.Core.Path.{refl, sym, _∙_}
+use lib.ListN.{length}
+use borrow.Author.Needs.{needs}
+use Rattle.grouping_normalizer.proofs.SetLaws.{Seeking, seeking-found, seeking-turn, seeking-end}
+use Rattle.grouping_normalizer.proofs.is_held.Statement.{statement}
+use Rattle.grouping_normalizer.proofs.is_held.Tie as tie
+
+abbrev Inv-loop : tie.InvT-loop
+Inv-loop values x i₀ i = Seeking values x i
+
+abbrev μ-loop : tie.MeasureT-loop
+μ-loop values x i₀ i = length values - i
+
+loop-holds : tie.Need-loop-holds Inv-loop μ-loop
+loop-holds c = record { upto = omega arith; same = refl }
+
+mul-is-alike : tie.Need-mul-is-alike Inv-loop μ-loop
+mul-is-alike c = omega arith
+
+shared-slice-read-is-alike : tie.Need-shared-slice-read-is-alike Inv-loop μ-loop
+shared-slice-read-is-alike c = omega arith
+
+is-alike-requires : tie.Need-is-alike-requires Inv-loop μ-loop
+is-alike-requires c κs = search needs
+
+returns : tie.Need-returns Inv-loop μ-loop
+returns c =
+    let l = c .before .before .before in
+    seeking-found (l .before .loop .inv) (l .loop-test .taken) (sym (c .before .is-alike .ensures) ∙ c .if1 .taken)
+
+add-i : tie.Need-add-i Inv-loop μ-loop
+add-i c = omega arith
+
+loop-less : tie.Need-loop-less Inv-loop μ-loop
+loop-less c = omega arith
+
+loop-again : tie.Need-loop-again Inv-loop μ-loop
+loop-again c =
+    let l = c .before .before .before in
+    seeking-turn (l .before .loop .inv) (l .loop-test .taken) (sym (c .before .is-alike .ensures) ∙ c .if1 .left)
+
+returns-2 : tie.Need-returns-2 Inv-loop μ-loop
+returns-2 c = seeking-end (c .before .loop .inv) (c .loop-test .left)
+
+pub is-held-spec : {M : Type 1} → statement M
+is-held-spec =
+    tie.close
+    (tie.spec
+    Inv-loop
+    μ-loop
+    loop-holds
+    mul-is-alike
+    shared-slice-read-is-alike
+    is-alike-requires
+    returns
+    add-i
+    loop-less
+    loop-again
+    returns-2)

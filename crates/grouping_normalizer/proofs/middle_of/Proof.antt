@@ -1,0 +1,93 @@
+-- The loop's invariant: no set before `at` holds x.
+use Prim.Native.Nat.{_-_}
+use native.Mathlib.Omega.{arith}
+use mathlib.Core.Path.{refl, _∙_}
+use lib.ListN.{length}
+use borrow.Author.Needs.{needs}
+use Rattle.grouping_normalizer.proofs.SetLaws.{Looking, looking-some, looking-found, looking-turn, looking-end}
+use Rattle.grouping_normalizer.proofs.middle_of.Statement.{statement}
+use Rattle.grouping_normalizer.proofs.middle_of.Tie as tie
+
+abbrev Inv-loop : tie.InvT-loop
+Inv-loop values margin x at₀ at = Looking margin values x at
+
+abbrev μ-loop : tie.MeasureT-loop
+μ-loop values margin x at₀ at = length values - at
+
+loop-holds : tie.Need-loop-holds Inv-loop μ-loop
+loop-holds c = record { upto = omega arith; same = refl }
+
+set-end-requires : tie.Need-set-end-requires Inv-loop μ-loop
+set-end-requires c κs = c .loop-test .taken
+
+mul-is-held : tie.Need-mul-is-held Inv-loop μ-loop
+mul-is-held c = omega arith
+
+sub-is-held : tie.Need-sub-is-held Inv-loop μ-loop
+sub-is-held c = omega arith
+
+part-is-held-start : tie.Need-part-is-held-start Inv-loop μ-loop
+part-is-held-start c = omega arith
+
+part-is-held-end : tie.Need-part-is-held-end Inv-loop μ-loop
+part-is-held-end c = omega arith
+
+is-held-requires : tie.Need-is-held-requires Inv-loop μ-loop
+is-held-requires c κs = search needs
+
+mul-middle-value : tie.Need-mul-middle-value Inv-loop μ-loop
+mul-middle-value c = omega arith
+
+sub-middle-value : tie.Need-sub-middle-value Inv-loop μ-loop
+sub-middle-value c = omega arith
+
+part-middle-value-start : tie.Need-part-middle-value-start Inv-loop μ-loop
+part-middle-value-start c = omega arith
+
+part-middle-value-end : tie.Need-part-middle-value-end Inv-loop μ-loop
+part-middle-value-end c = omega arith
+
+middle-value-requires : tie.Need-middle-value-requires Inv-loop μ-loop
+middle-value-requires c κs =
+    let k = c .before .before .before .before in
+    looking-some (k .before .before .loop .inv) (k .before .loop-test .taken) (k .set-end .ensures)
+
+returns : tie.Need-returns Inv-loop μ-loop
+returns c =
+    let k = c .before .before .before .before .before in
+    c .middle-value .ensures
+    ∙ looking-found (k .before .before .loop .inv) (k .before .loop-test .taken) (k .set-end .ensures) _ (c .before .before .before .is-held .ensures) (c .before .before .if1 .taken)
+
+loop-less : tie.Need-loop-less Inv-loop μ-loop
+loop-less c = omega arith
+
+loop-again : tie.Need-loop-again Inv-loop μ-loop
+loop-again c =
+    let k = c .before .before .before in
+    looking-turn (k .before .before .loop .inv) (k .before .loop-test .taken) (k .set-end .ensures) _ (c .before .is-held .ensures) (c .if1 .left)
+
+returns-2 : tie.Need-returns-2 Inv-loop μ-loop
+returns-2 c = looking-end (c .before .loop .inv) (c .loop-test .left)
+
+pub middle-of-spec : {M : Type 1} → statement M
+middle-of-spec =
+    tie.close
+    (tie.spec
+    Inv-loop
+    μ-loop
+    loop-holds
+    set-end-requires
+    mul-is-held
+    sub-is-held
+    part-is-held-start
+    part-is-held-end
+    is-held-requires
+    mul-middle-value
+    sub-middle-value
+    part-middle-value-start
+    part-middle-value-end
+    middle-value-requires
+    returns
+    loop-less
+    loop-again
+    returns-2)

@@ -1,0 +1,4 @@
+pub mod Ordered
+pub mod Heap
+pub mod Normalizer
+pub mod Sets

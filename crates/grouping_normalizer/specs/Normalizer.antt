@@ -1,0 +1,71 @@
+-- Document 01, delta_time_normalizer.rs: "Over one group's notes: distinct deltas in total order (−0 before +0); a set runs while within 5.0 of its first value;
+-- each value maps to the middle one, or to (lower + upper) / 2.0." The 5.0 is a parameter, the margin.
+use Prim.Native.Nat.{ℕ, _-_, _/_, _%_}
+use mathlib.Core.Path.{_≡_}
+use mathlib.Core.Bool.{Bool, false, cond, _&&_, _||_}
+use mathlib.Core.List.{List, [], _∷_, _++_, map}
+use lib.Dec.{eqb}
+use lib.IntN.{pos}
+use lib.ListN.{length, getD}
+use lib.Ieee.{Float, nan, fin, binary64, add, div}
+use Rattle.numeric.specs.Near.{isNear}
+use Rattle.numeric.specs.TotalOrder.{totalOrder}
+use Rattle.grouping_marks.specs.Over.{over}
+use Rattle.grouping_normalizer.specs.Ordered.{ordered}
+
+-- equal in all bits, for values that are no NaN: each stands at or before the other
+unfoldable pub alike : Float → Float → Bool
+alike x y = totalOrder x y && totalOrder y x
+
+-- of neighbours that are alike one stays
+unfoldable pub unrepeated : List Float → List Float
+unrepeated [] = []
+unrepeated (x ∷ []) = x ∷ []
+unrepeated (x ∷ y ∷ ys) = cond (alike x y) (unrepeated (y ∷ ys)) (x ∷ unrepeated (y ∷ ys))
+
+-- "distinct deltas in total order"
+unfoldable pub distinct : List Float → List Float
+distinct deltas = unrepeated (ordered deltas)
+
+-- the sets of the values that follow, where the open set has the first value `first` and is `set` so far: "a set runs while within 5.0 of its first value"
+unfoldable pub setsAfter : Float → Float → List Float → List Float → List (List Float)
+setsAfter margin first set [] = set ∷ []
+setsAfter margin first set (v ∷ values) =
+    cond (isNear margin v first) (setsAfter margin first (set ++ (v ∷ [])) values) (set ∷ setsAfter margin v (v ∷ []) values)
+
+unfoldable pub sets : Float → List Float → List (List Float)
+sets margin [] = []
+sets margin (v ∷ values) = setsAfter margin v (v ∷ []) values
+
+unfoldable pub holds : Float → List Float → Bool
+holds x [] = false
+holds x (v ∷ values) = alike x v || holds x values
+
+-- "the middle one, or (lower + upper) / 2.0"
+unfoldable pub middle : List Float → Float
+middle set =
+    cond (eqb (length set % 2) 1) (getD set (length set / 2) nan)
+    (div binary64 (add binary64 (getD set (length set / 2 - 1) nan) (getD set (length set / 2) nan)) (fin false 1 (pos 1)))
+
+-- the middle of the set that holds x; an x that no set holds stays, as in the source
+unfoldable pub middleOf : Float → List (List Float) → Float
+middleOf x [] = x
+middleOf x (set ∷ rest) = cond (holds x set) (middle set) (middleOf x rest)
+
+-- what the deltas map x to
+unfoldable pub normalOf : Float → List Float → Float → Float
+normalOf margin deltas x = middleOf x (sets margin (distinct deltas))
+
+-- all of them
+unfoldable pub normalized : Float → List Float → List Float
+normalized margin deltas = map (normalOf margin deltas) deltas
+
+-- what `distinct_values` leaves of a lent slice, and returns: the distinct values in front of what else the order has
+pub record Distinct (old new : List Float) (r : ℕ) : Type 0 where
+  pub values : new ≡ over (distinct old) (ordered old)
+  pub count : r ≡ length (distinct old)
+
+-- what `normal_of` promises
+pub record NormalOf (margin : Float) (old new : List Float) (x r : Float) : Type 0 where
+  pub answer : r ≡ normalOf margin old x
+  pub values : new ≡ over (distinct old) (ordered old)

@@ -1,0 +1,111 @@
+// The delta normaliser: what a delta counts as among the deltas of its group.
+ghost use mathlib.Core.Path.{_≡_};
+ghost use Prim.Native.Nat.{_<_};
+ghost use lib.ListN.{length};
+ghost use Rattle.grouping_normalizer.specs.Ordered.{AllFinite};
+ghost use Rattle.grouping_normalizer.specs.Normalizer.{alike, holds, middle, middleOf, sets, Distinct, NormalOf};
+ghost use Rattle.grouping_normalizer.specs.Sets.{SetEnd};
+use numeric::near::near;
+use numeric::order::total_order;
+
+pub mod heap;
+
+// Equal in all bits, for values that are no NaN.
+fn is_alike(a: f64, b: f64) -> bool
+    ensures { λ r. ⌜ r ≡ alike a b ⌝ }
+{
+    if total_order(a, b) {
+        return total_order(b, a);
+    }
+    false
+}
+
+// Puts the distinct values, in total order, in front. The result is how many there are.
+pub fn distinct_values(values: &mut [f64]) -> usize
+    requires { ⌜ AllFinite (now values) ⌝ }
+    ensures { λ r. ⌜ Distinct (now (values .entry)) (now (values .exit)) r ⌝ }
+{
+    heap::sort(values);
+    let n = values.len();
+    if n == 0 {
+        return 0;
+    }
+    let mut k = 0;
+    let mut i = 1;
+    while i < n {
+        if is_alike(values[k], values[i]) {
+            i += 1;
+        } else {
+            k += 1;
+            values[k] = values[i];
+            i += 1;
+        }
+    }
+    k + 1
+}
+
+// The position after the set that starts at `at`: it runs while within the margin of its first value.
+fn set_end(values: &[f64], margin: f64, at: usize) -> usize
+    requires { ⌜ at < length (now values) ⌝ }
+    ensures { λ r. ⌜ SetEnd margin (now (values .entry)) at r ⌝ }
+{
+    let mut last = at;
+    while last + 1 < values.len() {
+        if !near(values[last + 1], values[at], margin) {
+            return last + 1;
+        }
+        last += 1;
+    }
+    last + 1
+}
+
+fn is_held(values: &[f64], x: f64) -> bool
+    ensures { λ r. ⌜ r ≡ holds x (now (values .entry)) ⌝ }
+{
+    let mut i = 0;
+    while i < values.len() {
+        if is_alike(x, values[i]) {
+            return true;
+        }
+        i += 1;
+    }
+    false
+}
+
+// The middle value of a set, or half the sum of the two.
+fn middle_value(set: &[f64]) -> f64
+    requires { ⌜ 0 < length (now set) ⌝ }
+    ensures { λ r. ⌜ r ≡ middle (now (set .entry)) ⌝ }
+{
+    let half = set.len() / 2;
+    if set.len() % 2 == 1 {
+        return set[half];
+    }
+    let lower = set[half - 1];
+    let upper = set[half];
+    (lower + upper) / 2.0
+}
+
+// The middle of the set that holds x, of distinct values in order; x itself where none holds it.
+fn middle_of(values: &[f64], margin: f64, x: f64) -> f64
+    ensures { λ r. ⌜ r ≡ middleOf x (sets margin (now (values .entry))) ⌝ }
+{
+    let mut at = 0;
+    while at < values.len() {
+        let end = set_end(values, margin, at);
+        if is_held(&values[at..end], x) {
+            return middle_value(&values[at..end]);
+        }
+        at = end;
+    }
+    x
+}
+
+// What x counts as among the deltas of a group. They are lent to be put in order, the distinct ones in front.
+pub fn normal_of(deltas: &mut [f64], margin: f64, x: f64) -> f64
+    requires { ⌜ AllFinite (now deltas) ⌝ }
+    ensures { λ r. ⌜ NormalOf margin (now (deltas .entry)) (now (deltas .exit)) x r ⌝ }
+{
+    let k = distinct_values(deltas);
+    middle_of(&deltas[..k], margin, x)
+}

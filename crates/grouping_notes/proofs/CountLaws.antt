@@ -1,0 +1,199 @@
+-- Notes counted one by one make as many groups as their marks: the groups so far, with the marks of what is pending and of the deltas left, give the groups of all.
+use mathlib.Core.Path.{_≡_, refl, sym, ap, _∙_}
+use mathlib.Core.Bool.{Bool, true, false, cond, _&&_}
+use mathlib.Core.List.{List, [], _∷_}
+use Prim.Native.Nat.{ℕ, suc, _+_, _≤_, _<_}
+use native.Mathlib.Nat.{add-zero}
+use native.Mathlib.Omega.{arith}
+use lib.Dec.{eqb, ltb}
+use lib.ListN.{length, drop, getD}
+use lib.Ieee.{Float, nan}
+use borrow.Author.Tests.{eq-eqb, ne-eqb, lt-ltb, le-ltb}
+use Rattle.numeric.specs.Near.{isNear}
+use Rattle.grouping_marks.specs.Scan.{after}
+use Rattle.grouping_marks.specs.Marks.{opened, groupCount}
+use Rattle.grouping_chart.specs.Object.{isNote}
+use Rattle.grouping_chart.specs.Notes.{noteDeltas}
+use Rattle.grouping_chart.proofs.NoteLaws.{deltas-at, deltas-over}
+use Rattle.grouping_interval.specs.IntervalGrouping.{rises, marksAfter, intervalMarks}
+use Rattle.grouping_interval.specs.GroupEnd.{marksFrom}
+use Rattle.grouping_interval.proofs.IntervalLaws.{marks-near, marks-rise, marks-neither}
+use Rattle.grouping_interval.proofs.GroupLaws.{marks-all}
+use Rattle.grouping_notes.specs.declared.Counting.{Counting}
+use Rattle.grouping_notes.specs.Counting.{counting₀, counted, groupsCounted}
+
+-- ---- the cases of a further note
+
+module _ (margin : Float) (c : Counting) (d : Float) where
+  pub counted-first : c .notes ≡ 0 → record { notes = 1; groups = 1; last = d; next = d; pending = false } ≡ counted margin c d
+  unfolding counted
+  counted-first e = rw (eq-eqb _ _ e)
+
+  module _ (n : c .notes ≡ 0 → ⊥) where
+    pub counted-next : c .pending ≡ false → record { notes = c .notes + 1; groups = c .groups; last = c .last; next = d; pending = true } ≡ counted margin c d
+    unfolding counted
+    counted-next p = rw (ne-eqb _ _ n, p)
+
+    pub counted-near : c .pending ≡ true → isNear margin (c .next) d ≡ true
+        → record { notes = c .notes + 1; groups = c .groups; last = c .next; next = d; pending = true } ≡ counted margin c d
+    unfolding counted
+    counted-near p e = rw (ne-eqb _ _ n, p, e)
+
+    pub counted-rise : c .pending ≡ true → isNear margin (c .next) d ≡ false → rises margin (c .next) d ≡ true
+        → record { notes = c .notes + 1; groups = c .groups + 1; last = d; next = d; pending = false } ≡ counted margin c d
+    unfolding counted
+    counted-rise p e r = rw (ne-eqb _ _ n, p, e, r)
+
+    pub counted-neither : c .pending ≡ true → isNear margin (c .next) d ≡ false → rises margin (c .next) d ≡ false
+        → record { notes = c .notes + 1; groups = c .groups + 1; last = c .next; next = d; pending = true } ≡ counted margin c d
+    unfolding counted
+    counted-neither p e r = rw (ne-eqb _ _ n, p, e, r)
+
+-- ---- the cases of the end
+
+module _ (margin : Float) (c : Counting) where
+  pub ended-open : c .pending ≡ false → c .groups ≡ groupsCounted margin c
+  unfolding groupsCounted
+  ended-open p = rw p
+
+  pub ended-few : c .pending ≡ true → c .notes ≤ 2 → c .groups + 1 ≡ groupsCounted margin c
+  unfolding groupsCounted
+  ended-few p h = rw (p, le-ltb _ _ h)
+
+  pub ended-many : (b : Bool) → c .pending ≡ true → 2 < c .notes → isNear margin (c .next) (c .last) ≡ b → cond b (c .groups) (c .groups + 1) ≡ groupsCounted margin c
+  unfolding groupsCounted
+  ended-many b p h e = rw (p, lt-ltb _ _ h, e)
+
+-- ---- the marks of what is pending and left
+
+after-same : (g : ℕ) (ms : List ℕ) → (g ≡ 0 → ⊥) → after opened g (0 ∷ ms) ≡ after opened g ms
+unfolding after opened
+after-same g ms h = rw (ne-eqb g 0 h)
+
+after-new : (g : ℕ) (ms : List ℕ) → after opened g (1 ∷ ms) ≡ after opened (g + 1) ms
+unfolding after opened
+after-new g ms = refl
+
+-- some note is counted, so some group
+record Begun (c : Counting) : Type 0 where
+  some-notes : c .notes ≡ 0 → ⊥
+  some-groups : c .groups ≡ 0 → ⊥
+
+-- counting on over the deltas left gives what their marks give
+abbrev Meets : Float → Counting → List Float → Type 0
+Meets margin c ds =
+    groupsCounted margin (after (counted margin) c ds)
+    ≡ after opened (c .groups) (marksAfter margin (ltb 2 (c .notes + length ds)) (c .last) (cond (c .pending) (c .next ∷ ds) ds))
+
+meets-none : (margin : Float) (c : Counting) → Begun c → Meets margin c []
+unfolding groupsCounted after marksAfter
+meets-none margin c h = rw (add-zero (c .notes)) (by (c .pending))
+  where
+    last-by : (b : Bool) → cond b (c .groups) (c .groups + 1) ≡ after opened (c .groups) (cond b 0 1 ∷ [])
+    last-by true = sym (after-same (c .groups) [] (h .some-groups))
+    last-by false = sym (after-new (c .groups) [])
+
+    by : (p : Bool) → cond p (cond (ltb 2 (c .notes) && isNear margin (c .next) (c .last)) (c .groups) (c .groups + 1)) (c .groups)
+        ≡ after opened (c .groups) (marksAfter margin (ltb 2 (c .notes)) (c .last) (cond p (c .next ∷ []) []))
+    by true = last-by (ltb 2 (c .notes) && isNear margin (c .next) (c .last))
+    by false = refl
+
+module _ (margin : Float) (c : Counting) (d : Float) (ds : List Float) (h : Begun c) (u : (c′ : Counting) → Begun c′ → Meets margin c′ ds) where
+  many : Bool
+  many = ltb 2 (c .notes + 1 + length ds)
+
+  -- one note more
+  meets-on : (c′ : Counting) → c′ ≡ counted margin c d → Begun c′
+      → after opened (c .groups) (marksAfter margin many (c .last) (cond (c .pending) (c .next ∷ d ∷ ds) (d ∷ ds)))
+      ≡ after opened (c′ .groups) (marksAfter margin (ltb 2 (c′ .notes + length ds)) (c′ .last) (cond (c′ .pending) (c′ .next ∷ ds) ds))
+      → Meets margin c (d ∷ ds)
+  unfolding after many
+  meets-on c′ e b k =
+      let n : c .notes + 1 + length ds ≡ c .notes + suc (length ds) = omega arith in
+      ap (λ (x : Counting). groupsCounted margin (after (counted margin) x ds)) (sym e)
+      ∙ u c′ b
+      ∙ sym k
+      ∙ ap (λ (n : ℕ). after opened (c .groups) (marksAfter margin (ltb 2 n) (c .last) (cond (c .pending) (c .next ∷ d ∷ ds) (d ∷ ds)))) n
+
+  meets-more : (p n r : Bool) → c .pending ≡ p → isNear margin (c .next) d ≡ n → rises margin (c .next) d ≡ r → Meets margin c (d ∷ ds)
+  unfolding many
+  meets-more false n r p e f =
+      meets-on _ (counted-next margin c d (h .some-notes) p) (record { some-notes = λ z. omega arith; some-groups = h .some-groups }) (rw p)
+  meets-more true true r p e f =
+      meets-on _ (counted-near margin c d (h .some-notes) p e) (record { some-notes = λ z. omega arith; some-groups = h .some-groups })
+      (rw p (ap (after opened (c .groups)) (marks-near margin many (c .last) (c .next) d ds e) ∙ after-same (c .groups) _ (h .some-groups)))
+  meets-more true false true p e f =
+      meets-on _ (counted-rise margin c d (h .some-notes) p e f) (record { some-notes = λ z. omega arith; some-groups = λ z. omega arith })
+      (rw p (ap (after opened (c .groups)) (marks-rise margin many (c .last) (c .next) d ds e f) ∙ after-same (c .groups) _ (h .some-groups) ∙ after-new (c .groups) _))
+  meets-more true false false p e f =
+      meets-on _ (counted-neither margin c d (h .some-notes) p e f) (record { some-notes = λ z. omega arith; some-groups = λ z. omega arith })
+      (rw p (ap (after opened (c .groups)) (marks-neither margin many (c .last) (c .next) d ds e f) ∙ after-new (c .groups) _))
+
+meets : (margin : Float) (c : Counting) (ds : List Float) → Begun c → Meets margin c ds
+meets margin c [] h = meets-none margin c h
+meets margin c (d ∷ ds) h = meets-more margin c d ds h (λ c′ b. meets margin c′ ds b) (c .pending) (isNear margin (c .next) d) (rises margin (c .next) d) refl refl refl
+
+-- all the notes, counted from none
+pub counted-all : (margin : Float) (ds : List Float) → groupsCounted margin (after (counted margin) counting₀ ds) ≡ groupCount (intervalMarks margin ds)
+unfolding counted groupsCounted counting₀ after groupCount marksFrom opened
+counted-all margin [] = ap groupCount (sym (marks-all margin []))
+counted-all margin (d ∷ ds) =
+    let one : 1 + length ds ≡ suc (length ds) = omega arith in
+    meets margin (record { notes = 1; groups = 1; last = d; next = d; pending = false }) ds (record { some-notes = λ z. omega arith; some-groups = λ z. omega arith })
+    ∙ ap (λ (n : ℕ). after opened 1 (marksAfter margin (ltb 2 n) d ds)) one
+    ∙ ap groupCount (sym (marks-all margin (d ∷ ds)))
+
+-- ---- the loop of `count_groups`
+
+counted-grows : (margin : Float) (c : Counting) (d : Float) → c .groups ≤ c .notes
+    → (counted margin c d .notes ≤ c .notes + 1) × (counted margin c d .groups ≤ counted margin c d .notes)
+unfolding counted
+counted-grows margin c d h = by (eqb (c .notes) 0) (c .pending) (isNear margin (c .next) d) (rises margin (c .next) d) refl refl refl refl
+  where
+    by : (z p n r : Bool) → eqb (c .notes) 0 ≡ z → c .pending ≡ p → isNear margin (c .next) d ≡ n → rises margin (c .next) d ≡ r
+        → (counted margin c d .notes ≤ c .notes + 1) × (counted margin c d .groups ≤ counted margin c d .notes)
+    by true p n r a b e f = rw a (omega arith)
+    by false false n r a b e f = rw (a, b) (omega arith)
+    by false true true r a b e f = rw (a, b, e) (omega arith)
+    by false true false true a b e f = rw (a, b, e, f) (omega arith)
+    by false true false false a b e f = rw (a, b, e, f) (omega arith)
+
+-- the notes left, counted on from c, give what all of them give
+pub record Counts (margin : Float) (ks : List ℕ) (ds : List Float) (c : Counting) (i : ℕ) : Type 0 where
+  pub whole : length ds ≡ length ks
+  pub left : after (counted margin) c (noteDeltas (drop i ks) (drop i ds)) ≡ after (counted margin) counting₀ (noteDeltas ks ds)
+  pub groups-le : c .groups ≤ c .notes
+  pub notes-le : c .notes ≤ i
+  pub upto : i ≤ length ks
+
+pub counts-start : (margin : Float) (ks : List ℕ) (ds : List Float) → length ds ≡ length ks → Counts margin ks ds counting₀ 0
+unfolding counting₀
+counts-start margin ks ds e = record { whole = e; left = refl; groups-le = omega arith; notes-le = omega arith; upto = omega arith }
+
+module _ {margin : Float} {ks : List ℕ} {ds : List Float} {c : Counting} {i : ℕ} (x : Counts margin ks ds c i) where
+  pub counts-note : (r : Counting) → i < length ks → isNote (getD ks i 0) ≡ true → r ≡ counted margin c (getD ds i nan) → Counts margin ks ds r (i + 1)
+  unfolding after
+  counts-note r h n e =
+      let g : (r .notes ≤ c .notes + 1) × (r .groups ≤ r .notes) = rw e (counted-grows margin c (getD ds i nan) (x .groups-le)) in
+      record {
+        whole = x .whole;
+        left = rw e (sym (ap (after (counted margin) c) (deltas-at ks i true ds h (x .whole) n)) ∙ x .left);
+        groups-le = omega (arith, g);
+        notes-le = omega (arith, g, x .notes-le);
+        upto = omega arith;
+      }
+
+  pub counts-pass : i < length ks → isNote (getD ks i 0) ≡ false → Counts margin ks ds c (i + 1)
+  counts-pass h n = record {
+    whole = x .whole;
+    left = sym (ap (after (counted margin) c) (deltas-at ks i false ds h (x .whole) n)) ∙ x .left;
+    groups-le = x .groups-le;
+    notes-le = omega (arith, x .notes-le);
+    upto = omega arith;
+  }
+
+  pub counts-end : length ks ≤ i → groupsCounted margin c ≡ groupCount (intervalMarks margin (noteDeltas ks ds))
+  unfolding after
+  counts-end h =
+      let e : c ≡ after (counted margin) counting₀ (noteDeltas ks ds) = sym (ap (after (counted margin) c) (deltas-over ks i ds h)) ∙ x .left in
+      ap (groupsCounted margin) e ∙ counted-all margin (noteDeltas ks ds)

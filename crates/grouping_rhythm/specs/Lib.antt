@@ -1,0 +1,2 @@
+pub mod Rhythm
+pub mod Passes

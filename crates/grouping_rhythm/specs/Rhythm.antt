@@ -1,0 +1,80 @@
+-- Document 01, "Calls and what they fill", rhythm: "per object group and pattern-group number, 65535 for a NonHit"; "rhythm [returns] the numbers of groups and of pattern groups".
+use Prim.Native.Nat.{ℕ, _*_}
+use mathlib.Core.Bool.{Bool, false, cond, _||_}
+use mathlib.Core.List.{List}
+use lib.Dec.{ltb}
+use lib.IntN.{pos}
+use lib.ListN.{length, getD, replicate}
+use lib.Ieee.{Float, fin, binary64, ofBits}
+use Rattle.grouping_marks.specs.Over.{over}
+use Rattle.grouping_marks.specs.Scan.{tabulate}
+use Rattle.grouping_marks.specs.Marks.{groupCount, groupNumbers}
+use Rattle.grouping_chart.specs.Object.{isNote, noteIdx}
+use Rattle.grouping_chart.specs.Chart.{Chart, size}
+use Rattle.grouping_chart.specs.Refusal.{verdict}
+use Rattle.grouping_chart.specs.declared.chart.Verdict.{Verdict}
+use Rattle.grouping_chart.specs.declared.chart.Verdict.the-variants.{Accepted, Refused}
+use Rattle.grouping_interval.specs.IntervalGrouping.{intervalMarks}
+use Rattle.grouping_same_rhythm.specs.SameRhythm.{rhythmMarks, groupIntervals}
+use Rattle.grouping_same_rhythm.specs.SamePatterns.{patternNumber}
+use Rattle.grouping_rhythm.specs.declared.Grouping.{Grouping}
+use Rattle.grouping_rhythm.specs.declared.Grouping.the-variants.{Done}
+use Rattle.grouping_rhythm.specs.declared.Grouping.the-variants as answer
+
+-- the slices that are lent to be written: two answers and two work slices
+pub record Memory : Type 0 where
+  pub group : List ℕ
+  pub pattern : List ℕ
+  pub work : List ℕ
+  pub scratch : List Float
+
+pub record Outcome : Type 0 where
+  pub answer : Grouping
+  pub memory : Memory
+
+-- the margin of the base
+abbrev pub baseMargin : Float
+baseMargin = fin false 5 (pos 0)
+
+-- what is said of each note, object by object: "65535 for a NonHit"
+unfoldable pub perNote : (ℕ → ℕ) → List ℕ → List ℕ
+perNote f kinds = tabulate (λ (i : ℕ). cond (isNote (getD kinds i 0)) (f (noteIdx kinds i)) 65535) (length kinds)
+
+-- the group of note number j
+unfoldable pub noteGroup : Float → List ℕ → List Float → ℕ → ℕ
+noteGroup margin kinds deltas j = getD (groupNumbers (rhythmMarks margin kinds deltas)) j 0
+
+unfoldable pub groupOf : Float → List ℕ → List Float → List ℕ
+groupOf margin kinds deltas = perNote (noteGroup margin kinds deltas) kinds
+
+unfoldable pub patternGroupOf : Float → List ℕ → List Float → List Float → List ℕ
+patternGroupOf margin kinds starts deltas =
+    perNote (λ (j : ℕ). patternNumber margin (groupIntervals margin kinds starts deltas) (noteGroup margin kinds deltas j)) kinds
+
+-- how many there are
+unfoldable pub groupsIn : Float → List ℕ → List Float → ℕ
+groupsIn margin kinds deltas = groupCount (rhythmMarks margin kinds deltas)
+
+unfoldable pub patternGroupsIn : Float → List ℕ → List Float → List Float → ℕ
+patternGroupsIn margin kinds starts deltas = groupCount (intervalMarks margin (groupIntervals margin kinds starts deltas))
+
+-- an answer slice has a place for each of n objects, the work slices 8 n and n
+unfoldable pub short : ℕ → Memory → Bool
+short n m = ltb (length (m .group)) n || (ltb (length (m .pattern)) n || (ltb (length (m .work)) (8 * n) || ltb (length (m .scratch)) n))
+
+-- the memory after an accepted call
+unfoldable pub filled : Chart → Memory → Memory
+filled c m = record {
+  group = over (groupOf baseMargin (c .kinds) (c .deltas)) (m .group);
+  pattern = over (patternGroupOf baseMargin (c .kinds) (c .starts) (c .deltas)) (m .pattern);
+  work = over (replicate (8 * size c) 0) (m .work);
+  scratch = over (replicate (size c) (ofBits binary64 0)) (m .scratch);
+}
+
+-- a refusal leaves all as lent
+unfoldable pub outcomeBy : Verdict → Chart → Memory → Outcome
+outcomeBy Accepted c m = record { answer = Done (groupsIn baseMargin (c .kinds) (c .deltas)) (patternGroupsIn baseMargin (c .kinds) (c .starts) (c .deltas)); memory = filled c m }
+outcomeBy (Refused number place) c m = record { answer = answer.Refused number place; memory = m }
+
+unfoldable pub rhythmOutcome : Chart → Memory → Outcome
+rhythmOutcome c m = outcomeBy (verdict c (short (size c) m)) c m

@@ -1,0 +1,84 @@
+// The call rhythm: per object the number of its rhythm group and of its pattern group.
+ghost use mathlib.Core.Path.{_≡_};
+ghost use Rattle.grouping_rhythm.specs.Rhythm.{Outcome, short, rhythmOutcome};
+ghost use Rattle.grouping_rhythm.specs.Passes.{AnswerRoom, Grouped};
+use crate::tables::Counts;
+use grouping_chart::chart::Verdict;
+use grouping_chart::object::ObjectIndex;
+use grouping_marks::fill;
+
+pub mod spread;
+pub mod tables;
+
+// The numbers of groups and of pattern groups, or the first refusal that applies and its place.
+pub enum Grouping {
+    Done(usize, usize),
+    Refused(u8, ObjectIndex),
+}
+
+// Whether a slice has too few places for n objects.
+fn too_short(n: usize, group: &[u16], pattern: &[u16], work: &[u16], scratch: &[f64]) -> bool
+    ensures { λ r. ⌜ r ≡ short n (record { group = now (group .entry); pattern = now (pattern .entry); work = now (work .entry); scratch = now (scratch .entry) }) ⌝ }
+{
+    if group.len() < n {
+        return true;
+    }
+    if pattern.len() < n {
+        return true;
+    }
+    // work.len() < 8 * n, without a product that could wrap
+    if work.len() / 8 < n {
+        return true;
+    }
+    scratch.len() < n
+}
+
+// What the call does with an accepted chart: group, fill the answers, and clear the work slices.
+fn fill_groups(
+    kind: &[u8],
+    start: &[f64],
+    delta: &[f64],
+    group: &mut [u16],
+    pattern: &mut [u16],
+    work: &mut [u16],
+    scratch: &mut [f64],
+) -> Counts
+    requires { ⌜ AnswerRoom (now kind) (now start) (now delta) (now group) (now pattern) (now work) (now scratch) ⌝ }
+    ensures { λ r. ⌜ Grouped (now (kind .entry)) (now (start .entry)) (now (delta .entry)) (now (group .entry)) (now (group .exit)) (now (pattern .entry)) (now (pattern .exit)) (now (work .entry)) (now (work .exit)) (now (scratch .entry)) (now (scratch .exit)) r ⌝ }
+{
+    let n = kind.len();
+    let k = tables::group_notes(kind, start, delta, work, scratch);
+    let m = k.notes;
+    spread::spread(kind, &work[2 * n..2 * n + m], group);
+    spread::look_up(work, 3 * n, k.groups, 2 * n, m);
+    spread::spread(kind, &work[2 * n..2 * n + m], pattern);
+    fill::clear(work, 8 * n);
+    fill::clear_floats(scratch, n);
+    k
+}
+
+pub fn rhythm(
+    kind: &[u8],
+    start: &[f64],
+    delta: &[f64],
+    ratio: &[f64],
+    group: &mut [u16],
+    pattern: &mut [u16],
+    work: &mut [u16],
+    scratch: &mut [f64],
+) -> Grouping
+    ensures { λ r. ⌜ _≡_ {A = Outcome}
+        (record { answer = r; memory = record { group = now (group .exit); pattern = now (pattern .exit); work = now (work .exit); scratch = now (scratch .exit) } })
+        (rhythmOutcome (record { kinds = now (kind .entry); starts = now (start .entry); deltas = now (delta .entry); ratios = now (ratio .entry) })
+        (record { group = now (group .entry); pattern = now (pattern .entry); work = now (work .entry); scratch = now (scratch .entry) })) ⌝ }
+{
+    let n = kind.len();
+    let short = too_short(n, group, pattern, work, scratch);
+    match grouping_chart::chart::check(kind, start, delta, ratio, short) {
+        Verdict::Refused(number, place) => Grouping::Refused(number, place),
+        Verdict::Accepted => {
+            let k = fill_groups(kind, start, delta, group, pattern, work, scratch);
+            Grouping::Done(k.groups, k.patterns)
+        }
+    }
+}

@@ -1,0 +1,7 @@
+pub mod GroupsLaws
+pub mod PatternsLaws
+pub mod OwnLaws
+pub mod OwnExamples
+pub mod OwnsLaws
+pub mod OwnsWalk
+pub mod OwnsReach

@@ -1,0 +1,69 @@
+-- The own interval case by case: of few notes and of more, snapped, and set against another. Each case is what a match or a test hands over.
+use mathlib.Core.Path.{_≡_, refl, sym, ap, _∙_}
+use mathlib.Core.Bool.{Bool, cond}
+use mathlib.Core.List.{List, [], _∷_}
+use Prim.Native.Nat.{_≤_, _<_}
+use native.Mathlib.Omega.{arith}
+use lib.ListN.{length, getD}
+use lib.Ieee.{Float, nan, binary64, div}
+use Rattle.numeric.specs.Near.{isNear}
+use Rattle.numeric.specs.RoundTiesEven.{roundTiesEven}
+use Rattle.grouping_marks.specs.Over.{over}
+use Rattle.grouping_normalizer.specs.Ordered.{insert, ordered}
+use Rattle.grouping_normalizer.specs.Normalizer.{unrepeated, distinct, normalOf, NormalOf}
+use Rattle.grouping_same_rhythm.specs.declared.own.Own.{Own}
+use Rattle.grouping_same_rhythm.specs.declared.own.Own.the-variants.{Absent, Millis}
+use Rattle.grouping_same_rhythm.specs.Own.{one, modalDelta, snapped, ratioOf}
+use Rattle.grouping_same_rhythm.specs.Passes.{settled, Modal}
+
+-- ---- found
+
+-- of at most one note there is none, and one value is in order
+pub modal-few : (margin : Float) (deltas : List Float) → length deltas < 2 → Modal margin deltas deltas Absent
+unfolding modalDelta settled over distinct unrepeated ordered insert
+modal-few margin [] h = record { own = refl; left = refl }
+modal-few margin (d ∷ []) h = record { own = refl; left = refl }
+modal-few margin (d ∷ e ∷ deltas) h = absurd (omega arith)
+
+-- of more it is what the second one counts as, to whole
+pub modal-more : (margin : Float) (deltas₀ deltas : List Float) (second normal r : Float) → 2 ≤ length deltas₀
+    → NormalOf margin deltas₀ deltas second normal → second ≡ getD deltas₀ 1 nan → r ≡ roundTiesEven normal → Modal margin deltas₀ deltas (Millis r)
+unfolding modalDelta settled
+modal-more margin [] deltas second normal r h n s e = absurd (omega arith)
+modal-more margin (d ∷ []) deltas second normal r h n s e = absurd (omega arith)
+modal-more margin (d₁ ∷ d₂ ∷ rest) deltas second normal r h n s e = record {
+  own = ap Millis (e ∙ ap roundTiesEven (n .answer ∙ ap (normalOf margin (d₁ ∷ d₂ ∷ rest)) s));
+  left = n .values;
+}
+
+-- ---- snapped
+
+module _ (margin : Float) (own previous : Own) where
+  pub snap-absent : own ≡ Absent → Absent ≡ snapped margin own previous
+  unfolding snapped
+  snap-absent p = sym (ap (λ (o : Own). snapped margin o previous) p)
+
+  pub snap-first : (x : Float) → own ≡ Millis x → previous ≡ Absent → Millis x ≡ snapped margin own previous
+  unfolding snapped
+  snap-first x p q = sym (ap (λ (o : Own). snapped margin o previous) p ∙ ap (snapped margin (Millis x)) q)
+
+  -- by what the test found
+  pub snap-both : (x y : Float) (b : Bool) → own ≡ Millis x → previous ≡ Millis y → isNear margin x y ≡ b → cond b (Millis y) (Millis x) ≡ snapped margin own previous
+  unfolding snapped
+  snap-both x y b p q e =
+      sym (ap (λ (o : Own). snapped margin o previous) p ∙ ap (snapped margin (Millis x)) q ∙ ap (λ (t : Bool). cond t (Millis y) (Millis x)) e)
+
+-- ---- set against another
+
+module _ (own previous : Own) where
+  pub ratio-absent : own ≡ Absent → one ≡ ratioOf own previous
+  unfolding ratioOf
+  ratio-absent p = sym (ap (λ (o : Own). ratioOf o previous) p)
+
+  pub ratio-first : (x : Float) → own ≡ Millis x → previous ≡ Absent → one ≡ ratioOf own previous
+  unfolding ratioOf
+  ratio-first x p q = sym (ap (λ (o : Own). ratioOf o previous) p ∙ ap (ratioOf (Millis x)) q)
+
+  pub ratio-both : (x y : Float) → own ≡ Millis x → previous ≡ Millis y → div binary64 x y ≡ ratioOf own previous
+  unfolding ratioOf
+  ratio-both x y p q = sym (ap (λ (o : Own). ratioOf o previous) p ∙ ap (ratioOf (Millis x)) q)

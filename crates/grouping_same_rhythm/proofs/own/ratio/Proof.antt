@@ -1,0 +1,34 @@
+-- Case by case, as the matches found them.
+use lib.Ieee.{ofBits}
+use Rattle.grouping_same_rhythm.proofs.OwnLaws.{ratio-absent, ratio-first, ratio-both}
+use borrow.Author.Needs.{needs}
+use Rattle.grouping_same_rhythm.proofs.own.ratio.Statement.{statement}
+use Rattle.grouping_same_rhythm.proofs.own.ratio.Tie as tie
+
+enum-told : tie.Need-enum-told
+enum-told c = search needs
+
+enum-known-own : tie.Need-enum-known-own
+enum-known-own c = search needs
+
+enum-told-2 : tie.Need-enum-told-2
+enum-told-2 c = search needs
+
+enum-known-previous : tie.Need-enum-known-previous
+enum-known-previous c = search needs
+
+returns : tie.Need-returns
+unfolding ofBits
+returns c = ratio-absent _ _ (c .enum-told .given .1)
+
+returns-2 : tie.Need-returns-2
+unfolding ofBits
+returns-2 c = ratio-first _ _ _ (c .before .before .before .own .given .1) (c .enum-told2 .given .1)
+
+returns-3 : tie.Need-returns-3
+returns-3 c = ratio-both _ _ _ _ (c .before .before .before .before .own .given .1) (c .before .previous .given .1)
+
+pub ratio-spec : {M : Type 1} → statement M
+ratio-spec =
+    tie.close
+    (tie.spec enum-told enum-known-own enum-told-2 enum-known-previous returns returns-2 returns-3)

@@ -1,0 +1,4 @@
+pub mod Own
+pub mod SameRhythm
+pub mod SamePatterns
+pub mod Passes

@@ -1,0 +1,160 @@
+//! One chart, all calls: every bit of every answer and of every lent place.
+
+use host_tests::chart::Chart;
+use host_tests::lent::{exact_sizes, Lent};
+use host_tests::plain::Answers;
+use host_tests::rhythm::Recorded;
+use host_tests::samples::Xorshift;
+use host_tests::{colour, encode, rhythm, Encoded};
+
+/// What the original says of a chart.
+pub struct Original {
+    chart: oracle::chart::Chart,
+    rhythm: oracle::chart::Rhythm,
+}
+
+// Its NaNs are all alike.
+fn bits(x: f64) -> u64 {
+    if x.is_nan() {
+        0x7FF8_0000_0000_0000
+    } else {
+        x.to_bits()
+    }
+}
+
+impl Original {
+    pub fn of(chart: &Chart) -> Self {
+        let chart =
+            oracle::chart::Chart::new(&chart.kind, &chart.start, &chart.delta, &chart.ratio);
+        let rhythm = chart.rhythm();
+        Original { chart, rhythm }
+    }
+
+    fn encoding(&self) -> Answers {
+        let encoding = self.chart.encode();
+        let column = |k: usize| encoding.rows.iter().map(move |row| row[k]);
+        Answers {
+            numbers: [0, 1, 2, 3, 4].map(|k| column(k).map(|x| x as u16).collect()),
+            interval: column(5).map(|x| x as u8).collect(),
+            hit_patterns: encoding.hit_patterns as u64,
+        }
+    }
+
+    fn record(&self, group: usize, window: f64) -> Recorded {
+        let record = self.rhythm.record(group, window);
+        Recorded {
+            refusal: 0,
+            place: 0,
+            first_note: record.first as u64,
+            note_count: record.count as u64,
+            has_own: u64::from(record.own.is_some()),
+            own_bits: record.own.map_or(0, bits),
+            ratio_bits: bits(record.ratio),
+            interval_bits: bits(record.interval),
+            penalty_bits: bits(record.penalty),
+            pattern_group: record.pattern as u64,
+            pattern_ratio_bits: bits(record.pattern_ratio),
+        }
+    }
+}
+
+#[track_caller]
+fn compare_encode(chart: &Chart, original: &Original, spare: usize) {
+    let answers = original.encoding();
+    let sizes = exact_sizes(chart.size()).map(|size| size + spare);
+    let mut lent = Lent::new(sizes, chart.size());
+    let mut want = lent.clone();
+    want.fill(&answers);
+    let done = Encoded {
+        refusal: 0,
+        place: 0,
+        hit_patterns: answers.hit_patterns,
+    };
+    assert_eq!(encode(chart, &mut lent), done, "encode of {chart}");
+    let faults = lent.differences(&want);
+    assert!(faults.is_empty(), "{faults:?} after encode of {chart}");
+}
+
+#[track_caller]
+fn compare_colour(chart: &Chart, original: &Original, spare: usize) -> Vec<f64> {
+    let (n, values) = (chart.size(), original.chart.colour());
+    let lent = colour::Memory::of_sizes([n + spare, 8 * n + spare, n + spare]);
+    let mut memory = lent.clone();
+    let got = colour::colour(chart, &mut memory);
+    assert_eq!((got.refusal, got.place), (0, 0), "colour of {chart}");
+    let want = lent.filled(&values);
+    assert_eq!(memory.bits(), want.bits(), "colour of {chart}");
+    values
+}
+
+#[track_caller]
+fn compare_stretch(chart: &Chart, values: &[f64], a: usize, b: usize) {
+    let n = chart.size();
+    let mean = values[a..b].iter().fold(0.0, |sum, x| sum + x) / (b - a) as f64;
+    let want = (0, 0, mean.to_bits(), oracle::chart::tenths(mean));
+    let lent = colour::Memory::of_sizes([n, 8 * n, n]);
+    let mut memory = lent.clone();
+    let got = colour::stretch(chart, a, b, &mut memory);
+    let got = (got.refusal, got.place, got.mean.to_bits(), got.tenths);
+    assert_eq!(got, want, "stretch {a}..{b} of {chart}");
+    let filled = lent.filled(values);
+    assert_eq!(memory.bits(), filled.bits(), "stretch {a}..{b} of {chart}");
+}
+
+#[track_caller]
+fn compare_rhythm(chart: &Chart, original: &Original, spare: usize) {
+    let n = chart.size();
+    let column = |k: usize| original.rhythm.rows.iter().map(move |row| row[k] as u16);
+    let [group, pattern] = [0, 1].map(|k| column(k).collect::<Vec<u16>>());
+    let lent = rhythm::Memory::of_sizes([n + spare, n + spare, 8 * n + spare, n + spare]);
+    let mut memory = lent.clone();
+    let want = rhythm::Grouped {
+        refusal: 0,
+        place: 0,
+        groups: original.rhythm.groups.len() as u64,
+        pattern_groups: original.rhythm.patterns.len() as u64,
+    };
+    let got = rhythm::rhythm(chart, &mut memory);
+    assert_eq!(got, want, "rhythm of {chart}");
+    let filled = lent.filled(&group, &pattern);
+    assert_eq!(memory.bits(), filled.bits(), "rhythm of {chart}");
+}
+
+#[track_caller]
+fn compare_record(chart: &Chart, original: &Original, group: usize, window: f64) {
+    let n = chart.size();
+    let lent = rhythm::Memory::of_sizes([0, 0, 8 * n, n]);
+    let mut memory = lent.clone();
+    let got = rhythm::record(chart, group, window, &mut memory);
+    let want = original.record(group, window);
+    assert_eq!(got, want, "record {group} at {window:?} of {chart}");
+    let cleared = lent.cleared(n);
+    assert_eq!(memory.bits(), cleared.bits(), "record {group} of {chart}");
+}
+
+/// How many objects all calls together were asked about. A difference panics.
+pub fn compare(chart: &Chart, random: &mut Xorshift) -> usize {
+    let original = Original::of(chart);
+    let (n, spare) = (chart.size(), random.below(8));
+    compare_encode(chart, &original, spare);
+    let values = compare_colour(chart, &original, spare);
+    compare_rhythm(chart, &original, spare);
+    let mut calls = 3;
+    if n > 0 {
+        let a = random.below(n);
+        let b = a + 1 + random.below(n - a);
+        compare_stretch(chart, &values, a, b);
+        calls += 1;
+    }
+    let groups = original.rhythm.groups.len();
+    for round in 0..groups.min(6) {
+        let group = match round {
+            0 => groups - 1,
+            _ => random.below(groups),
+        };
+        let window = random.pick(&[1.0, 19.5, 35.0, 80.0, 333.25, 1000.0]);
+        compare_record(chart, &original, group, window);
+        calls += 1;
+    }
+    calls * n
+}

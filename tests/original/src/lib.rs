@@ -1,0 +1,3 @@
+//! A chart put to the library and to the original.
+
+pub mod answers;
