@@ -1,0 +1,23 @@
+-- `has_own` meets its contract, case by case. Assumes nothing.
+use mathlib.Core.Path.{sym, ap}
+use Rattle.dresserduck.specs.Host.{hasOwn}
+use borrow.Author.Needs.{needs}
+use Rattle.dresserduck.proofs.has_own.Statement.{statement}
+use Rattle.dresserduck.proofs.has_own.Tie as tie
+
+enum-told : tie.Need-enum-told
+enum-told c = search needs
+
+enum-told-2 : tie.Need-enum-told-2
+enum-told-2 c = search needs
+
+returns : tie.Need-returns
+unfolding hasOwn
+returns c = ap hasOwn (sym (c .enum-told .given .1))
+
+returns-2 : tie.Need-returns-2
+unfolding hasOwn
+returns-2 c = ap hasOwn (sym (c .enum-told2 .given .1))
+
+pub has-own-spec : {M : Type 1} → statement M
+has-own-spec = tie.close (tie.spec enum-told enum-told-2 returns returns-2)
