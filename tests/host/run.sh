@@ -17,9 +17,17 @@ made=$(mktemp -d)
 trap 'rm -rf "$made"' EXIT
 strict=(-Wall -Wextra -Wpedantic -Werror -I "$root/include")
 
+# valgrind finds a read or write outside a block of the heap, in the library too
+watched=()
+if command -v valgrind > /dev/null; then
+    watched=(valgrind --quiet --error-exitcode=9 --leak-check=full)
+else
+    echo "no valgrind here: the C programs run without it"
+fi
+
 for program in "$root"/tests/host/c/*.c; do
     gcc -std=c11 "${strict[@]}" "$program" "$archive" -o "$made/as_c"
-    "$made/as_c"
+    "${watched[@]}" "$made/as_c"
     if command -v g++ > /dev/null; then
         g++ -std=c++17 "${strict[@]}" -x c++ "$program" -x none "$archive" -o "$made/as_cpp"
         "$made/as_cpp"

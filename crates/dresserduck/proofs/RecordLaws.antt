@@ -2,13 +2,13 @@
 use mathlib.Core.Path.{_≡_, sym, ap, _∙_}
 use Prim.Native.Nat.{ℕ}
 use lib.Ieee.{binary64, toBits}
-use Rattle.evaluator_record.specs.declared.Record.{Record}
+use Rattle.evaluator_record.specs.declared.GroupRecord.{GroupRecord}
 use Rattle.evaluator_record.specs.declared.Recording.{Recording}
 use Rattle.evaluator_record.specs.declared.Recording.the-variants.{Done}
 use Rattle.dresserduck.specs.Host.{hasOwn, ownBits, recordedOf}
 use Rattle.dresserduck.specs.declared.Recorded.{Recorded}
 
-module _ (r : Record) {has own ratio interval penalty pattern : ℕ} where
+module _ (r : GroupRecord) {has own ratio interval penalty pattern : ℕ} where
   pub done-recorded : {answer : Recording} → answer ≡ Done r → has ≡ hasOwn (r .own) → own ≡ ownBits (r .own) → ratio ≡ toBits binary64 (r .ratio)
       → interval ≡ toBits binary64 (r .interval) → penalty ≡ toBits binary64 (r .penalty) → pattern ≡ toBits binary64 (r .patternratio)
       → _≡_ {A = Recorded}

@@ -10,7 +10,7 @@ use Rattle.grouping_same_rhythm.specs.SamePatterns.{patternOf}
 use Rattle.grouping_same_rhythm.specs.Passes.{recentOf}
 use Rattle.grouping_same_rhythm.specs.declared.owns.Recent.{Recent}
 use Rattle.evaluator_rhythm.specs.RepeatedInterval.{repeatedIntervalPenalty}
-use Rattle.evaluator_record.specs.declared.Record.{Record}
+use Rattle.evaluator_record.specs.declared.GroupRecord.{GroupRecord}
 
 -- the objects of group g's notes
 unfoldable pub objectsIn : Float → List ℕ → List Float → ℕ → List ℕ
@@ -24,7 +24,7 @@ ownsAt margin kinds deltas g = recentOf (ownsOf margin (groupDeltas margin kinds
 unfoldable pub durationOf : List Float → List ℕ → Float
 durationOf starts objects = sub binary64 (getD starts (getD objects (length objects - 1) 0) nan) (getD starts (getD objects 0 0) nan)
 
-unfoldable pub recordOf : Float → Float → Float → List ℕ → List Float → List Float → ℕ → Record
+unfoldable pub recordOf : Float → Float → Float → List ℕ → List Float → List Float → ℕ → GroupRecord
 recordOf margin threshold window kinds starts deltas g =
     let objects = objectsIn margin kinds deltas g in
     let owns = ownsAt margin kinds deltas g in

@@ -1,6 +1,5 @@
 // One rhythm group of a chart, found by passes through the work slices.
-ghost use mathlib.Core.Path.{_≡_};
-ghost use Rattle.evaluator_record.specs.Passes.{GroupRoom, FoundIs};
+ghost use Rattle.evaluator_record.specs.Passes.{GroupRoom, LocatedIs, FoundIs};
 use grouping_notes::list_notes;
 use grouping_same_rhythm::groups::fill_intervals;
 use grouping_same_rhythm::groups::list_firsts;
@@ -8,6 +7,15 @@ use grouping_same_rhythm::owns::Recent;
 use grouping_same_rhythm::owns::reach;
 use grouping_same_rhythm::patterns::Pattern;
 use grouping_same_rhythm::patterns::pattern_at;
+
+// The notes of a group: its first object, how many they are, the own intervals there, its last start minus its first; and how many groups there are.
+pub struct Located {
+    pub first: usize,
+    pub notes: usize,
+    pub owns: Recent,
+    pub duration: f64,
+    pub groups: usize,
+}
 
 // The group's first object, how many notes it has, the own intervals there, its last start minus its first, its interval and its pattern.
 pub struct Found {
@@ -19,7 +27,37 @@ pub struct Found {
     pub pattern: Pattern,
 }
 
-// Group g. Regions of the work slice: 0 the notes' objects, 1 the groups' first objects. The notes' deltas, then the groups' intervals, are in `scratch`.
+// The notes of group g. Regions of the work slice: 0 the notes' objects, 1 the groups' first objects. The notes' deltas are in `scratch`.
+fn locate(
+    kind: &[u8],
+    start: &[f64],
+    delta: &[f64],
+    g: usize,
+    work: &mut [u16],
+    scratch: &mut [f64],
+) -> Located
+    requires { ⌜ GroupRoom (now kind) (now start) (now delta) g (now work) (now scratch) ⌝ }
+    ensures { λ r. ⌜ LocatedIs (now (kind .entry)) (now (start .entry)) (now (delta .entry)) g (now (work .entry)) (now (work .exit)) (now (scratch .entry)) (now (scratch .exit)) r ⌝ }
+{
+    let n = kind.len();
+    let m = list_notes(kind, delta, work, scratch);
+    let groups = list_firsts(&scratch[..m], 5.0, work, n);
+    let reached = reach(&mut scratch[..m], 5.0, g);
+    let at = reached.at;
+    let end = reached.end;
+    let owns = reached.owns;
+    let first = work[at] as usize;
+    let last = work[end - 1] as usize;
+    Located {
+        first,
+        notes: end - at,
+        owns,
+        duration: start[last] - start[first],
+        groups,
+    }
+}
+
+// Group g. Once its notes are located, `scratch` takes the groups' intervals.
 pub fn find(
     kind: &[u8],
     start: &[f64],
@@ -32,20 +70,17 @@ pub fn find(
     ensures { λ r. ⌜ FoundIs (now (kind .entry)) (now (start .entry)) (now (delta .entry)) g (now (work .entry)) (now (work .exit)) (now (scratch .entry)) (now (scratch .exit)) r ⌝ }
 {
     let n = kind.len();
-    let m = list_notes(kind, delta, work, scratch);
-    let groups = list_firsts(&scratch[..m], 5.0, work, n);
-    let reached = reach(&mut scratch[..m], 5.0, g);
-    let first = work[reached.at] as usize;
-    let last = work[reached.end - 1] as usize;
+    let located = locate(kind, start, delta, g, work, scratch);
+    let groups = located.groups;
+    let owns = located.owns;
     fill_intervals(start, &work[n..n + groups], 5.0, scratch);
     let interval = scratch[g];
     let pattern = pattern_at(&scratch[..groups], 5.0, g);
-    let owns = reached.owns;
     Found {
-        first,
-        notes: reached.end - reached.at,
+        first: located.first,
+        notes: located.notes,
         owns,
-        duration: start[last] - start[first],
+        duration: located.duration,
         interval,
         pattern,
     }

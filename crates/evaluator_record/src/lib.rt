@@ -1,7 +1,5 @@
 // The call record: what is said of one rhythm group.
 ghost use mathlib.Core.Path.{_≡_};
-ghost use Prim.Native.Nat.{_<_};
-ghost use Rattle.evaluator_record.specs.Record.{recordOf};
 ghost use Rattle.evaluator_record.specs.Calls.{Outcome, short, windowGood, recordOutcome};
 ghost use Rattle.evaluator_record.specs.Passes.{GroupRoom, Recorded};
 use evaluator_rhythm::repeated_interval_penalty;
@@ -15,7 +13,7 @@ pub mod found;
 
 // A rhythm group: its first note's object, how many notes it has, its own interval and the ratio to that before, its interval, the penalty for a repeated
 // interval, its pattern group, and the ratio of that one's interval to the one before.
-pub struct Record {
+pub struct GroupRecord {
     pub first: ObjectIndex,
     pub notes: usize,
     pub own: Own,
@@ -28,7 +26,7 @@ pub struct Record {
 
 // The record, or the first refusal that applies and its place.
 pub enum Recording {
-    Done(Record),
+    Done(GroupRecord),
     Refused(u8, ObjectIndex),
 }
 
@@ -61,7 +59,7 @@ fn make_record(
     window: f64,
     work: &mut [u16],
     scratch: &mut [f64],
-) -> Record
+) -> GroupRecord
     requires { ⌜ GroupRoom (now kind) (now start) (now delta) g (now work) (now scratch) ⌝ }
     ensures { λ r. ⌜ Recorded (now (kind .entry)) (now (start .entry)) (now (delta .entry)) g window (now (work .entry)) (now (work .exit)) (now (scratch .entry)) (now (scratch .exit)) r ⌝ }
 {
@@ -75,7 +73,7 @@ fn make_record(
     let ratio = grouping_same_rhythm::own::ratio(own, previous);
     let penalty = repeated_interval_penalty(owns, found.notes, found.duration, window, 0.1);
     let pattern = found.pattern;
-    Record {
+    GroupRecord {
         first: ObjectIndex(found.first),
         notes: found.notes,
         own,

@@ -2,15 +2,42 @@
 use mathlib.Core.Path.{_≡_}
 use Prim.Native.Nat.{ℕ, _+_, _*_, _≤_, _<_}
 use mathlib.Core.List.{List}
-use lib.ListN.{length, drop, getD, replicate}
+use lib.ListN.{length, take, drop, getD, replicate}
 use lib.Ieee.{Float, binary64, ofBits}
-use Rattle.grouping_marks.specs.Over.{over, part}
-use Rattle.grouping_marks.specs.Marks.{groupNumbers}
+use Rattle.grouping_marks.specs.Over.{over, put, part}
+use Rattle.grouping_marks.specs.Scan.{gathered}
+use Rattle.grouping_marks.specs.Marks.{groupCount, groupNumbers}
+use Rattle.grouping_marks.specs.Parted.{parted}
 use Rattle.grouping_chart.specs.Object.{notes}
 use Rattle.grouping_interval.specs.IntervalGrouping.{intervalMarks}
-use Rattle.grouping_same_rhythm.specs.SameRhythm.{rhythmMarks, groupIntervals}
-use Rattle.grouping_rhythm.specs.Rhythm.{baseMargin, groupOf, patternGroupOf, groupsIn, patternGroupsIn}
+use Rattle.grouping_same_rhythm.specs.SameRhythm.{firstsOf, startsOf, intervalsOf, rhythmMarks, groupIntervals}
+use Rattle.grouping_rhythm.specs.Rhythm.{baseMargin, perNote, groupOf, patternGroupOf, groupsIn, patternGroupsIn}
 use Rattle.grouping_rhythm.specs.declared.tables.Counts.{Counts}
+
+-- at most n notes, whose objects are in front, and room for the regions of n places
+pub record NumbersRoom (deltas : List Float) (n : ℕ) (work : List ℕ) : Type 0 where
+  pub few : n ≤ 16384
+  pub notes : length deltas ≤ n
+  pub regions : 8 * n ≤ length work
+
+-- each group's first object in region 1, each note's group in region 2
+pub record NotesNumbered (deltas : List Float) (n : ℕ) (work₀ work : List ℕ) (r : ℕ) : Type 0 where
+  pub count : r ≡ groupCount (intervalMarks baseMargin deltas)
+  pub tables : work ≡ put (2 * n) (groupNumbers (intervalMarks baseMargin deltas)) (put n (firstsOf (parted (intervalMarks baseMargin deltas) (take (length deltas) work₀))) work₀)
+
+-- the groups' first objects, each with a start, are in region 1
+pub record FirstsThere (starts : List Float) (n groups : ℕ) (work : List ℕ) (scratch : List Float) : Type 0 where
+  pub few : n ≤ 16384
+  pub most : groups ≤ n
+  pub regions : 8 * n ≤ length work
+  pub floats : n ≤ length scratch
+  pub inside : (k : ℕ) → k < groups → getD (part n groups work) k 0 < length starts
+
+-- each group's pattern in region 3, by the intervals
+pub record GroupsNumbered (starts : List Float) (n groups : ℕ) (work₀ work : List ℕ) (scratch₀ scratch : List Float) (r : ℕ) : Type 0 where
+  pub count : r ≡ groupCount (intervalMarks baseMargin (intervalsOf baseMargin (startsOf starts (part n groups work₀))))
+  pub tables : work ≡ put (3 * n) (groupNumbers (intervalMarks baseMargin (intervalsOf baseMargin (startsOf starts (part n groups work₀))))) work₀
+  pub floats : scratch ≡ over (intervalsOf baseMargin (startsOf starts (part n groups work₀))) scratch₀
 
 -- a start and a delta for each object, and room in the work slices
 pub record TablesRoom (kinds : List ℕ) (starts deltas : List Float) (work : List ℕ) (scratch : List Float) : Type 0 where
@@ -58,3 +85,20 @@ pub record LookRoom (w : List ℕ) (table k at m : ℕ) : Type 0 where
   pub read : table + k ≤ length w
   pub write : at + m ≤ table
   pub below : (i : ℕ) → i < m → getD (part at m w) i 0 < k
+
+-- each note's group, which has a pattern, and room for each object in two answers
+pub record TablesThere (kinds : List ℕ) (k : Counts) (work group pattern : List ℕ) : Type 0 where
+  pub few : length kinds ≤ 16384
+  pub noted : k .notes ≡ length (notes kinds)
+  pub most : k .groups ≤ length kinds
+  pub regions : 8 * length kinds ≤ length work
+  pub below : (i : ℕ) → i < k .notes → getD (part (2 * length kinds) (k .notes) work) i 0 < k .groups
+  pub group-room : length kinds ≤ length group
+  pub pattern-room : length kinds ≤ length pattern
+
+-- what stands in regions 2 and 3, by objects
+pub record Answered (kinds : List ℕ) (k : Counts) (work₀ work group₀ group pattern₀ pattern : List ℕ) : Type 0 where
+  pub groups : group ≡ over (perNote (λ (j : ℕ). getD (part (2 * length kinds) (k .notes) work₀) j 0) kinds) group₀
+  pub patterns : pattern ≡ over (perNote (λ (j : ℕ). getD (gathered (part (3 * length kinds) (k .groups) work₀) (part (2 * length kinds) (k .notes) work₀)) j 0) kinds) pattern₀
+  pub same : length work ≡ length work₀
+  pub past : drop (8 * length kinds) work ≡ drop (8 * length kinds) work₀

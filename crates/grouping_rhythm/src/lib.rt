@@ -48,10 +48,7 @@ fn fill_groups(
 {
     let n = kind.len();
     let k = tables::group_notes(kind, start, delta, work, scratch);
-    let m = k.notes;
-    spread::spread(kind, &work[2 * n..2 * n + m], group);
-    spread::look_up(work, 3 * n, k.groups, 2 * n, m);
-    spread::spread(kind, &work[2 * n..2 * n + m], pattern);
+    spread::fill_answers(kind, k, work, group, pattern);
     fill::clear(work, 8 * n);
     fill::clear_floats(scratch, n);
     k

@@ -6,7 +6,7 @@
 
 static int failures = 0;
 
-static void check(int holds, const char *fact, const char *file, int line)
+static inline void check(int holds, const char *fact, const char *file, int line)
 {
     if (!holds) {
         printf("%s:%d: %s\n", file, line, fact);
@@ -15,7 +15,7 @@ static void check(int holds, const char *fact, const char *file, int line)
 }
 
 /* Whether every byte is 0xA5. */
-static int all_sentinels(const void *memory, size_t bytes)
+static inline int all_sentinels(const void *memory, size_t bytes)
 {
     const unsigned char *at = (const unsigned char *)memory;
     size_t i;
@@ -23,7 +23,7 @@ static int all_sentinels(const void *memory, size_t bytes)
     return i == bytes;
 }
 
-static int finish(void)
+static inline int finish(void)
 {
     if (failures > 0) {
         return 1;

@@ -1,0 +1,119 @@
+-- The outcomes of record, case by case, over plain lists: a refusal leaves all as lent, and an accepted call has room in both slices and finite deltas. Assumes nothing.
+use mathlib.Core.Path.{_≡_, refl, sym, ap, _∙_}
+use mathlib.Core.Bool.{Bool, true, false, cond, _||_, true≢false}
+use mathlib.Core.List.{List}
+use Prim.Native.Nat.{ℕ, _*_, _≤_, _<_}
+use native.Mathlib.Omega.{arith}
+use borrow.Author.Tests.{lt-ltb, le-ltb, ltb-false}
+use lib.Dec.{T, ltb}
+use lib.IntN.{pos}
+use lib.ListN.{length, getD}
+use lib.Ieee.{Float, nan, fin, le}
+use lib.Ieee.Scale.{finite}
+use Rattle.numeric.proofs.Values.{finite-between}
+use Rattle.grouping_chart.specs.Chart.{Chart, size}
+use Rattle.grouping_chart.specs.Refusal.{within, timeGood, verdict, refused}
+use Rattle.grouping_chart.specs.declared.object.ObjectIndex.{ObjectIndex}
+use Rattle.grouping_chart.specs.declared.chart.Verdict.{Verdict}
+use Rattle.grouping_chart.specs.declared.chart.Verdict.the-variants.{Accepted, Refused}
+use Rattle.grouping_chart.proofs.AcceptedLaws.{accepted-good}
+use Rattle.grouping_rhythm.specs.Rhythm.{baseMargin, groupsIn}
+use Rattle.evaluator_record.specs.declared.GroupRecord.{GroupRecord}
+use Rattle.evaluator_record.specs.declared.Recording.the-variants.{Done}
+use Rattle.evaluator_record.specs.declared.Recording.the-variants as answer
+use Rattle.evaluator_record.specs.Calls.{Memory, Outcome, short, windowGood, recordVerdict, cleared, recordBy, recordOutcome}
+use Rattle.evaluator_record.specs.Passes.{GroupRoom, Recorded}
+
+-- ---- no slice is too short
+or-both : (a b : Bool) → (a || b) ≡ false → (a ≡ false) × (b ≡ false)
+or-both true b h = absurd (true≢false h)
+or-both false b h = (refl, h)
+
+record Enough (n : ℕ) (m : Memory) : Type 0 where
+  work : 8 * n ≤ length (m .work)
+  scratch : n ≤ length (m .scratch)
+
+enough : (n : ℕ) (m : Memory) → short n m ≡ false → Enough n m
+unfolding short
+enough n m h =
+    let t = or-both _ _ h in
+    record { work = ltb-false _ _ (t .0); scratch = ltb-false _ _ (t .1) }
+
+-- ---- a time in range is finite
+both-T : (a b : Bool) → T (cond a b false) → T a × T b
+both-T true b t = (tt, t)
+both-T false b t = absurd t
+
+finite-time : (x : Float) → T (timeGood x) → T (finite x)
+unfolding timeGood within
+finite-time x t =
+    let lo = fin true 1 (pos 24) in
+    let hi = fin false 1 (pos 24) in
+    let b = both-T (le lo x) (le x hi) t in
+    finite-between lo x hi tt tt (b .0) (b .1)
+
+-- how many groups a chart has
+abbrev pub groupsOf : Chart → ℕ
+groupsOf c = groupsIn baseMargin (c .kinds) (c .deltas)
+
+-- ---- what the tests that were run say of the definition's verdict
+module _ (c : Chart) (m : Memory) where
+  -- the verdict on the chart
+  abbrev pub judged : Verdict
+  judged = verdict c (short (size c) m)
+
+  -- from what `too_short` and `check` answered
+  pub verdict-is : (s : Bool) (v w : Verdict) → s ≡ short (size c) m → v ≡ verdict c s → v ≡ w → judged ≡ w
+  verdict-is s v w e f h = sym (ap (verdict c) e) ∙ sym f ∙ h
+
+  pub lengths-same : judged ≡ Accepted → length (c .deltas) ≡ length (c .kinds)
+  lengths-same h = accepted-good c (short (size c) m) h .lengths .delta
+
+  pub group-room : (g : ℕ) → judged ≡ Accepted → g < groupsOf c → GroupRoom (c .kinds) (c .starts) (c .deltas) g (m .work) (m .scratch)
+  group-room g h there =
+      let good = accepted-good c (short (size c) m) h in
+      let e = enough (size c) m (good .room) in
+      record {
+        few = good .few;
+        started = good .lengths .start;
+        whole = good .lengths .delta;
+        numbers = λ i k. finite-time (getD (c .deltas) i nan) (good .objects i nan (omega (arith, good .lengths .delta)) .delta);
+        there = there;
+        regions = e .work;
+        floats = e .scratch;
+      }
+
+  -- ---- each case leaves its outcome
+  module _ (g : ℕ) (window : Float) where
+    refused-by : (number : ℕ) (place : ObjectIndex) → recordVerdict judged window g (groupsOf c) ≡ Refused number place
+        → _≡_ {A = Outcome} (record { answer = answer.Refused number place; memory = m }) (recordOutcome c g window m)
+    unfolding recordOutcome recordBy
+    refused-by number place h = sym (ap (λ (v : Verdict). recordBy v c g window m) h)
+
+    -- the chart is refused
+    pub chart-refused : (number : ℕ) (place : ObjectIndex) → judged ≡ Refused number place
+        → _≡_ {A = Outcome} (record { answer = answer.Refused number place; memory = m }) (recordOutcome c g window m)
+    unfolding recordVerdict
+    chart-refused number place h = refused-by number place (ap (λ (v : Verdict). recordVerdict v window g (groupsOf c)) h)
+
+    -- the chart is accepted, and the window and the group number are tested
+    module _ (accepted : judged ≡ Accepted) where
+      tested : (a b : Bool) → windowGood window ≡ a → ltb g (groupsOf c) ≡ b → recordVerdict judged window g (groupsOf c) ≡ cond a (cond b Accepted (refused 9)) (refused 8)
+      unfolding recordVerdict
+      tested a b p q =
+          ap (λ (v : Verdict). recordVerdict v window g (groupsOf c)) accepted ∙ (λ t. cond (p t) (cond (q t) Accepted (refused 9)) (refused 8))
+
+      pub window-refused : windowGood window ≡ false → _≡_ {A = Outcome} (record { answer = answer.Refused 8 (record { 0 = 0 }); memory = m }) (recordOutcome c g window m)
+      window-refused h = refused-by 8 (record { 0 = 0 }) (tested false _ h refl)
+
+      pub group-refused : windowGood window ≡ true → groupsOf c ≤ g
+          → _≡_ {A = Outcome} (record { answer = answer.Refused 9 (record { 0 = 0 }); memory = m }) (recordOutcome c g window m)
+      group-refused h k = refused-by 9 (record { 0 = 0 }) (tested true false h (le-ltb _ _ k))
+
+      pub record-done : windowGood window ≡ true → g < groupsOf c → (r : GroupRecord) (work : List ℕ) (scratch : List Float)
+          → Recorded (c .kinds) (c .starts) (c .deltas) g window (m .work) work (m .scratch) scratch r
+          → _≡_ {A = Outcome} (record { answer = Done r; memory = record { work = work; scratch = scratch } }) (recordOutcome c g window m)
+      unfolding recordOutcome recordBy cleared
+      record-done h k r work scratch x =
+          (λ t. record { answer = Done (x .answer t); memory = record { work = x .work-cleared t; scratch = x .scratch-cleared t } })
+          ∙ sym (ap (λ (v : Verdict). recordBy v c g window m) (tested true true h (lt-ltb _ _ k)))

@@ -1,0 +1,196 @@
+-- A group's notes, over the promises of the passes that locate them: the notes' deltas lie in front of the one work slice, their objects in front of the other and
+-- the groups' first objects behind them, so what is read at the group's ends is what the definition has there. Assumes nothing.
+use mathlib.Core.Path.{_≡_, sym, ap, _∙_, subst}
+use mathlib.Core.List.{List, [], _++_}
+use Prim.Native.Nat.{ℕ, _+_, _-_, _*_, _≤_, _<_}
+use native.Mathlib.Omega.{arith}
+use lib.Dec.{T}
+use lib.ListN.{length, take, drop, getD}
+use lib.Seq.{getD-take}
+use lib.Ieee.{Float, nan, binary64, sub}
+use lib.Ieee.Scale.{finite}
+use Rattle.grouping_marks.specs.Over.{over, put, part}
+use Rattle.grouping_marks.specs.Marks.{groupCount}
+use Rattle.grouping_marks.specs.Parted.{parted}
+use Rattle.grouping_marks.proofs.OverLaws.{length-over, front, drop-over, length-part, getD-part, length-put, drop-put, part-put-same, getD-put-before}
+use Rattle.grouping_chart.specs.Notes.{noteObjects, noteDeltas}
+use Rattle.grouping_chart.proofs.NoteLaws.{object-below, note-deltas-all}
+use Rattle.grouping_interval.specs.IntervalGrouping.{intervalMarks}
+use Rattle.grouping_notes.specs.Notes.{NotesListed}
+use Rattle.grouping_same_rhythm.specs.SameRhythm.{rhythmMarks, groupObjects, groupDeltas, firstsOf}
+use Rattle.grouping_same_rhythm.specs.Own.{ownsOf}
+use Rattle.grouping_same_rhythm.specs.Passes.{GroupThere, ReachedIs, FirstsRoom, FirstsListed, recentOf}
+use Rattle.grouping_same_rhythm.specs.declared.owns.Reached.{Reached}
+use Rattle.grouping_rhythm.specs.Rhythm.{baseMargin, groupsIn}
+use Rattle.evaluator_record.specs.Record.{objectsIn, ownsAt, durationOf}
+use Rattle.evaluator_record.specs.Passes.{GroupRoom, LocatedIs}
+use Rattle.evaluator_record.proofs.GroupLaws.{objects-few, deltas-noted, groups-few, firsts-grouped}
+
+-- the group's objects can be read, and each has a start
+pub record Readable (starts : List Float) (work : List ℕ) (r : Reached) : Type 0 where
+  pub from : r .at < r .end
+  pub few : r .end ≤ 16384
+  pub within : (i : ℕ) → i < r .end → i < length work
+  pub small : (i : ℕ) → i < r .end → getD work i 0 < 16384
+  pub started : (i : ℕ) → i < r .end → getD work i 0 < length starts
+
+-- ---- the notes are listed
+module _ {kinds : List ℕ} {starts deltas : List Float} {g : ℕ} {work₀ work₁ : List ℕ} {scratch₀ scratch₁ : List Float} {m : ℕ}
+    (room : GroupRoom kinds starts deltas g work₀ scratch₀) (listed : NotesListed kinds deltas work₀ work₁ scratch₀ scratch₁ m) where
+  noted : length (noteDeltas kinds deltas) ≡ m
+  noted = deltas-noted kinds deltas (room .whole) ∙ sym (listed .count)
+
+  notes-few : m ≤ length kinds
+  notes-few = omega (arith, listed .count, objects-few kinds)
+
+  work-long : length work₁ ≡ length work₀
+  work-long = ap length (listed .numbers) ∙ length-over (noteObjects kinds) work₀ (omega (arith, objects-few kinds, room .regions))
+
+  scratch-long : length scratch₁ ≡ length scratch₀
+  scratch-long = ap length (listed .floats) ∙ length-over (noteDeltas kinds deltas) scratch₀ (omega (arith, noted, notes-few, room .floats))
+
+  pub notes-inside : m ≤ length scratch₁
+  notes-inside = omega (arith, scratch-long, notes-few, room .floats)
+
+  deltas-front : take m scratch₁ ≡ noteDeltas kinds deltas
+  deltas-front = ap (take m) (listed .floats) ∙ front (noteDeltas kinds deltas) scratch₀ m noted
+
+  objects-front : take m work₁ ≡ noteObjects kinds
+  objects-front = ap (take m) (listed .numbers) ∙ front (noteObjects kinds) work₀ m (sym (listed .count))
+
+  front-long : length (take m scratch₁) ≡ m
+  front-long = ap length deltas-front ∙ noted
+
+  pub front-counted : m ≡ length (take m scratch₁)
+  front-counted = sym front-long
+
+  pub firsts-room : FirstsRoom (take m scratch₁) work₁ (length kinds)
+  firsts-room = record {
+    few = omega (arith, front-long, notes-few, room .few);
+    before = omega (arith, front-long, notes-few);
+    room = omega (arith, front-long, notes-few, work-long, room .regions);
+  }
+
+  there : GroupThere baseMargin (noteDeltas kinds deltas) g
+  unfolding groupsIn rhythmMarks
+  there = record { finite = record { each = note-deltas-all (λ (x : Float). T (finite x)) kinds deltas (room .numbers) }; there = room .there }
+
+  pub group-there : GroupThere baseMargin (take m scratch₁) g
+  group-there = subst (λ (ds : List Float). GroupThere baseMargin ds g) (sym deltas-front) there
+
+  -- ---- and so are the groups' first objects
+  module _ {work₂ : List ℕ} {groups : ℕ} (firsts : FirstsListed baseMargin (take m scratch₁) work₁ work₂ (length kinds) groups) where
+    counted : groups ≡ groupsIn baseMargin kinds deltas
+    unfolding groupsIn rhythmMarks
+    counted = firsts .count ∙ (λ t. groupCount (intervalMarks baseMargin (deltas-front t)))
+
+    written : work₂ ≡ put (length kinds) (firstsOf (groupObjects baseMargin kinds deltas)) work₁
+    unfolding groupObjects rhythmMarks
+    written =
+        firsts .objects
+        ∙ ap (λ (n : ℕ). put (length kinds) (firstsOf (parted (intervalMarks baseMargin (take m scratch₁)) (take n work₁))) work₁) front-long
+        ∙ (λ t. put (length kinds) (firstsOf (parted (intervalMarks baseMargin (deltas-front t)) (objects-front t))) work₁)
+
+    firsts-long : length (firstsOf (groupObjects baseMargin kinds deltas)) ≡ groups
+    firsts-long = firsts-grouped baseMargin kinds deltas (room .whole) ∙ sym counted
+
+    firsts-few : groups ≤ m
+    firsts-few = omega (arith, counted, groups-few baseMargin kinds deltas (room .whole), listed .count)
+
+    regions-left : length work₂ ≡ length work₀
+    regions-left =
+        ap length written
+        ∙ length-put (length kinds) (firstsOf (groupObjects baseMargin kinds deltas)) work₁ (omega (arith, firsts-long, firsts-few, notes-few, work-long, room .regions))
+        ∙ work-long
+
+    object-at : (i : ℕ) → i < m → getD work₂ i 0 ≡ getD (noteObjects kinds) i 0
+    object-at i h =
+        ap (λ (l : List ℕ). getD l i 0) written
+        ∙ getD-put-before (length kinds) (firstsOf (groupObjects baseMargin kinds deltas)) work₁ i 0 (omega (arith, work-long, room .regions)) (omega (arith, notes-few))
+        ∙ sym (getD-take m work₁ i 0 h)
+        ∙ ap (λ (l : List ℕ). getD l i 0) objects-front
+
+    -- ---- and group g is reached
+    module _ {left : List Float} {r : Reached} (reached : ReachedIs baseMargin (take m scratch₁) left g r) where
+      end-inside : r .end ≤ m
+      end-inside = omega (arith, reached .upto, front-long)
+
+      object-below-all : (i : ℕ) → i < r .end → getD work₂ i 0 < length kinds
+      object-below-all i h = omega (arith, object-at i (omega (arith, end-inside)), object-below kinds i (omega (arith, end-inside, listed .count)))
+
+      pub readable : Readable starts work₂ r
+      readable = record {
+        from = reached .from;
+        few = omega (arith, end-inside, notes-few, room .few);
+        within = λ i h. omega (arith, end-inside, notes-few, regions-left, room .regions);
+        small = λ i h. omega (arith, object-below-all i h, room .few);
+        started = λ i h. omega (arith, object-below-all i h, room .started);
+      }
+
+      group-notes : objectsIn baseMargin kinds deltas g ≡ part (r .at) (r .end - r .at) (noteObjects kinds)
+      unfolding objectsIn groupObjects rhythmMarks
+      group-notes =
+          (λ t. getD (parted (intervalMarks baseMargin (sym deltas-front t)) (noteObjects kinds)) g [])
+          ∙ reached .notes (noteObjects kinds) (omega (arith, listed .count, front-long))
+
+      noted-long : length (objectsIn baseMargin kinds deltas g) ≡ r .end - r .at
+      noted-long = ap length group-notes ∙ length-part (r .at) (r .end - r .at) (noteObjects kinds) (omega (arith, reached .from, end-inside, listed .count))
+
+      noted-at : (i : ℕ) → i < r .end - r .at → getD (objectsIn baseMargin kinds deltas g) i 0 ≡ getD work₂ (r .at + i) 0
+      noted-at i h =
+          ap (λ (l : List ℕ). getD l i 0) group-notes ∙ getD-part (r .at) (r .end - r .at) (noteObjects kinds) i 0 h
+          ∙ sym (object-at (r .at + i) (omega (arith, reached .from, end-inside)))
+
+      first-is : getD work₂ (r .at) 0 ≡ getD (objectsIn baseMargin kinds deltas g) 0 0
+      first-is =
+          let e : r .at ≡ r .at + 0 = omega arith in
+          ap (λ (i : ℕ). getD work₂ i 0) e ∙ sym (noted-at 0 (omega (arith, reached .from)))
+
+      last-is : getD work₂ (r .end - 1) 0 ≡ getD (objectsIn baseMargin kinds deltas g) (length (objectsIn baseMargin kinds deltas g) - 1) 0
+      last-is =
+          let e : r .end - 1 ≡ r .at + (r .end - r .at - 1) = omega (arith, reached .from) in
+          ap (λ (i : ℕ). getD work₂ i 0) e
+          ∙ sym (noted-at (r .end - r .at - 1) (omega (arith, reached .from)))
+          ∙ ap (λ (n : ℕ). getD (objectsIn baseMargin kinds deltas g) (n - 1) 0) (sym noted-long)
+
+      owns-is : r .owns ≡ ownsAt baseMargin kinds deltas g
+      unfolding ownsAt groupDeltas rhythmMarks
+      owns-is = reached .owns ∙ (λ t. recentOf (ownsOf baseMargin (parted (intervalMarks baseMargin (deltas-front t)) (deltas-front t))) g)
+
+      pub located : length left ≡ length (take m scratch₁)
+          → LocatedIs kinds starts deltas g work₀ work₂ scratch₀ (left ++ drop m scratch₁) (
+          record {
+            first = getD work₂ (r .at) 0;
+            notes = r .end - r .at;
+            owns = r .owns;
+            duration = sub binary64 (getD starts (getD work₂ (r .end - 1) 0) nan) (getD starts (getD work₂ (r .at) 0) nan);
+            groups = groups;
+          }
+          )
+      unfolding over durationOf
+      located kept =
+          let long : length left ≡ m = kept ∙ front-long in
+          let back : left ++ drop m scratch₁ ≡ over left scratch₁ = ap (λ (k : ℕ). left ++ drop k scratch₁) (sym long) in
+          record {
+            first = first-is;
+            notes = sym noted-long;
+            owns = owns-is;
+            duration = (λ t. sub binary64 (getD starts (last-is t) nan) (getD starts (first-is t) nan));
+            groups = counted;
+            firsts =
+                ap (part (length kinds) groups) written
+                ∙ part-put-same (length kinds) groups (firstsOf (groupObjects baseMargin kinds deltas)) work₁ firsts-long
+                (omega (arith, firsts-few, notes-few, work-long, room .regions));
+            regions = regions-left;
+            floats = ap length back ∙ length-over left scratch₁ (omega (arith, long, notes-inside)) ∙ scratch-long;
+            past =
+                ap (drop (8 * length kinds)) written
+                ∙ drop-put (8 * length kinds) (length kinds) (firstsOf (groupObjects baseMargin kinds deltas)) work₁ (omega (arith, firsts-long, firsts-few, notes-few))
+                ∙ ap (drop (8 * length kinds)) (listed .numbers)
+                ∙ drop-over (noteObjects kinds) work₀ (8 * length kinds) (omega (arith, objects-few kinds));
+            past-floats =
+                ap (drop (length kinds)) back
+                ∙ drop-over left scratch₁ (length kinds) (omega (arith, long, notes-few))
+                ∙ ap (drop (length kinds)) (listed .floats)
+                ∙ drop-over (noteDeltas kinds deltas) scratch₀ (length kinds) (omega (arith, noted, notes-few));
+          }

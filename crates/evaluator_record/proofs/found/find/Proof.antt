@@ -1,0 +1,108 @@
+-- `find` meets its contract: the intervals are made where the first objects were left, and the group is read from them. Assumes nothing.
+use native.Mathlib.Omega.{arith}
+use lib.Ieee.{ofBits}
+use Rattle.evaluator_record.proofs.FindLaws.{groups-small, group-below, region-inside, intervals-room, intervals-inside, intervals-counted, found}
+use borrow.Author.Needs.{needs}
+use Rattle.evaluator_record.proofs.found.find.Statement.{statement}
+use Rattle.evaluator_record.proofs.found.find.Tie as tie
+
+-- ---- once the notes are located
+abbrev start : tie.After-locate → tie.Start
+start c = c .before .before .before .before .before .before .before .before
+
+-- ---- once the intervals are filled
+abbrev place : tie.After-fill-intervals → tie.After-locate
+place c = c .before .before .before .before .before .before .before .before .before
+
+locate-requires : tie.Need-locate-requires
+locate-requires c κs = search needs
+
+add-fill-intervals : tie.Need-add-fill-intervals
+add-fill-intervals c =
+    let l = c .before .before .before .before .before in
+    omega (arith, groups-small (start l .pre) (l .locate .ensures))
+
+mul-fill-intervals : tie.Need-mul-fill-intervals
+mul-fill-intervals c = search needs
+
+sub-fill-intervals : tie.Need-sub-fill-intervals
+sub-fill-intervals c = search needs
+
+part-fill-intervals-start : tie.Need-part-fill-intervals-start
+part-fill-intervals-start c = search needs
+
+part-fill-intervals-end : tie.Need-part-fill-intervals-end
+part-fill-intervals-end c =
+    let l = c .before .before .before .before .before .before in
+    region-inside (start l .pre) (l .locate .ensures)
+
+fill-intervals-requires : tie.Need-fill-intervals-requires
+fill-intervals-requires c κs =
+    let l = c .before .before .before .before .before .before .before .before in
+    intervals-room (start l .pre) (l .locate .ensures)
+
+mul-interval : tie.Need-mul-interval
+mul-interval c =
+    let l = c .before .before .before .before .before .before .before .before .before .before .before in
+    omega (arith, group-below (start l .pre) (l .locate .ensures), groups-small (start l .pre) (l .locate .ensures))
+
+slice-read-interval : tie.Need-slice-read-interval
+unfolding ofBits
+slice-read-interval c =
+    let f = c .before .before .before in
+    let l = place f in
+    omega (arith, group-below (start l .pre) (l .locate .ensures), intervals-inside (start l .pre) (l .locate .ensures) (f .fill-intervals .ensures))
+
+slice-reshare-prefix-pattern-at : tie.Need-slice-reshare-prefix-pattern-at
+unfolding ofBits
+slice-reshare-prefix-pattern-at c =
+    let f = c .before .before .before in
+    let l = place f in
+    intervals-inside (start l .pre) (l .locate .ensures) (f .fill-intervals .ensures)
+
+slice-aggregate-pattern-at : tie.Need-slice-aggregate-pattern-at
+unfolding ofBits
+slice-aggregate-pattern-at c =
+    let f = c .before .before .before .before in
+    let l = place f in
+    intervals-counted (start l .pre) (l .locate .ensures) (f .fill-intervals .ensures)
+
+pattern-at-requires : tie.Need-pattern-at-requires
+unfolding ofBits
+pattern-at-requires c κs =
+    let f = c .before .before .before .before in
+    let l = place f in
+    omega (arith, group-below (start l .pre) (l .locate .ensures), intervals-counted (start l .pre) (l .locate .ensures) (f .fill-intervals .ensures))
+
+same-length : tie.Need-same-length
+same-length c = search needs
+
+same-length-2 : tie.Need-same-length-2
+same-length-2 c = search needs
+
+returns : tie.Need-returns
+unfolding ofBits
+returns c =
+    let f = c .before .before .before .before .before in
+    let l = place f in
+    found (start l .pre) (l .locate .ensures) (f .fill-intervals .ensures) _ (c .pattern-at .ensures)
+
+pub find-spec : {M : Type 1} → statement M
+find-spec =
+    tie.close
+    (tie.spec
+    locate-requires
+    add-fill-intervals
+    mul-fill-intervals
+    sub-fill-intervals
+    part-fill-intervals-start
+    part-fill-intervals-end
+    fill-intervals-requires
+    mul-interval
+    slice-read-interval
+    slice-reshare-prefix-pattern-at
+    slice-aggregate-pattern-at
+    pattern-at-requires
+    same-length
+    same-length-2
+    returns)

@@ -1,0 +1,161 @@
+-- `locate` meets its contract: each pass finds what the one before left, and the group's objects are read at its ends. Assumes nothing.
+use Prim.Native.Nat.{_-_, _<_}
+use native.Mathlib.Omega.{arith}
+use lib.Ieee.{ofBits}
+use Rattle.evaluator_record.proofs.LocateLaws.{Readable, notes-inside, front-counted, firsts-room, group-there, readable, located}
+use borrow.Author.Needs.{needs}
+use Rattle.evaluator_record.proofs.found.locate.Statement.{statement}
+use Rattle.evaluator_record.proofs.found.locate.Tie as tie
+
+-- ---- once the notes are listed
+abbrev start : tie.After-list-notes → tie.Start
+start c = c .before .before .before .before .before .before .before .before
+
+-- ---- once the first objects are listed
+abbrev notes : tie.After-list-firsts → tie.After-list-notes
+notes c = c .before .before .before .before .before .before .before
+
+-- ---- once the group is reached
+abbrev firsts : tie.After-reach → tie.After-list-firsts
+firsts c = c .before .before .before .before
+
+reading : (c : tie.After-reach) → Readable (start (notes (firsts c)) .args .start .now) (firsts c .list-firsts .last .1 .1 .0) (c .reach .result)
+unfolding ofBits
+reading c =
+    let f = firsts c in
+    let l = notes f in
+    readable (start l .pre) (l .list-notes .ensures) (f .list-firsts .ensures) (c .reach .ensures)
+
+last : (c : tie.After-reach) → c .reach .result .end - 1 < c .reach .result .end
+last c = omega (arith, reading c .from)
+
+list-notes-requires : tie.Need-list-notes-requires
+list-notes-requires c κs = search needs
+
+slice-reshare-prefix-list-firsts : tie.Need-slice-reshare-prefix-list-firsts
+slice-reshare-prefix-list-firsts c =
+    let l = c .before .before .before .before in
+    notes-inside (start l .pre) (l .list-notes .ensures)
+
+slice-aggregate-list-firsts : tie.Need-slice-aggregate-list-firsts
+slice-aggregate-list-firsts c =
+    let l = c .before .before .before .before .before in
+    front-counted (start l .pre) (l .list-notes .ensures)
+
+list-firsts-requires : tie.Need-list-firsts-requires
+list-firsts-requires c κs =
+    let l = c .before .before .before .before .before .before in
+    firsts-room (start l .pre) (l .list-notes .ensures)
+
+slice-relend-prefix-reach : tie.Need-slice-relend-prefix-reach
+slice-relend-prefix-reach c =
+    let l = c .before .before .before .before .before .before .before .before .before in
+    notes-inside (start l .pre) (l .list-notes .ensures)
+
+slice-aggregate-reach : tie.Need-slice-aggregate-reach
+slice-aggregate-reach c =
+    let l = c .before .before .before .before .before .before .before .before .before .before in
+    front-counted (start l .pre) (l .list-notes .ensures)
+
+reach-requires : tie.Need-reach-requires
+unfolding ofBits
+reach-requires c κs =
+    let l = c .before .before .before .before .before .before .before .before .before .before in
+    group-there (start l .pre) (l .list-notes .ensures)
+
+mul-first : tie.Need-mul-first
+mul-first c =
+    let r = c .before .before .before in
+    omega (arith, reading r .from, reading r .few)
+
+slice-read-first : tie.Need-slice-read-first
+slice-read-first c =
+    let r = c .before .before .before .before in
+    reading r .within _ (reading r .from)
+
+cast-first : tie.Need-cast-first
+cast-first c =
+    let r = c .before .before .before .before in
+    omega (arith, reading r .small _ (reading r .from))
+
+sub-last : tie.Need-sub-last
+sub-last c = search needs
+
+mul-last : tie.Need-mul-last
+mul-last c =
+    let r = c .before .before .before .before in
+    omega (arith, reading r .from, reading r .few)
+
+slice-read-last : tie.Need-slice-read-last
+slice-read-last c =
+    let r = c .before .before .before .before .before in
+    reading r .within _ (last r)
+
+cast-last : tie.Need-cast-last
+cast-last c =
+    let r = c .before .before .before .before .before in
+    omega (arith, reading r .small _ (last r))
+
+sub-t26 : tie.Need-sub-t26
+sub-t26 c = search needs
+
+mul-t29 : tie.Need-mul-t29
+mul-t29 c =
+    let r = c .before .before .before .before .before in
+    omega (arith, reading r .small _ (last r))
+
+shared-slice-read-t32 : tie.Need-shared-slice-read-t32
+shared-slice-read-t32 c =
+    let r = c .before .before .before .before .before .before in
+    reading r .started _ (last r)
+
+mul-t33 : tie.Need-mul-t33
+mul-t33 c =
+    let r = c .before .before .before .before .before .before in
+    omega (arith, reading r .small _ (reading r .from))
+
+shared-slice-read-t35 : tie.Need-shared-slice-read-t35
+shared-slice-read-t35 c =
+    let r = c .before .before .before .before .before .before .before in
+    reading r .started _ (reading r .from)
+
+same-length : tie.Need-same-length
+same-length c = search needs
+
+same-length-2 : tie.Need-same-length-2
+same-length-2 c = search needs
+
+returns : tie.Need-returns
+unfolding ofBits
+returns c =
+    let r = c .before .before .before .before .before .before .before in
+    let f = firsts r in
+    let l = notes f in
+    located (start l .pre) (l .list-notes .ensures) (f .list-firsts .ensures) (r .reach .ensures) (r .reach .kept .0)
+
+pub locate-spec : {M : Type 1} → statement M
+locate-spec =
+    tie.close
+    (tie.spec
+    list-notes-requires
+    slice-reshare-prefix-list-firsts
+    slice-aggregate-list-firsts
+    list-firsts-requires
+    slice-relend-prefix-reach
+    slice-aggregate-reach
+    reach-requires
+    mul-first
+    slice-read-first
+    cast-first
+    sub-last
+    mul-last
+    slice-read-last
+    cast-last
+    sub-t26
+    mul-t29
+    shared-slice-read-t32
+    mul-t33
+    shared-slice-read-t35
+    same-length
+    same-length-2
+    returns)

@@ -1,0 +1,148 @@
+-- `record` meets its contract: the verdict of the definition is the one that the tests gave, and each case leaves its outcome. Assumes nothing.
+use mathlib.Core.Path.{_≡_, refl, sym, _∙_}
+use mathlib.Core.Bool.{Bool, true, false, not}
+use native.Mathlib.Omega.{arith}
+use lib.Ieee.{ofBits}
+use Rattle.grouping_chart.specs.Chart.{Chart}
+use Rattle.grouping_chart.specs.declared.chart.Verdict.the-variants.{Accepted}
+use Rattle.grouping_same_rhythm.specs.SameRhythm.{rhythmMarks}
+use Rattle.grouping_rhythm.specs.Rhythm.{groupsIn}
+use Rattle.evaluator_record.specs.Calls.{Memory, windowGood}
+use Rattle.evaluator_record.proofs.CallsLaws.{groupsOf, judged, verdict-is, lengths-same, group-room, chart-refused, window-refused, group-refused, record-done}
+use borrow.Author.Needs.{needs}
+use Rattle.evaluator_record.proofs.record.Statement.{statement}
+use Rattle.evaluator_record.proofs.record.Tie as tie
+
+not-true : (b : Bool) → not b ≡ true → b ≡ false
+not-true true h = sym h
+not-true false h = refl
+
+not-false : (b : Bool) → not b ≡ false → b ≡ true
+not-false true h = refl
+not-false false h = sym h
+
+-- the chart and the memory as lent
+abbrev chartOf : tie.Start → Chart
+chartOf c = record { kinds = c .args .kind .now; starts = c .args .start .now; deltas = c .args .delta .now; ratios = c .args .ratio .now }
+
+abbrev memoryOf : tie.Start → Memory
+memoryOf c = record { work = c .args .work .now; scratch = c .args .scratch .now }
+
+-- ---- once the chart is known to be accepted
+abbrev start : tie.After-enum-told → tie.Start
+start c = c .before .before .before .before .before .before .before .before .before .before .before .before
+
+accepted : (c : tie.After-enum-told) → judged (chartOf (start c)) (memoryOf (start c)) ≡ Accepted
+accepted c = verdict-is (chartOf (start c)) (memoryOf (start c)) _ _ _ (c .before .before .before .too-short .ensures) (c .before .before .check .ensures) (c .enum-told .given .1)
+
+-- ---- once the window is known to be good
+window : (c : tie.Else1) → windowGood (start (c .before .before) .args .window) ≡ true
+window c = sym (c .before .window-good .ensures) ∙ not-false _ (c .if1 .left)
+
+-- ---- once the groups are counted
+abbrev told : tie.After-count-groups → tie.After-enum-told
+told c = c .before .before .before
+
+counted : (c : tie.After-count-groups) → c .count-groups .result ≡ groupsOf (chartOf (start (told c)))
+unfolding groupsIn rhythmMarks ofBits
+counted c = c .count-groups .ensures
+
+too-short-requires : tie.Need-too-short-requires
+too-short-requires c κs = search needs
+
+check-requires : tie.Need-check-requires
+check-requires c κs = search needs
+
+enum-known-number : tie.Need-enum-known-number
+enum-known-number c = search needs
+
+enum-told : tie.Need-enum-told
+enum-told c = search needs
+
+window-good-requires : tie.Need-window-good-requires
+window-good-requires c κs = search needs
+
+same-length : tie.Need-same-length
+same-length c = search needs
+
+same-length-2 : tie.Need-same-length-2
+same-length-2 c = search needs
+
+returns : tie.Need-returns
+returns c =
+    let t = c .before .before in
+    window-refused (chartOf (start t)) (memoryOf (start t)) (start t .args .g) (start t .args .window) (accepted t) (sym (c .before .window-good .ensures) ∙ not-true _ (c .if1 .taken))
+
+count-groups-requires : tie.Need-count-groups-requires
+count-groups-requires c κs =
+    let t = c .before .before in
+    lengths-same (chartOf (start t)) (memoryOf (start t)) (accepted t)
+
+same-length-3 : tie.Need-same-length-3
+same-length-3 c = search needs
+
+same-length-4 : tie.Need-same-length-4
+same-length-4 c = search needs
+
+returns-2 : tie.Need-returns-2
+returns-2 c =
+    let k = c .before in
+    let t = told k in
+    group-refused (chartOf (start t)) (memoryOf (start t)) (start t .args .g) (start t .args .window) (accepted t) (window (k .before)) (omega (arith, counted k, c .if2 .taken))
+
+make-record-requires : tie.Need-make-record-requires
+make-record-requires c κs =
+    let k = c .before .before .before in
+    let t = told k in
+    group-room (chartOf (start t)) (memoryOf (start t)) (start t .args .g) (accepted t) (omega (arith, counted k, c .before .before .if2 .left))
+
+same-length-5 : tie.Need-same-length-5
+same-length-5 c = search needs
+
+same-length-6 : tie.Need-same-length-6
+same-length-6 c = search needs
+
+returns-3 : tie.Need-returns-3
+returns-3 c =
+    let v = c .before .before .before in
+    let s = v .before .before .before .before .before .before .before .before .before .before in
+    chart-refused (chartOf s) (memoryOf s) (s .args .g) (s .args .window) _ _
+    (verdict-is (chartOf s) (memoryOf s) _ _ _ (v .before .too-short .ensures) (v .check .ensures) (c .before .number .given .1))
+
+same-length-7 : tie.Need-same-length-7
+same-length-7 c = search needs
+
+same-length-8 : tie.Need-same-length-8
+same-length-8 c = search needs
+
+returns-4 : tie.Need-returns-4
+returns-4 c =
+    let m = c .before .before .before .before in
+    let k = m .before .before .before .before in
+    let t = told k in
+    record-done (chartOf (start t)) (memoryOf (start t)) (start t .args .g) (start t .args .window) (accepted t) (window (k .before)) (omega (arith, counted k, m .before .before .before .if2 .left)) _ _ _
+    (m .make-record .ensures)
+
+pub record-spec : {M : Type 1} → statement M
+record-spec =
+    tie.close
+    (tie.spec
+    too-short-requires
+    check-requires
+    enum-known-number
+    enum-told
+    window-good-requires
+    same-length
+    same-length-2
+    returns
+    count-groups-requires
+    same-length-3
+    same-length-4
+    returns-2
+    make-record-requires
+    same-length-5
+    same-length-6
+    returns-3
+    same-length-7
+    same-length-8
+    returns-4)

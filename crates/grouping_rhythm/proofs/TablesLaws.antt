@@ -1,0 +1,184 @@
+-- The three passes over a chart's notes and groups, one after the other: each leaves the regions of those before it, so that at the end each note's group and each group's pattern are there.
+use mathlib.Core.Path.{_≡_, sym, ap, _∙_, subst}
+use mathlib.Core.List.{List}
+use Prim.Native.Nat.{ℕ, _*_, _≤_, _<_}
+use native.Mathlib.Omega.{arith}
+use lib.ListN.{length, take, drop, getD}
+use lib.Seq.{length-take-le}
+use lib.Ieee.{Float}
+use Rattle.grouping_marks.specs.Over.{over, put, part}
+use Rattle.grouping_marks.specs.Marks.{groupCount, groupNumbers}
+use Rattle.grouping_marks.specs.Parted.{parted}
+use Rattle.grouping_marks.proofs.OverLaws.{length-over, front, drop-over, length-put, drop-put, part-put-same, part-put-before}
+use Rattle.grouping_marks.proofs.MarksLaws.{count-le}
+use Rattle.grouping_marks.proofs.PartedLaws.{length-parted}
+use Rattle.grouping_chart.specs.Object.{notes}
+use Rattle.grouping_chart.specs.Notes.{noteObjects, noteDeltas}
+use Rattle.grouping_chart.proofs.ObjectLaws.{notes-few}
+use Rattle.grouping_chart.proofs.NoteLaws.{length-note-objects, length-note-deltas, object-below}
+use Rattle.grouping_interval.specs.IntervalGrouping.{intervalMarks}
+use Rattle.grouping_interval.proofs.IntervalLaws.{length-marks}
+use Rattle.grouping_notes.specs.Notes.{NotesListed}
+use Rattle.grouping_same_rhythm.specs.SameRhythm.{firstsOf, startsOf, intervalsOf, rhythmMarks, groupObjects, groupIntervals}
+use Rattle.grouping_same_rhythm.proofs.GroupsLaws.{length-starts, length-intervals, length-firsts, firsts-inside}
+use Rattle.grouping_rhythm.specs.Rhythm.{baseMargin, groupsIn, patternGroupsIn}
+use Rattle.grouping_rhythm.specs.Passes.{NumbersRoom, NotesNumbered, FirstsThere, GroupsNumbered, TablesRoom, Tabled}
+use Rattle.grouping_rhythm.proofs.RegionLaws.{length-group-numbers}
+
+-- ---- how many there are
+
+module _ (margin : Float) (kinds : List ℕ) (deltas : List Float) (e : length deltas ≡ length kinds) where
+  pub length-rhythm-marks : length (rhythmMarks margin kinds deltas) ≡ length (notes kinds)
+  unfolding rhythmMarks
+  length-rhythm-marks = length-marks margin (noteDeltas kinds deltas) ∙ length-note-deltas kinds deltas e
+
+  -- at most as many groups as notes
+  pub groups-few : groupsIn margin kinds deltas ≤ length (notes kinds)
+  unfolding groupsIn
+  groups-few = omega (arith, count-le (rhythmMarks margin kinds deltas), length-rhythm-marks)
+
+  -- a first object for each group, one of the chart's
+  length-first-objects : length (firstsOf (groupObjects margin kinds deltas)) ≡ groupsIn margin kinds deltas
+  unfolding groupObjects groupsIn
+  length-first-objects =
+      length-firsts (parted (rhythmMarks margin kinds deltas) (noteObjects kinds))
+      ∙ length-parted (rhythmMarks margin kinds deltas) (noteObjects kinds) (omega (arith, length-rhythm-marks, length-note-objects kinds))
+
+  first-object-below : (k : ℕ) → k < length (firstsOf (groupObjects margin kinds deltas)) → getD (firstsOf (groupObjects margin kinds deltas)) k 0 < length kinds
+  unfolding groupObjects
+  first-object-below k h =
+      firsts-inside (length kinds) (rhythmMarks margin kinds deltas) (noteObjects kinds) (object-below kinds) (omega (arith, length-rhythm-marks, length-note-objects kinds)) k h
+
+  pub length-group-intervals : (starts : List Float) → length (groupIntervals margin kinds starts deltas) ≡ groupsIn margin kinds deltas
+  unfolding groupIntervals
+  length-group-intervals starts =
+      length-intervals margin (startsOf starts (firstsOf (groupObjects margin kinds deltas)))
+      ∙ length-starts starts (firstsOf (groupObjects margin kinds deltas))
+      ∙ length-first-objects
+
+  -- at most as many pattern groups as groups
+  pub patterns-few : (starts : List Float) → patternGroupsIn margin kinds starts deltas ≤ groupsIn margin kinds deltas
+  unfolding patternGroupsIn
+  patterns-few starts =
+      let values : List Float = groupIntervals margin kinds starts deltas in
+      omega (arith, count-le (intervalMarks margin values), length-marks margin values, length-group-intervals starts)
+
+-- ---- the notes listed and numbered: what is in regions 1 and 2 then
+pub record Noted (kinds : List ℕ) (deltas : List Float) (work₀ work : List ℕ) (scratch₀ scratch : List Float) (m groups : ℕ) : Type 0 where
+  pub noted : m ≡ length (notes kinds)
+  pub grouped : groups ≡ groupsIn baseMargin kinds deltas
+  pub firsts : part (length kinds) groups work ≡ firstsOf (groupObjects baseMargin kinds deltas)
+  pub note-groups : part (2 * length kinds) m work ≡ groupNumbers (rhythmMarks baseMargin kinds deltas)
+  pub regions : length work ≡ length work₀
+  pub floats : length scratch ≡ length scratch₀
+  pub past : drop (8 * length kinds) work ≡ drop (8 * length kinds) work₀
+  pub past-floats : drop (length kinds) scratch ≡ drop (length kinds) scratch₀
+
+module _ {kinds : List ℕ} {starts deltas : List Float} {work₀ : List ℕ} {scratch₀ : List Float} (r : TablesRoom kinds starts deltas work₀ scratch₀) where
+  module _ {work₁ : List ℕ} {scratch₁ : List Float} {m : ℕ} (l : NotesListed kinds deltas work₀ work₁ scratch₀ scratch₁ m) where
+    noted-count : m ≡ length (notes kinds)
+    noted-count = l .count ∙ length-note-objects kinds
+
+    floats-same : length scratch₁ ≡ length scratch₀
+    floats-same =
+        ap length (l .floats)
+        ∙ length-over (noteDeltas kinds deltas) scratch₀ (omega (arith, length-note-deltas kinds deltas (r .whole), notes-few kinds, r .floats))
+
+    work-same : length work₁ ≡ length work₀
+    work-same = ap length (l .numbers) ∙ length-over (noteObjects kinds) work₀ (omega (arith, length-note-objects kinds, notes-few kinds, r .regions))
+
+    pub notes-lent : m ≤ length scratch₁
+    notes-lent = omega (arith, noted-count, notes-few kinds, floats-same, r .floats)
+
+    values-are : take m scratch₁ ≡ noteDeltas kinds deltas
+    values-are = ap (take m) (l .floats) ∙ front (noteDeltas kinds deltas) scratch₀ m (length-note-deltas kinds deltas (r .whole) ∙ sym noted-count)
+
+    objects-are : (k : ℕ) → k ≡ m → take k work₁ ≡ noteObjects kinds
+    objects-are k e = ap (take k) (l .numbers) ∙ front (noteObjects kinds) work₀ k (sym (l .count) ∙ sym e)
+
+    pub numbers-room : NumbersRoom (take m scratch₁) (length kinds) work₁
+    numbers-room = record {
+      few = r .few;
+      notes = omega (arith, length-take-le m scratch₁ notes-lent, noted-count, notes-few kinds);
+      regions = omega (arith, work-same, r .regions);
+    }
+
+    pub noted : {work : List ℕ} {groups : ℕ} → NotesNumbered (take m scratch₁) (length kinds) work₁ work groups → Noted kinds deltas work₀ work scratch₀ scratch₁ m groups
+    unfolding rhythmMarks groupObjects groupsIn
+    noted {work} {groups} a =
+        let n : ℕ = length kinds in
+        let numbers : List ℕ = groupNumbers (rhythmMarks baseMargin kinds deltas) in
+        let firsts : List ℕ = firstsOf (groupObjects baseMargin kinds deltas) in
+        let mid : List ℕ = put n firsts work₁ in
+        let c : groups ≡ groupsIn baseMargin kinds deltas = a .count ∙ ap (λ (vs : List Float). groupCount (intervalMarks baseMargin vs)) values-are in
+        let w : work ≡ put (2 * n) numbers mid =
+        a .tables
+        ∙ ap (λ (xs : List ℕ). put (2 * n) (groupNumbers (intervalMarks baseMargin (take m scratch₁))) (put n (firstsOf (parted (intervalMarks baseMargin (take m scratch₁)) xs)) work₁))
+        (objects-are (length (take m scratch₁)) (length-take-le m scratch₁ notes-lent))
+        ∙ ap (λ (vs : List Float). put (2 * n) (groupNumbers (intervalMarks baseMargin vs)) (put n (firstsOf (parted (intervalMarks baseMargin vs) (noteObjects kinds))) work₁)) values-are in
+        let ln : length numbers ≡ m = length-group-numbers baseMargin (noteDeltas kinds deltas) ∙ length-note-deltas kinds deltas (r .whole) ∙ sym noted-count in
+        let lf : length firsts ≡ groups = length-first-objects baseMargin kinds deltas (r .whole) ∙ sym c in
+        let few : groups ≤ n = omega (arith, groups-few baseMargin kinds deltas (r .whole), notes-few kinds, c) in
+        let most : m ≤ n = omega (arith, noted-count, notes-few kinds) in
+        let room : 8 * n ≤ length work₁ = omega (arith, work-same, r .regions) in
+        let same : length mid ≡ length work₁ = length-put n firsts work₁ (omega arith) in
+        record {
+          noted = noted-count;
+          grouped = c;
+          firsts = ap (part n groups) w ∙ part-put-before n groups (2 * n) numbers mid (omega arith) (omega arith) ∙ part-put-same n groups firsts work₁ lf (omega arith);
+          note-groups = ap (part (2 * n) m) w ∙ part-put-same (2 * n) m numbers mid ln (omega arith);
+          regions = ap length w ∙ length-put (2 * n) numbers mid (omega arith) ∙ same ∙ work-same;
+          floats = floats-same;
+          past =
+              ap (drop (8 * n)) w
+              ∙ drop-put (8 * n) (2 * n) numbers mid (omega arith)
+              ∙ drop-put (8 * n) n firsts work₁ (omega arith)
+              ∙ ap (drop (8 * n)) (l .numbers)
+              ∙ drop-over (noteObjects kinds) work₀ (8 * n) (omega (arith, l .count));
+          past-floats =
+              ap (drop n) (l .floats) ∙ drop-over (noteDeltas kinds deltas) scratch₀ n (omega (arith, length-note-deltas kinds deltas (r .whole), notes-few kinds));
+        }
+
+  -- ---- the groups numbered
+  module _ {work₁ : List ℕ} {scratch₁ : List Float} {m groups : ℕ} (a : Noted kinds deltas work₀ work₁ scratch₀ scratch₁ m groups) where
+    few-groups : groups ≤ length kinds
+    few-groups = omega (arith, groups-few baseMargin kinds deltas (r .whole), notes-few kinds, a .grouped)
+
+    pub firsts-there : FirstsThere starts (length kinds) groups work₁ scratch₁
+    firsts-there = record {
+      few = r .few;
+      most = few-groups;
+      regions = omega (arith, a .regions, r .regions);
+      floats = omega (arith, a .floats, r .floats);
+      inside = λ k h.
+          subst (λ (xs : List ℕ). getD xs k 0 < length starts) (sym (a .firsts))
+          (omega (arith, first-object-below baseMargin kinds deltas (r .whole) k (omega (arith, length-first-objects baseMargin kinds deltas (r .whole), a .grouped)), r .started));
+    }
+
+    pub tabled : {work : List ℕ} {scratch : List Float} {patterns : ℕ} → GroupsNumbered starts (length kinds) groups work₁ work scratch₁ scratch patterns
+        → Tabled kinds starts deltas work₀ work scratch₀ scratch (record { notes = m; groups = groups; patterns = patterns })
+    unfolding groupIntervals patternGroupsIn
+    tabled {work} {scratch} {patterns} b =
+        let n : ℕ = length kinds in
+        let values : List Float = groupIntervals baseMargin kinds starts deltas in
+        let numbers : List ℕ = groupNumbers (intervalMarks baseMargin values) in
+        let w : work ≡ put (3 * n) numbers work₁ =
+        b .tables ∙ ap (λ (xs : List ℕ). put (3 * n) (groupNumbers (intervalMarks baseMargin (intervalsOf baseMargin (startsOf starts xs)))) work₁) (a .firsts) in
+        let f : scratch ≡ over values scratch₁ = b .floats ∙ ap (λ (xs : List ℕ). over (intervalsOf baseMargin (startsOf starts xs)) scratch₁) (a .firsts) in
+        let lv : length values ≡ groups = length-group-intervals baseMargin kinds deltas (r .whole) starts ∙ sym (a .grouped) in
+        let ln : length numbers ≡ groups = length-group-numbers baseMargin values ∙ lv in
+        let few : groups ≤ n = few-groups in
+        let most : m ≤ n = omega (arith, a .noted, notes-few kinds) in
+        let room : 8 * n ≤ length work₁ = omega (arith, a .regions, r .regions) in
+        let wide : n ≤ length scratch₁ = omega (arith, a .floats, r .floats) in
+        record {
+          noted = a .noted;
+          grouped = a .grouped;
+          patterned = b .count ∙ ap (λ (xs : List ℕ). groupCount (intervalMarks baseMargin (intervalsOf baseMargin (startsOf starts xs)))) (a .firsts);
+          note-groups = ap (part (2 * n) m) w ∙ part-put-before (2 * n) m (3 * n) numbers work₁ (omega arith) (omega arith) ∙ a .note-groups;
+          group-patterns = ap (part (3 * n) groups) w ∙ part-put-same (3 * n) groups numbers work₁ ln (omega arith);
+          regions = ap length w ∙ length-put (3 * n) numbers work₁ (omega arith) ∙ a .regions;
+          floats = ap length f ∙ length-over values scratch₁ (omega arith) ∙ a .floats;
+          past = ap (drop (8 * n)) w ∙ drop-put (8 * n) (3 * n) numbers work₁ (omega arith) ∙ a .past;
+          past-floats = ap (drop n) f ∙ drop-over values scratch₁ n (omega arith) ∙ a .past-floats;
+        }

@@ -1,0 +1,94 @@
+-- The verdict of the definition is the one that the tests gave, and each case leaves its outcome.
+use mathlib.Core.Path.{_≡_}
+use Rattle.grouping_chart.specs.Chart.{Chart}
+use Rattle.grouping_chart.specs.declared.chart.Verdict.the-variants.{Accepted}
+use Rattle.grouping_rhythm.specs.Rhythm.{Memory}
+use Rattle.grouping_rhythm.proofs.RhythmLaws.{judged, verdict-is, answer-room, rhythm-refused, rhythm-done}
+use borrow.Author.Needs.{needs}
+use Rattle.grouping_rhythm.proofs.rhythm.Statement.{statement}
+use Rattle.grouping_rhythm.proofs.rhythm.Tie as tie
+
+-- the chart and the memory as lent
+abbrev chartOf : tie.Start → Chart
+chartOf c = record { kinds = c .args .kind .now; starts = c .args .start .now; deltas = c .args .delta .now; ratios = c .args .ratio .now }
+
+abbrev memoryOf : tie.Start → Memory
+memoryOf c = record { group = c .args .group .now; pattern = c .args .pattern .now; work = c .args .work .now; scratch = c .args .scratch .now }
+
+-- ---- once the call is known to be accepted
+abbrev start : tie.After-enum-told → tie.Start
+start c = c .before .before .before .before .before .before .before .before .before .before .before .before .before .before .before .before
+
+accepted : (c : tie.After-enum-told) → judged (chartOf (start c)) (memoryOf (start c)) ≡ Accepted
+accepted c = verdict-is (chartOf (start c)) (memoryOf (start c)) _ _ _ (c .before .before .before .too-short .ensures) (c .before .before .check .ensures) (c .enum-told .given .1)
+
+too-short-requires : tie.Need-too-short-requires
+too-short-requires c κs = search needs
+
+check-requires : tie.Need-check-requires
+check-requires c κs = search needs
+
+enum-known-number : tie.Need-enum-known-number
+enum-known-number c = search needs
+
+enum-told : tie.Need-enum-told
+enum-told c = search needs
+
+fill-groups-requires : tie.Need-fill-groups-requires
+fill-groups-requires c κs =
+    let t = c .before .before .before .before in
+    answer-room (chartOf (start t)) (memoryOf (start t)) (accepted t)
+
+same-length : tie.Need-same-length
+same-length c = search needs
+
+same-length-2 : tie.Need-same-length-2
+same-length-2 c = search needs
+
+same-length-3 : tie.Need-same-length-3
+same-length-3 c = search needs
+
+same-length-4 : tie.Need-same-length-4
+same-length-4 c = search needs
+
+returns : tie.Need-returns
+returns c =
+    let s = c .before .before .before .before .before .before .before .before .before .before .before .before .before .before .before .before .before in
+    rhythm-refused (chartOf s) (memoryOf s) _ _ (verdict-is (chartOf s) (memoryOf s) _ _ _ (c .before .before .before .before .too-short .ensures) (c .before .before .before .check .ensures) (c .before .number .given .1))
+
+same-length-5 : tie.Need-same-length-5
+same-length-5 c = search needs
+
+same-length-6 : tie.Need-same-length-6
+same-length-6 c = search needs
+
+same-length-7 : tie.Need-same-length-7
+same-length-7 c = search needs
+
+same-length-8 : tie.Need-same-length-8
+same-length-8 c = search needs
+
+returns-2 : tie.Need-returns-2
+returns-2 c =
+    let t = c .before .before .before .before .before .before .before .before .before .before .before .before .before in
+    rhythm-done (chartOf (start t)) (memoryOf (start t)) _ _ _ _ _ (accepted t) (c .before .before .before .before .before .before .before .before .fill-groups .ensures)
+
+pub rhythm-spec : {M : Type 1} → statement M
+rhythm-spec =
+    tie.close
+    (tie.spec
+    too-short-requires
+    check-requires
+    enum-known-number
+    enum-told
+    fill-groups-requires
+    same-length
+    same-length-2
+    same-length-3
+    same-length-4
+    returns
+    same-length-5
+    same-length-6
+    same-length-7
+    same-length-8
+    returns-2)

@@ -1,0 +1,4 @@
+pub mod Column
+pub mod Tally
+pub mod Turns
+pub mod Work

@@ -1,0 +1,101 @@
+/* All five calls on heap memory of exactly the size that they need, for a tool that watches the heap's bounds. Prints `ok`, or each line that fails. */
+#include "dresserduck.h"
+
+#include "check.h"
+
+#include <stdlib.h>
+
+/* The chart's lists, each a block of its own. */
+struct chart {
+    size_t n;
+    uint8_t *kind;
+    double *start, *delta, *ratio;
+};
+
+/* At least a byte, so that it isn't null. */
+static void *block(size_t count, size_t size)
+{
+    void *memory = malloc(count * size > 0 ? count * size : 1);
+    if (memory == NULL) {
+        abort();
+    }
+    return memory;
+}
+
+static struct chart chart_of(size_t n)
+{
+    static const uint8_t kinds[7] = {0, 1, 1, 0, 0, 2, 1};
+    struct chart c;
+    c.n = n;
+    c.kind = (uint8_t *)block(n, sizeof *c.kind);
+    c.start = (double *)block(n, sizeof *c.start);
+    c.delta = (double *)block(n, sizeof *c.delta);
+    c.ratio = (double *)block(n, sizeof *c.ratio);
+    for (size_t i = 0; i < n; i++) {
+        c.kind[i] = kinds[i % 7];
+        c.start[i] = (double)i * 100.0;
+        c.delta[i] = (double)((n - i) % 50) * 1.5;
+        c.ratio[i] = i % 3 == 0 ? 1.0 : 1.5;
+    }
+    return c;
+}
+
+#define CHART c->kind, c->n, c->start, c->n, c->delta, c->n, c->ratio, c->n
+
+static void encode_exactly(const struct chart *c, uint16_t *work, double *scratch)
+{
+    uint16_t *numbers[5];
+    uint8_t *interval = (uint8_t *)block(c->n, sizeof *interval);
+    for (size_t i = 0; i < 5; i++) {
+        numbers[i] = (uint16_t *)block(c->n, sizeof *numbers[i]);
+    }
+    CHECK(dresserduck_encode(CHART, numbers[0], c->n, numbers[1], c->n, numbers[2], c->n, numbers[3], c->n, numbers[4], c->n, interval, c->n,
+              work, 8 * c->n, scratch, c->n).refusal == DRESSERDUCK_ACCEPTED);
+    for (size_t i = 0; i < 5; i++) {
+        free(numbers[i]);
+    }
+    free(interval);
+}
+
+static void score_exactly(const struct chart *c, uint16_t *work, double *scratch)
+{
+    double *value = (double *)block(c->n, sizeof *value);
+    uint64_t none = c->n == 0 ? DRESSERDUCK_BAD_STRETCH : DRESSERDUCK_ACCEPTED;
+    CHECK(dresserduck_colour(CHART, value, c->n, work, 8 * c->n, scratch, c->n).refusal == DRESSERDUCK_ACCEPTED);
+    CHECK(dresserduck_stretch(CHART, 0, c->n, value, c->n, work, 8 * c->n, scratch, c->n).refusal == none);
+    free(value);
+}
+
+static void group_exactly(const struct chart *c, uint16_t *work, double *scratch)
+{
+    uint16_t *group = (uint16_t *)block(c->n, sizeof *group);
+    uint16_t *pattern = (uint16_t *)block(c->n, sizeof *pattern);
+    dresserduck_grouped got = dresserduck_rhythm(CHART, group, c->n, pattern, c->n, work, 8 * c->n, scratch, c->n);
+    CHECK(got.refusal == DRESSERDUCK_ACCEPTED);
+    for (uint64_t g = 0; g <= got.groups; g++) {
+        uint64_t want = g < got.groups ? DRESSERDUCK_ACCEPTED : DRESSERDUCK_BAD_GROUP;
+        CHECK(dresserduck_record(CHART, (size_t)g, 50.0, work, 8 * c->n, scratch, c->n).refusal == want);
+    }
+    free(group);
+    free(pattern);
+}
+
+int main(void)
+{
+    static const size_t sizes[] = {0, 1, 2, 3, 6, 7, 8, 31, 200};
+    for (size_t i = 0; i < sizeof sizes / sizeof sizes[0]; i++) {
+        struct chart c = chart_of(sizes[i]);
+        uint16_t *work = (uint16_t *)block(8 * c.n, sizeof *work);
+        double *scratch = (double *)block(c.n, sizeof *scratch);
+        encode_exactly(&c, work, scratch);
+        score_exactly(&c, work, scratch);
+        group_exactly(&c, work, scratch);
+        free(c.kind);
+        free(c.start);
+        free(c.delta);
+        free(c.ratio);
+        free(work);
+        free(scratch);
+    }
+    return finish();
+}
