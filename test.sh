@@ -9,8 +9,12 @@ rt staticlib grouping_host
 rt staticlib dresserduck
 rt check letters
 (cd tests/numeric && cargo test --release --offline --quiet)
+tests/numeric/table.sh
 (cd tests/grouping && cargo test --release --offline --quiet)
 tests/host/run.sh
+(cd bindings/rust && cargo test --release --offline --quiet)
+tests/examples/run.sh
+tests/original/run.sh compare 7 300000
 tests/letters/run.sh
 
 exec rt ci
