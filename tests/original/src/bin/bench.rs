@@ -3,7 +3,7 @@
 use std::hint::black_box;
 use std::time::Instant;
 
-use dresserduck::{Chart, Encoding, Rhythm, Workspace};
+use dresserduck::{Chart, Encoding, Refusal, Rhythm, Workspace};
 
 const SIZES: [usize; 3] = [100, 1_000, 16_384];
 const CALLS: [&str; 4] = ["encode", "colour", "rhythm", "record"];
@@ -27,7 +27,8 @@ fn lists(n: usize, mut object: impl FnMut(usize) -> (u8, f64)) -> Lists {
     }
 }
 
-fn random(n: usize) -> Lists {
+/// As many charts as have 16,384 objects together, so that no size is small enough to be known by heart by the processor.
+fn random(n: usize) -> Vec<Lists> {
     let mut state = 0x9E37_79B9_7F4A_7C15_u64;
     let mut below = move |limit: u64| {
         state ^= state << 13;
@@ -35,10 +36,11 @@ fn random(n: usize) -> Lists {
         state ^= state << 17;
         (state >> 11) % limit
     };
-    lists(n, |_| {
+    let mut object = move |_| {
         let kind = [0, 0, 0, 0, 0, 1, 1, 1, 1, 2][below(10) as usize];
         (kind, [100.0, 102.0, 150.0, 200.0][below(4) as usize])
-    })
+    };
+    (0..SIZES[2] / n).map(|_| lists(n, &mut object)).collect()
 }
 
 /// Streaks of 1 to 20, over and over: no hit pattern is like one of the 15 before it.
@@ -48,18 +50,17 @@ fn no_repetition(n: usize) -> Lists {
     lists(n, |_| (kinds.next().unwrap_or(0), 100.0))
 }
 
-fn charts(n: usize) -> [(&'static str, Lists); 4] {
+fn charts(n: usize) -> [(&'static str, Vec<Lists>); 4] {
+    let falling = lists(n, |i| (0, (n - i) as f64 * 0.25));
+    let alternating = lists(n, |i| ((i % 2) as u8, 100.0));
     [
         ("random", random(n)),
+        ("one group of distinct falling deltas", vec![falling]),
+        ("all objects one pattern", vec![alternating]),
         (
-            "one group of distinct falling deltas",
-            lists(n, |i| (0, (n - i) as f64 * 0.25)),
+            "every hit pattern searching 15 back",
+            vec![no_repetition(n)],
         ),
-        (
-            "all objects one pattern",
-            lists(n, |i| ((i % 2) as u8, 100.0)),
-        ),
-        ("every hit pattern searching 15 back", no_repetition(n)),
     ]
 }
 
@@ -77,79 +78,112 @@ fn median(mut work: impl FnMut()) -> f64 {
     runs[runs.len() / 2]
 }
 
-/// The times of the four calls.
-fn original_times(lists: &Lists) -> [f64; 4] {
-    let chart = oracle::chart::Chart::new(&lists.kind, &lists.start, &lists.delta, &lists.ratio);
-    let rhythm = chart.rhythm();
-    let last = rhythm.groups.len() - 1;
+/// A chart of the original's, its groups, and the number of the last one.
+struct Original {
+    chart: oracle::chart::Chart,
+    rhythm: oracle::chart::Rhythm,
+    last: usize,
+}
+
+impl Original {
+    fn of(lists: &Lists) -> Self {
+        let chart =
+            oracle::chart::Chart::new(&lists.kind, &lists.start, &lists.delta, &lists.ratio);
+        let rhythm = chart.rhythm();
+        let last = rhythm.groups.len() - 1;
+        Original {
+            chart,
+            rhythm,
+            last,
+        }
+    }
+}
+
+/// The times of the four calls on all charts of a set.
+fn original_times(set: &[Lists]) -> [f64; 4] {
+    let charts: Vec<Original> = set.iter().map(Original::of).collect();
+    let all = |work: &dyn Fn(&Original)| median(|| charts.iter().for_each(work));
     [
-        median(|| chart.process_color()),
-        median(|| {
-            chart.process_color();
-            black_box(chart.colour());
+        all(&|o| o.chart.process_color()),
+        all(&|o| {
+            o.chart.process_color();
+            black_box(o.chart.colour());
         }),
-        median(|| chart.process_rhythm()),
-        median(|| {
-            chart.process_rhythm();
-            black_box(rhythm.record(last, WINDOW));
+        all(&|o| o.chart.process_rhythm()),
+        all(&|o| {
+            o.chart.process_rhythm();
+            black_box(o.rhythm.record(o.last, WINDOW));
         }),
     ]
 }
 
-fn library_times(lists: &Lists) -> [f64; 4] {
-    let chart = Chart::new(&lists.kind, &lists.start, &lists.delta, &lists.ratio);
-    let mut workspace = Workspace::new();
-    let (mut encoding, mut rhythm) = (Encoding::default(), Rhythm::default());
-    let mut values = Vec::new();
-    workspace
-        .rhythm_into(&chart, &mut rhythm)
-        .expect("a good chart");
-    let last = rhythm.groups - 1;
+/// The memory that is used again from call to call.
+#[derive(Default)]
+struct Room {
+    workspace: Workspace,
+    encoding: Encoding,
+    values: Vec<f64>,
+    rhythm: Rhythm,
+}
+
+fn library_times(set: &[Lists]) -> [f64; 4] {
+    let mut room = Room::default();
+    let charts: Vec<(Chart, usize)> = set
+        .iter()
+        .map(|lists| {
+            let chart = Chart::new(&lists.kind, &lists.start, &lists.delta, &lists.ratio);
+            let rhythm = room.workspace.rhythm(&chart).expect("a good chart");
+            (chart, rhythm.groups - 1)
+        })
+        .collect();
+    let mut all = |work: &dyn Fn(&mut Room, &Chart, usize) -> Result<(), Refusal>| {
+        median(|| {
+            for (chart, last) in &charts {
+                work(&mut room, black_box(chart), *last).expect("a good chart");
+            }
+        })
+    };
     [
-        median(|| {
-            workspace
-                .encode_into(black_box(&chart), &mut encoding)
-                .unwrap()
-        }),
-        median(|| {
-            workspace
-                .colour_into(black_box(&chart), &mut values)
-                .unwrap()
-        }),
-        median(|| {
-            workspace
-                .rhythm_into(black_box(&chart), &mut rhythm)
-                .unwrap()
-        }),
-        median(|| {
-            black_box(workspace.record(black_box(&chart), last, WINDOW)).unwrap();
+        all(&|room, chart, _| room.workspace.encode_into(chart, &mut room.encoding)),
+        all(&|room, chart, _| room.workspace.colour_into(chart, &mut room.values)),
+        all(&|room, chart, _| room.workspace.rhythm_into(chart, &mut room.rhythm)),
+        all(&|room, chart, last| {
+            black_box(room.workspace.record(chart, last, WINDOW)?);
+            Ok(())
         }),
     ]
+}
+
+fn row(numbers: [f64; 4]) -> String {
+    numbers.map(|x| format!("{x:.1}")).join(" | ")
+}
+
+/// Column by column, the one over the other.
+fn over(a: &[f64; 4], b: &[f64; 4]) -> [f64; 4] {
+    [0, 1, 2, 3].map(|k| a[k] / b[k])
 }
 
 fn main() {
-    println!("| chart | objects | {} |", CALLS.join(" | "));
-    println!("|---|---|---|---|---|---|");
+    let calls = CALLS.join(" | ");
+    println!("How many times as fast as the original:\n");
+    println!("| chart | objects | {calls} |\n|---|---|---|---|---|---|");
     let mut growth: Vec<String> = Vec::new();
     let mut at_thousand: Vec<[f64; 4]> = Vec::new();
     for n in SIZES {
-        for (place, (name, lists)) in charts(n).iter().enumerate() {
-            let (original, library) = (original_times(lists), library_times(lists));
-            let ratio = |k: usize| format!("{:.1}", original[k] / library[k]);
-            println!("| {name} | {n} | {} |", [0, 1, 2, 3].map(ratio).join(" | "));
+        for (place, (name, set)) in charts(n).iter().enumerate() {
+            let (original, library) = (original_times(set), library_times(set));
+            println!("| {name} | {n} | {} |", row(over(&original, &library)));
+            let each = library.map(|time| time / set.len() as f64);
             if n == 1_000 {
-                at_thousand.push(library);
+                at_thousand.push(each);
             }
             if n == 16_384 {
-                let grown = |k: usize| format!("{:.1}", library[k] / at_thousand[place][k]);
-                growth.push(format!(
-                    "| {name} | {} |",
-                    [0, 1, 2, 3].map(grown).join(" | ")
-                ));
+                let grown = row(over(&each, &at_thousand[place]));
+                growth.push(format!("| {name} | {grown} |"));
             }
         }
     }
     println!("\nThe library's time at 16,384 objects over that at 1,000:\n");
-    println!("| chart | {} |\n|---|---|---|---|---|", CALLS.join(" | "));
+    println!("| chart | {calls} |\n|---|---|---|---|---|");
     growth.iter().for_each(|line| println!("{line}"));
 }

@@ -1,0 +1,99 @@
+-- What an example asks, and what the definitions that the promises cite answer, as lists of numbers: an f64 as its bits.
+use Prim.Native.Nat.{ℕ, _+_, _*_}
+use mathlib.Core.Bool.{false}
+use mathlib.Core.List.{List, [], _∷_, map}
+use lib.IntN.{pos}
+use lib.ListN.{length, replicate}
+use lib.Ieee.{Float, fin, binary64, round, ofInt, ofBits, toBits}
+use Rattle.numeric.specs.RoundTiesEven.{roundTiesEven}
+use Rattle.grouping_marks.specs.Marks.{groupNumbers}
+use Rattle.grouping_chart.specs.Chart.{Chart}
+use Rattle.grouping_encode.specs.Encode as encode
+use Rattle.grouping_encode.specs.declared.Encoding.{Encoding}
+use Rattle.grouping_encode.specs.declared.Encoding.the-variants as encoding
+use Rattle.grouping_interval.specs.IntervalGrouping.{intervalMarks}
+use Rattle.grouping_normalizer.specs.Normalizer.{normalized}
+use Rattle.grouping_same_rhythm.specs.declared.own.Own.{Own}
+use Rattle.grouping_same_rhythm.specs.declared.own.Own.the-variants.{Millis}
+use Rattle.evaluator_calls.specs.Calls as calls
+use Rattle.evaluator_calls.specs.declared.Colouring.{Colouring}
+use Rattle.evaluator_calls.specs.declared.Colouring.the-variants as colouring
+use Rattle.evaluator_rhythm.specs.RepeatedInterval.{walkPenalty}
+
+pub data Question : Type 0 where
+  -- encode of a chart with these kinds
+  encoded : List ℕ → Question
+  -- colour of a chart with these kinds
+  coloured : List ℕ → Question
+  -- the rhythm groups of notes with these deltas, whole milliseconds
+  grouped : List ℕ → Question
+  -- what these deltas normalise to
+  normal : List ℕ → Question
+  -- and that rounded to whole
+  wholes : List ℕ → Question
+  -- the walk over 3 groups with these own intervals, the newest first
+  walked : List ℕ → Question
+
+-- a whole number of milliseconds
+unfoldable pub whole : ℕ → Float
+whole n = ofInt binary64 (pos n)
+
+unfoldable pub bitsOf : List Float → List ℕ
+bitsOf values = map (toBits binary64) values
+
+-- starts and deltas 0.0, ratios 1.0
+unfoldable pub chart : List ℕ → Chart
+chart kinds =
+    record { kinds = kinds; starts = replicate (length kinds) (whole 0); deltas = replicate (length kinds) (whole 0); ratios = replicate (length kinds) (whole 1) }
+
+-- a place more than n objects need in every slice, none of them 0 before the call
+unfoldable pub encodeMemory : ℕ → encode.Memory
+encodeMemory n = record {
+  streak = replicate (n + 1) 77;
+  streakPlace = replicate (n + 1) 77;
+  pattern = replicate (n + 1) 77;
+  patternPlace = replicate (n + 1) 77;
+  hit = replicate (n + 1) 77;
+  interval = replicate (n + 1) 77;
+  work = replicate (8 * n + 1) 77;
+  scratch = replicate (n + 1) (whole 1);
+}
+
+unfoldable pub colourMemory : ℕ → calls.Memory
+colourMemory n = record { value = replicate (n + 1) (whole 1); work = replicate (8 * n + 1) 77; scratch = replicate (n + 1) (whole 1) }
+
+-- 0 and the number of hit patterns, or the refusal and its place
+unfoldable pub encodeAnswer : Encoding → List ℕ
+encodeAnswer (encoding.Done hits) = 0 ∷ hits ∷ []
+encodeAnswer (encoding.Refused number place) = number ∷ place .0 ∷ []
+
+unfoldable pub colourAnswer : Colouring → List ℕ
+colourAnswer colouring.Done = 0 ∷ []
+colourAnswer (colouring.Refused number place) = number ∷ place .0 ∷ []
+
+unfoldable pub encodeShown : encode.Outcome → List (List ℕ)
+encodeShown o =
+    encodeAnswer (o .answer) ∷ o .memory .streak ∷ o .memory .streakPlace ∷ o .memory .pattern ∷ o .memory .patternPlace ∷ o .memory .hit ∷ o .memory .interval
+    ∷ o .memory .work ∷ bitsOf (o .memory .scratch) ∷ []
+
+unfoldable pub colourShown : calls.Outcome Colouring → List (List ℕ)
+colourShown o = colourAnswer (o .answer) ∷ bitsOf (o .memory .value) ∷ o .memory .work ∷ bitsOf (o .memory .scratch) ∷ []
+
+-- the margin 5.0
+unfoldable pub margin : Float
+margin = fin false 5 (pos 0)
+
+-- the threshold 0.1, the f64 nearest to 1 / 10
+unfoldable pub threshold : Float
+threshold = round binary64 false 1 10
+
+unfoldable pub millis : ℕ → Own
+millis n = Millis (whole n)
+
+unfoldable pub answer : Question → List (List ℕ)
+answer (encoded kinds) = encodeShown (encode.encodeOutcome (chart kinds) (encodeMemory (length kinds)))
+answer (coloured kinds) = colourShown (calls.colourOutcome (chart kinds) (colourMemory (length kinds)))
+answer (grouped deltas) = groupNumbers (intervalMarks margin (map whole deltas)) ∷ []
+answer (normal deltas) = bitsOf (normalized margin (map whole deltas)) ∷ []
+answer (wholes deltas) = bitsOf (map roundTiesEven (normalized margin (map whole deltas))) ∷ []
+answer (walked owns) = bitsOf (walkPenalty threshold 3 (map millis owns) ∷ []) ∷ []

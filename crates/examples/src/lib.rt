@@ -1,0 +1,1 @@
+// Document 01's starred examples: definitions and a theorem, no code.
