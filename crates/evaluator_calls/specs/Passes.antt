@@ -4,6 +4,7 @@ use Prim.Native.Nat.{ℕ, _*_, _≤_, _<_}
 use mathlib.Core.List.{List}
 use lib.ListN.{length, getD, replicate}
 use lib.Ieee.{Float, binary64, ofBits}
+use Rattle.numeric.specs.Logistic.{logisticTable}
 use Rattle.grouping_marks.specs.Over.{over}
 use Rattle.grouping_color.specs.MonoStreak.{streakOf}
 use Rattle.grouping_color.specs.Preprocessor.{streakPlaceOf, patternOf, patternPlaceOf, hitOf, intervalOf}
@@ -42,6 +43,12 @@ pub record LookedIs (kinds : List ℕ) (i : ℕ) (r : Looked) : Type 0 where
   pub streak : r .streak ≡ isFirst (streakOf kinds) i
   pub pattern : r .pattern ≡ isFirst (patternOf kinds) i
   pub hit : r .hit ≡ isFirst (hitOf kinds) i
+
+-- what the values are made of: T, the encoder's tables, and a ratio for each object
+pub record Lent (table : List Float) (kinds : List ℕ) (ratios : List Float) (w : List ℕ) (k : Counts) : Type 0 where
+  pub steps : table ≡ logisticTable
+  pub tabled : Tabled kinds w k
+  pub ratio : length ratios ≡ length kinds
 
 -- a place for each value, and a ratio for each object
 pub record ValueRoom (n : ℕ) (ratios values : List Float) : Type 0 where

@@ -45,7 +45,8 @@ fn fill_chart(kind: &[u8], ratio: &[f64], value: &mut [f64], work: &mut [u16], s
 {
     let n = kind.len();
     let k = grouping_color::preprocessor::encode_colors(kind, work, 16);
-    tables::fill_values(kind, ratio, work, k, 0.01, value);
+    let table = numeric::logistic::table();
+    tables::fill_values(&table, kind, ratio, work, k, 0.01, value);
     fill::clear(work, 8 * n);
     fill::clear_floats(scratch, n);
 }

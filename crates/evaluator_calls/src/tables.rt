@@ -1,12 +1,12 @@
 // Each object's value, from the encoder's tables.
 ghost use mathlib.Core.Path.{_≡_};
-ghost use Prim.Native.Nat.{_-_, _<_};
+ghost use Prim.Native.Nat.{_-_, _<_, _≤_};
 ghost use lib.ListN.{length, getD};
 ghost use lib.Ieee.{nan};
 ghost use Rattle.grouping_marks.specs.Over.{over};
 ghost use Rattle.grouping_encode.specs.Encode.{searchLimit};
 ghost use Rattle.evaluator_calls.specs.Colour.{colourAt, colourValues};
-ghost use Rattle.evaluator_calls.specs.Passes.{Tabled, ObjectIn, NumbersAt, LookedIs, ValueRoom};
+ghost use Rattle.evaluator_calls.specs.Passes.{ObjectIn, NumbersAt, LookedIs, Lent};
 use evaluator_color::Looked;
 use grouping_color::preprocessor::Counts;
 
@@ -77,11 +77,19 @@ fn earlier_ratio(ratio: &[f64], i: usize) -> f64
     ratio[i - 2]
 }
 
-fn value_at(kind: &[u8], ratio: &[f64], w: &[u16], k: Counts, tolerance: f64, i: usize) -> f64
-    requires { ⌜ ObjectIn (now kind) (now w) k i ⌝ ∗ ⌜ length (now ratio) ≡ length (now kind) ⌝ }
+fn value_at(
+    table: &[f64],
+    kind: &[u8],
+    ratio: &[f64],
+    w: &[u16],
+    k: Counts,
+    tolerance: f64,
+    i: usize,
+) -> f64
+    requires { ⌜ Lent (now table) (now kind) (now ratio) (now w) k ⌝ ∗ ⌜ i < length (now kind) ⌝ }
     ensures { λ r. ⌜ r ≡ colourAt searchLimit tolerance (now (kind .entry)) (now (ratio .entry)) i ⌝ }
 {
-    let sum = evaluator_color::object_sum(look(kind, w, k, i));
+    let sum = evaluator_color::object_sum(table, look(kind, w, k, i));
     let c = ratio[i];
     let p = earlier_ratio(ratio, i);
     sum * evaluator_color::ratio_penalty(i, c, p, tolerance)
@@ -89,6 +97,7 @@ fn value_at(kind: &[u8], ratio: &[f64], w: &[u16], k: Counts, tolerance: f64, i:
 
 // Fills the colour value of each object.
 pub fn fill_values(
+    table: &[f64],
     kind: &[u8],
     ratio: &[f64],
     w: &[u16],
@@ -96,12 +105,12 @@ pub fn fill_values(
     tolerance: f64,
     value: &mut [f64],
 )
-    requires { ⌜ Tabled (now kind) (now w) k ⌝ ∗ ⌜ ValueRoom (length (now kind)) (now ratio) (now value) ⌝ }
+    requires { ⌜ Lent (now table) (now kind) (now ratio) (now w) k ⌝ ∗ ⌜ length (now kind) ≤ length (now value) ⌝ }
     ensures { λ r. ⌜ now (value .exit) ≡ over (colourValues searchLimit tolerance (now (kind .entry)) (now (ratio .entry))) (now (value .entry)) ⌝ }
 {
     let mut i = 0;
     while i < kind.len() {
-        value[i] = value_at(kind, ratio, w, k, tolerance, i);
+        value[i] = value_at(table, kind, ratio, w, k, tolerance, i);
         i += 1;
     }
 }

@@ -1,5 +1,6 @@
 // The colour evaluator's formulas, one function each: the same rounded operations as the source's, in its order.
 ghost use mathlib.Core.Path.{_≡_};
+ghost use Rattle.numeric.specs.Logistic.{logisticTable};
 ghost use Rattle.evaluator_color.specs.Color.{hitValue, altValue, monoValue, addIf, objectSum};
 ghost use Rattle.evaluator_color.specs.RatioPenalty.{lowered, ratioPenalty};
 use numeric::logistic::logistic;
@@ -16,22 +17,25 @@ pub struct Looked {
     pub hit: bool,
 }
 
-pub fn hit_value(interval: usize) -> f64
+pub fn hit_value(table: &[f64], interval: usize) -> f64
+    requires { ⌜ now table ≡ logisticTable ⌝ }
     ensures { λ r. ⌜ r ≡ hitValue interval ⌝ }
 {
-    2.0 * (1.0 - logistic(interval))
+    2.0 * (1.0 - logistic(table, interval))
 }
 
-pub fn alt_value(place: usize, hit: f64) -> f64
+pub fn alt_value(table: &[f64], place: usize, hit: f64) -> f64
+    requires { ⌜ now table ≡ logisticTable ⌝ }
     ensures { λ r. ⌜ r ≡ altValue place hit ⌝ }
 {
-    logistic(place) * hit
+    logistic(table, place) * hit
 }
 
-pub fn mono_value(place: usize, alt: f64) -> f64
+pub fn mono_value(table: &[f64], place: usize, alt: f64) -> f64
+    requires { ⌜ now table ≡ logisticTable ⌝ }
     ensures { λ r. ⌜ r ≡ monoValue place alt ⌝ }
 {
-    logistic(place) * alt * 0.5
+    logistic(table, place) * alt * 0.5
 }
 
 pub fn add_if(first: bool, sum: f64, x: f64) -> f64
@@ -41,12 +45,13 @@ pub fn add_if(first: bool, sum: f64, x: f64) -> f64
 }
 
 // The object's value before its ratio penalty.
-pub fn object_sum(o: Looked) -> f64
+pub fn object_sum(table: &[f64], o: Looked) -> f64
+    requires { ⌜ now table ≡ logisticTable ⌝ }
     ensures { λ r. ⌜ r ≡ objectSum o ⌝ }
 {
-    let hit = hit_value(o.interval);
-    let alt = alt_value(o.outer, hit);
-    let mono = mono_value(o.inner, alt);
+    let hit = hit_value(table, o.interval);
+    let alt = alt_value(table, o.outer, hit);
+    let mono = mono_value(table, o.inner, alt);
     add_if(
         o.hit,
         add_if(o.pattern, add_if(o.streak, 0.0, mono), alt),

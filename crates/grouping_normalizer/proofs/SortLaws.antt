@@ -1,4 +1,4 @@
--- The loop of `sort`: the first `end` places are a heap, and each value from place `end` on stands at or behind all before it.
+-- The loop of `heap_sort`: the first `end` places are a heap, and each value from place `end` on stands at or behind all before it.
 use mathlib.Core.Path.{_≡_, refl, sym, ap, _∙_, subst}
 use mathlib.Core.Logic.{⊎-elim}
 use mathlib.Core.List.{List}

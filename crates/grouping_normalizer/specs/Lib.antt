@@ -1,4 +1,5 @@
 pub mod Ordered
 pub mod Heap
+pub mod Sort
 pub mod Normalizer
 pub mod Sets

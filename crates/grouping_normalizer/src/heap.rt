@@ -4,7 +4,7 @@ ghost use Rattle.grouping_normalizer.specs.Ordered.{ordered, AllFinite};
 ghost use Rattle.grouping_normalizer.specs.Heap.{swapped, Two, Parent, LaterChild, Sinkable, Sunk, Heaped};
 use numeric::order::total_order;
 
-fn swap(values: &mut [f64], i: usize, j: usize)
+pub fn swap(values: &mut [f64], i: usize, j: usize)
     requires { ⌜ Two (now values) i j ⌝ }
     ensures { λ r. ⌜ now (values .exit) ≡ swapped i j (now (values .entry)) ⌝ }
 {
@@ -57,7 +57,7 @@ fn heapify(values: &mut [f64])
 }
 
 // Puts the values in total order.
-pub fn sort(values: &mut [f64])
+pub fn heap_sort(values: &mut [f64])
     requires { ⌜ AllFinite (now values) ⌝ }
     ensures { λ r. ⌜ now (values .exit) ≡ ordered (now (values .entry)) ⌝ }
 {

@@ -9,6 +9,7 @@ use numeric::near::near;
 use numeric::order::total_order;
 
 pub mod heap;
+pub mod sort;
 
 // Equal in all bits, for values that are no NaN.
 fn is_alike(a: f64, b: f64) -> bool
@@ -25,7 +26,7 @@ pub fn distinct_values(values: &mut [f64]) -> usize
     requires { ⌜ AllFinite (now values) ⌝ }
     ensures { λ r. ⌜ Distinct (now (values .entry)) (now (values .exit)) r ⌝ }
 {
-    heap::sort(values);
+    sort::sort(values);
     let n = values.len();
     if n == 0 {
         return 0;

@@ -1,6 +1,6 @@
 // The table T: T(n) is the f64 nearest to 1 / (1 + e^(e (n - 2))). tools/logistic_table.py makes it.
 ghost use mathlib.Core.Path.{_≡_};
-ghost use Rattle.numeric.specs.Logistic.{logisticAt};
+ghost use Rattle.numeric.specs.Logistic.{logisticTable, logisticAt};
 
 const T: [f64; 264] = [
     0.9956644579002999,
@@ -269,12 +269,20 @@ const T: [f64; 264] = [
     7.593073934298546e-309,
 ];
 
-// T(n) for a step below 264, and +0.0 from there on.
-pub fn logistic(n: usize) -> f64
+// T's values in an array of the caller's.
+pub fn table() -> [f64; 264]
+    ensures { λ r. ⌜ r ≡ logisticTable ⌝ }
+{
+    T
+}
+
+// T(n) for a step below 264, and +0.0 from there on. The caller makes the table and lends it: `T[n]` here would build it anew at each call.
+pub fn logistic(table: &[f64], n: usize) -> f64
+    requires { ⌜ now table ≡ logisticTable ⌝ }
     ensures { λ r. ⌜ r ≡ logisticAt n ⌝ }
 {
     match n {
-        0..=263 => T[n],
+        0..=263 => table[n],
         _ => 0.0,
     }
 }

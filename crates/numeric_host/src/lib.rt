@@ -48,7 +48,8 @@ pub extern "C" fn numeric_tenths(x: f64) -> i64
 pub extern "C" fn numeric_logistic(n: usize) -> f64
     ensures { λ r. ⌜ r ≡ logisticAt n ⌝ }
 {
-    numeric::logistic::logistic(n)
+    let table = numeric::logistic::table();
+    numeric::logistic::logistic(&table, n)
 }
 
 #[no_mangle]

@@ -1,5 +1,4 @@
 // The two work slices of a call: lent full of marks, and held to be cleared where the call may write.
-ghost use mathlib.Core.Path.{_≡_};
 ghost use Prim.Native.Nat.{_≤_};
 ghost use Rattle.vectors.specs.Held.{Tells};
 ghost use Rattle.replay.specs.Work.{Marked, Cleared};

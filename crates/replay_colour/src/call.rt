@@ -1,20 +1,16 @@
 // One call of colour or stretch in lent slices that are full of marks, held to a stored case.
 use evaluator_calls::Colouring;
 use evaluator_calls::Stretching;
+use replay::both;
+use replay::work::FLOAT_MARK;
 
 pub const COLOUR: u8 = 2;
 
 pub const STRETCH: u8 = 3;
 
-// No answer is as large.
-const NUMBER_MARK: u16 = 48879;
-
-const FLOAT_MARK: f64 = -1.0e300;
-
 fn mark(value: &mut [f64], work: &mut [u16], scratch: &mut [f64]) {
     vectors::lent::mark_floats(value, FLOAT_MARK);
-    vectors::lent::mark_numbers(work, NUMBER_MARK);
-    vectors::lent::mark_floats(scratch, FLOAT_MARK);
+    replay::work::mark(work, scratch);
 }
 
 fn colour_holds(answer: Colouring) -> bool {
@@ -86,14 +82,7 @@ fn memory_holds(
     if !vectors::held::floats(body, 2 + n + size, n, FLOAT_MARK, value) {
         return false;
     }
-    if !vectors::held::zeros(8 * n, NUMBER_MARK, work) {
-        return false;
-    }
-    vectors::held::zero_floats(n, FLOAT_MARK, scratch)
-}
-
-fn both(a: bool, b: bool) -> bool {
-    if a { b } else { false }
+    replay::work::cleared(n, work, scratch)
 }
 
 // Whether the call answers and fills as the body, and for a stretch `part`, has it, and writes nothing besides.

@@ -1,14 +1,13 @@
 // Case after case of the file: reads one, lends slices of its size and counts whether it holds.
 ghost use mathlib.Core.Path.{_≡_};
-ghost use Prim.Native.Nat.{_<_};
 ghost use lib.ListN.{length};
 ghost use Rattle.replay_colour.specs.Arrays.{Arrays};
 use crate::call;
 use crate::count;
-use crate::count::Replay;
-use crate::count::Step;
+use crate::count::Replayed;
 use crate::read;
 use crate::read::Read;
+use replay::turns::turns_left;
 use vectors::case::Head;
 
 // Reads the ratios of a colour case, by their places in the table at its end.
@@ -68,10 +67,11 @@ fn lend(
     )
 }
 
-// Reads a case and replays it. A stretch is one of the chart of the colour case before it.
+// Reads the case with this number and replays it. A stretch is one of the chart of the colour case before it.
 fn next_case(
     fd: i32,
-    r: Replay,
+    number: u64,
+    chart: Head,
     part: &mut [u8],
     body: &mut [u8],
     ones: &[f64],
@@ -79,17 +79,16 @@ fn next_case(
     value: &mut [f64],
     work: &mut [u16],
     scratch: &mut [f64],
-) -> Step
+) -> Replayed
     requires { ⌜ Arrays (now body) (now ones) (now ratio) (now value) (now work) (now scratch) ⌝ }
 {
-    let chart = r.chart;
     match read::read_case(fd, chart, part, body) {
-        Read::End => count::stopped(r),
-        Read::Broken => count::stopped(count::colour(r, chart, false)),
+        Read::End => Replayed::End,
+        Read::Broken => Replayed::Broken,
         Read::Colour(h) => {
             read_ratios(h, body, ratio);
             let held = lend(
-                r.cases,
+                number,
                 call::COLOUR,
                 part,
                 h,
@@ -100,11 +99,11 @@ fn next_case(
                 work,
                 scratch,
             );
-            count::going(count::colour(r, h, held))
+            Replayed::Colour(h, held)
         }
         Read::Stretch => {
             let held = lend(
-                r.cases,
+                number,
                 call::STRETCH,
                 part,
                 chart,
@@ -115,16 +114,9 @@ fn next_case(
                 work,
                 scratch,
             );
-            count::going(count::stretch(r, held))
+            Replayed::Stretch(held)
         }
     }
-}
-
-fn turns_left(left: u64, more: bool) -> u64
-    requires { ⌜ 0 < left ⌝ }
-    ensures { λ r. ⌜ r < left ⌝ }
-{
-    if more { left - 1 } else { 0 }
 }
 
 // Replays the cases up to the file's end, at most a million of them.
@@ -143,7 +135,20 @@ pub fn replay(
     let mut r = count::nothing();
     let mut left: u64 = 1000000;
     while left > 0 {
-        let s = next_case(fd, r, part, body, ones, ratio, value, work, scratch);
+        let chart = r.chart;
+        let c = next_case(
+            fd,
+            r.cases,
+            chart,
+            part,
+            body,
+            ones,
+            ratio,
+            value,
+            work,
+            scratch,
+        );
+        let s = count::after(r, c);
         r = s.replay;
         left = turns_left(left, s.more);
     }

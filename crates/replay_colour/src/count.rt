@@ -1,6 +1,6 @@
 // Where the replay stands: what was counted for each call, and the chart at hand.
-use crate::tally;
-use crate::tally::Tally;
+use replay::tally;
+use replay::tally::Tally;
 use vectors::case::Head;
 
 // Cases of either call, colour values, a tally for each call, and the head of the last colour case.
@@ -10,6 +10,14 @@ pub struct Replay {
     pub colour: Tally,
     pub stretch: Tally,
     pub chart: Head,
+}
+
+// What became of a case: whether it held, and for colour its head.
+pub enum Replayed {
+    Colour(Head, bool),
+    Stretch(bool),
+    Broken,
+    End,
 }
 
 // The replay after a case, and whether another may follow.
@@ -28,14 +36,14 @@ pub fn nothing() -> Replay {
     }
 }
 
-pub fn stopped(r: Replay) -> Step {
+fn stopped(r: Replay) -> Step {
     Step {
         replay: r,
         more: false,
     }
 }
 
-pub fn going(r: Replay) -> Step {
+fn going(r: Replay) -> Step {
     Step {
         replay: r,
         more: true,
@@ -43,7 +51,7 @@ pub fn going(r: Replay) -> Step {
 }
 
 // After a colour case with this head.
-pub fn colour(r: Replay, h: Head, held: bool) -> Replay {
+fn colour(r: Replay, h: Head, held: bool) -> Replay {
     let stretch = r.stretch;
     Replay {
         cases: std::num::wrapping_add_u64(r.cases, 1),
@@ -55,7 +63,7 @@ pub fn colour(r: Replay, h: Head, held: bool) -> Replay {
 }
 
 // After a stretch of the chart at hand.
-pub fn stretch(r: Replay, held: bool) -> Replay {
+fn stretch(r: Replay, held: bool) -> Replay {
     let colour = r.colour;
     let chart = r.chart;
     Replay {
@@ -67,9 +75,30 @@ pub fn stretch(r: Replay, held: bool) -> Replay {
     }
 }
 
+// After a case that can't be read: it counts as a colour case that differs.
+fn broken(r: Replay) -> Replay {
+    let stretch = r.stretch;
+    let chart = r.chart;
+    Replay {
+        cases: std::num::wrapping_add_u64(r.cases, 1),
+        values: r.values,
+        colour: tally::counted(r.colour, false),
+        stretch: stretch,
+        chart: chart,
+    }
+}
+
+// After a case of either call, or at the file's end.
+pub fn after(r: Replay, c: Replayed) -> Step {
+    match c {
+        Replayed::Colour(h, held) => going(colour(r, h, held)),
+        Replayed::Stretch(held) => going(stretch(r, held)),
+        Replayed::Broken => stopped(broken(r)),
+        Replayed::End => stopped(r),
+    }
+}
+
 pub fn print(r: Replay) {
-    tally::print_values(r.colour, r.values);
-    tally::print_first(r.colour);
-    tally::print_stretches(r.stretch);
-    tally::print_first(r.stretch);
+    tally::print_with(b"colour: ", r.colour, r.values, b" values, ");
+    tally::print(b"stretch: ", r.stretch);
 }

@@ -3,7 +3,6 @@ mod call;
 mod cases;
 mod count;
 mod read;
-mod tally;
 
 fn main() {
     let path = b"vectors";

@@ -1,5 +1,6 @@
 // Reading one case of the file: its head, and its body into the slice of its call.
 use crate::call;
+use replay::read::ReadHead;
 use vectors::case::Head;
 
 pub enum Read {
@@ -7,32 +8,6 @@ pub enum Read {
     Stretch,
     Broken,
     End,
-}
-
-enum ReadHead {
-    Good(Head),
-    Bad,
-    End,
-}
-
-fn read_head(fd: i32) -> ReadHead {
-    let mut bytes = [0u8; 8];
-    let got = io::read_full(fd, &mut bytes);
-    if got == 0 {
-        return ReadHead::End;
-    }
-    if got != 8 {
-        return ReadHead::Bad;
-    }
-    ReadHead::Good(vectors::case::read_head(&bytes))
-}
-
-// Whether so many bytes follow in the file; they are read into the front of a slice.
-fn read_body(fd: i32, size: usize, body: &mut [u8]) -> bool {
-    if body.len() < size {
-        return false;
-    }
-    io::read_full(fd, &mut body[..size]) == size
 }
 
 // Whether the head is that of a colour case of at most 16,384 objects.
@@ -74,7 +49,7 @@ fn stretch_good(h: Head, chart: Head) -> bool {
 }
 
 fn read_colour(fd: i32, h: Head, body: &mut [u8]) -> Read {
-    if !read_body(fd, h.size, body) {
+    if !replay::read::read_body(fd, h.size, body) {
         return Read::Broken;
     }
     if size_good(h, body) {
@@ -85,7 +60,7 @@ fn read_colour(fd: i32, h: Head, body: &mut [u8]) -> Read {
 }
 
 fn read_stretch(fd: i32, part: &mut [u8]) -> Read {
-    if read_body(fd, 16, part) {
+    if replay::read::read_body(fd, 16, part) {
         Read::Stretch
     } else {
         Read::Broken
@@ -94,7 +69,7 @@ fn read_stretch(fd: i32, part: &mut [u8]) -> Read {
 
 // Reads a case: of colour into `body`, of a stretch on the chart at hand into `part`.
 pub fn read_case(fd: i32, chart: Head, part: &mut [u8], body: &mut [u8]) -> Read {
-    match read_head(fd) {
+    match replay::read::read_head(fd) {
         ReadHead::End => Read::End,
         ReadHead::Bad => Read::Broken,
         ReadHead::Good(h) => {

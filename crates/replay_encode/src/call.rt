@@ -1,20 +1,20 @@
 // One call of encode in lent slices that are full of marks, held to a stored case.
 use grouping_encode::Encoding;
+use replay::both;
+use replay::work::NUMBER_MARK;
 
 // No answer is as large.
-const NUMBER_MARK: u16 = 48879;
-
 const BYTE_MARK: u8 = 190;
 
-const FLOAT_MARK: f64 = -1.5;
-
-fn mark_answers(
+fn mark(
     streak: &mut [u16],
     streak_place: &mut [u16],
     pattern: &mut [u16],
     pattern_place: &mut [u16],
     hit: &mut [u16],
     interval: &mut [u8],
+    work: &mut [u16],
+    scratch: &mut [f64],
 ) {
     vectors::lent::mark_numbers(streak, NUMBER_MARK);
     vectors::lent::mark_numbers(streak_place, NUMBER_MARK);
@@ -22,6 +22,7 @@ fn mark_answers(
     vectors::lent::mark_numbers(pattern_place, NUMBER_MARK);
     vectors::lent::mark_numbers(hit, NUMBER_MARK);
     vectors::lent::mark_bytes(interval, BYTE_MARK);
+    replay::work::mark(work, scratch);
 }
 
 // Every place that is lent holds a mark when encode is called.
@@ -37,9 +38,16 @@ fn marked_encode(
     work: &mut [u16],
     scratch: &mut [f64],
 ) -> Encoding {
-    mark_answers(streak, streak_place, pattern, pattern_place, hit, interval);
-    vectors::lent::mark_numbers(work, NUMBER_MARK);
-    vectors::lent::mark_floats(scratch, FLOAT_MARK);
+    mark(
+        streak,
+        streak_place,
+        pattern,
+        pattern_place,
+        hit,
+        interval,
+        work,
+        scratch,
+    );
     grouping_encode::encode(
         kind,
         ones,
@@ -110,19 +118,7 @@ fn rest_holds(
     if !vectors::held::bytes(body, 2 + n + 5 * size, n, BYTE_MARK, interval) {
         return false;
     }
-    if !vectors::held::zeros(8 * n, NUMBER_MARK, work) {
-        return false;
-    }
-    vectors::held::zero_floats(n, FLOAT_MARK, scratch)
-}
-
-fn all(a: bool, b: bool, c: bool) -> bool {
-    if a {
-        if b {
-            return c;
-        }
-    }
-    false
+    replay::work::cleared(n, work, scratch)
 }
 
 // Whether encode answers as the body has it, and writes nothing past its answers.
@@ -165,5 +161,5 @@ pub fn holds(
         hit,
     );
     let rest = rest_holds(body, width, n, interval, work, scratch);
-    all(count, numbers, rest)
+    both(count, both(numbers, rest))
 }

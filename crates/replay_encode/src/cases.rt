@@ -1,9 +1,10 @@
 // Case after case of the file: reads one, lends slices of its size and counts whether it holds.
-ghost use Prim.Native.Nat.{_<_};
 ghost use Rattle.replay_encode.specs.Arrays.{Arrays};
 use crate::call;
-use crate::tally;
-use crate::tally::Tally;
+use crate::count;
+use crate::count::Replayed;
+use replay::read::ReadHead;
+use replay::turns::turns_left;
 use vectors::case::Head;
 
 const ENCODE: u8 = 1;
@@ -12,26 +13,6 @@ enum Read {
     Case(Head),
     Broken,
     End,
-}
-
-// The tally after a case, and whether another may follow.
-struct Step {
-    tally: Tally,
-    more: bool,
-}
-
-fn stopped(t: Tally) -> Step {
-    Step {
-        tally: t,
-        more: false,
-    }
-}
-
-fn counted(t: Tally, objects: usize, held: bool) -> Step {
-    Step {
-        tally: tally::counted(t, objects as u64, held),
-        more: true,
-    }
 }
 
 // Whether the head is that of an encode case of at most 16,384 objects.
@@ -53,27 +34,19 @@ fn head_good(h: Head) -> bool {
 }
 
 fn read_case(fd: i32, body: &mut [u8]) -> Read {
-    let mut bytes = [0u8; 8];
-    let got = io::read_full(fd, &mut bytes);
-    if got == 0 {
-        return Read::End;
-    }
-    if got != 8 {
-        return Read::Broken;
-    }
-    let h = vectors::case::read_head(&bytes);
-    if !head_good(h) {
-        return Read::Broken;
-    }
-    let size = h.size;
-    if body.len() < size {
-        return Read::Broken;
-    }
-    let read = io::read_full(fd, &mut body[..size]);
-    if read == size {
-        Read::Case(h)
-    } else {
-        Read::Broken
+    match replay::read::read_head(fd) {
+        ReadHead::End => Read::End,
+        ReadHead::Bad => Read::Broken,
+        ReadHead::Good(h) => {
+            if !head_good(h) {
+                return Read::Broken;
+            }
+            if replay::read::read_body(fd, h.size, body) {
+                Read::Case(h)
+            } else {
+                Read::Broken
+            }
+        }
     }
 }
 
@@ -116,10 +89,10 @@ fn lend(
     )
 }
 
-// Reads a case and replays it. A case that can't be read counts as one that differs, and ends the replay.
+// Reads the case with this number and replays it.
 fn next_case(
     fd: i32,
-    t: Tally,
+    number: u64,
     body: &mut [u8],
     ones: &[f64],
     streak: &mut [u16],
@@ -130,15 +103,15 @@ fn next_case(
     interval: &mut [u8],
     work: &mut [u16],
     scratch: &mut [f64],
-) -> Step
+) -> Replayed
     requires { ⌜ Arrays (now body) (now ones) (now streak) (now «streak_place») (now pattern) (now «pattern_place») (now hit) (now interval) (now work) (now scratch) ⌝ }
 {
     match read_case(fd, body) {
-        Read::End => stopped(t),
-        Read::Broken => stopped(tally::counted(t, 0, false)),
+        Read::End => Replayed::End,
+        Read::Broken => Replayed::Broken,
         Read::Case(h) => {
             let held = lend(
-                t.cases,
+                number,
                 h,
                 body,
                 ones,
@@ -151,16 +124,9 @@ fn next_case(
                 work,
                 scratch,
             );
-            counted(t, h.objects, held)
+            Replayed::Case(h.objects, held)
         }
     }
-}
-
-fn turns_left(left: u64, more: bool) -> u64
-    requires { ⌜ 0 < left ⌝ }
-    ensures { λ r. ⌜ r < left ⌝ }
-{
-    if more { left - 1 } else { 0 }
 }
 
 // Replays the cases up to the file's end, at most a million of them.
@@ -179,12 +145,13 @@ pub fn replay(
 )
     requires { ⌜ Arrays (now body) (now ones) (now streak) (now «streak_place») (now pattern) (now «pattern_place») (now hit) (now interval) (now work) (now scratch) ⌝ }
 {
-    let mut t = tally::nothing();
+    let mut r = count::nothing();
     let mut left: u64 = 1000000;
     while left > 0 {
-        let s = next_case(
+        let t = r.tally;
+        let c = next_case(
             fd,
-            t,
+            t.cases,
             body,
             ones,
             streak,
@@ -196,8 +163,9 @@ pub fn replay(
             work,
             scratch,
         );
-        t = s.tally;
+        let s = count::after(r, c);
+        r = s.replay;
         left = turns_left(left, s.more);
     }
-    tally::print(t);
+    count::print(r);
 }

@@ -1,7 +1,7 @@
 // Replays the stored cases of data/vectors: calls encode on each and compares all that it hands back with what the original answered.
 mod call;
 mod cases;
-mod tally;
+mod count;
 
 fn main() {
     let path = b"vectors";

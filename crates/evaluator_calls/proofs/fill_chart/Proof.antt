@@ -15,10 +15,17 @@ tolerance-is = refl
 encode-colors-requires : tie.Need-encode-colors-requires
 encode-colors-requires c κs = search needs
 
+table-requires : tie.Need-table-requires
+table-requires c κs = search needs
+
+slice-aggregate-fill-values : tie.Need-slice-aggregate-fill-values
+slice-aggregate-fill-values c = search needs
+
 fill-values-requires : tie.Need-fill-values-requires
 fill-values-requires c κs =
-    let s = c .before .before .before .before .before .before .before .before .before .before .before in
-    (tabled (s .pre .regions) (c .before .before .before .before .encode-colors .ensures), s .pre .values)
+    let e = c .before .before .before .before .before .before in
+    let s = e .before .before .before .before .before .before .before in
+    (record { steps = c .before .before .before .table .ensures; tabled = tabled (s .pre .regions) (e .encode-colors .ensures); ratio = s .pre .values .ratio }, s .pre .values .room)
 
 mul-clear : tie.Need-mul-clear
 mul-clear c = search needs
@@ -41,13 +48,15 @@ same-length-3 c = search needs
 returns : tie.Need-returns
 returns c =
     let f = c .before .before .before .before .before .before .before .before .before .before in
-    coloured _ tolerance-is (f .before .before .before .before .before .encode-colors .ensures) (f .fill-values .ensures) (c .before .before .before .before .before .before .clear .ensures) (c .before .before .clear-floats .ensures)
+    coloured _ tolerance-is (f .before .before .before .before .before .before .before .encode-colors .ensures) (f .fill-values .ensures) (c .before .before .before .before .before .before .clear .ensures) (c .before .before .clear-floats .ensures)
 
 pub fill-chart-spec : {M : Type 1} → statement M
 fill-chart-spec =
     tie.close
     (tie.spec
     encode-colors-requires
+    table-requires
+    slice-aggregate-fill-values
     fill-values-requires
     mul-clear
     clear-requires

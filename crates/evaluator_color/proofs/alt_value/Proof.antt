@@ -11,7 +11,7 @@ logistic-requires c κs = search needs
 
 returns : tie.Need-returns
 unfolding altValue
-returns c = ap (λ (t : Float). mul binary64 t (c .before .args .hit)) (c .logistic .ensures)
+returns c = ap (λ (t : Float). mul binary64 t (c .before .before .args .hit)) (c .logistic .ensures)
 
 pub alt-value-spec : {M : Type 1} → statement M
 alt-value-spec = tie.close (tie.spec logistic-requires returns)

@@ -11,7 +11,7 @@ logistic-requires c κs = search needs
 
 returns : tie.Need-returns
 unfolding monoValue ofBits
-returns c = ap (λ (t : Float). mul binary64 (mul binary64 t (c .before .args .alt)) half) (c .logistic .ensures)
+returns c = ap (λ (t : Float). mul binary64 (mul binary64 t (c .before .before .args .alt)) half) (c .logistic .ensures)
 
 pub mono-value-spec : {M : Type 1} → statement M
 mono-value-spec = tie.close (tie.spec logistic-requires returns)

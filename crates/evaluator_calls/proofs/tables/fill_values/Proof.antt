@@ -12,25 +12,25 @@ use Rattle.evaluator_calls.proofs.tables.fill_values.Statement.{stateme
 use Rattle.evaluator_calls.proofs.tables.fill_values.Tie as tie
 
 abbrev Inv-loop : tie.InvT-loop
-Inv-loop kind ratio w k tolerance value₀ i₀ value i = Fill (colourValues searchLimit tolerance kind ratio) (length kind) 0 value₀ value i
+Inv-loop table kind ratio w k tolerance value₀ i₀ value i = Fill (colourValues searchLimit tolerance kind ratio) (length kind) 0 value₀ value i
 
 abbrev μ-loop : tie.MeasureT-loop
-μ-loop kind ratio w k tolerance value₀ i₀ value i = length kind - i
+μ-loop table kind ratio w k tolerance value₀ i₀ value i = length kind - i
 
 loop-holds : tie.Need-loop-holds Inv-loop μ-loop
-loop-holds c = fill-start-front _ _ _ (length-values _ _ _ _) (c .before .before .before .before .pre .1 .room)
+loop-holds c = fill-start-front _ _ _ (length-values _ _ _ _) (c .before .before .before .before .before .pre .1)
 
 value-at-requires : tie.Need-value-at-requires Inv-loop μ-loop
-value-at-requires c κs = (record { tabled = c .before .before .before .before .before .before .pre .0; within = c .loop-test .taken }, c .before .before .before .before .before .before .pre .1 .ratio)
+value-at-requires c κs = (c .before .before .before .before .before .before .before .pre .0, c .loop-test .taken)
 
 mul-value : tie.Need-mul-value Inv-loop μ-loop
-mul-value c = omega (arith, c .before .before .before .before .before .before .before .pre .0 .regions)
+mul-value c = omega (arith, c .before .before .before .before .before .before .before .before .pre .0 .tabled .regions)
 
 slice-write-value : tie.Need-slice-write-value Inv-loop μ-loop
-slice-write-value c = omega (arith, c .before .before .before .before .before .before .before .pre .1)
+slice-write-value c = omega (arith, c .before .before .before .before .before .before .before .before .pre .1)
 
 add-i : tie.Need-add-i Inv-loop μ-loop
-add-i c = omega (arith, c .before .before .before .before .before .before .before .pre .0 .regions)
+add-i c = omega (arith, c .before .before .before .before .before .before .before .before .pre .0 .tabled .regions)
 
 loop-less : tie.Need-loop-less Inv-loop μ-loop
 loop-less c = omega arith

@@ -23,14 +23,23 @@ loop-holds c = omega arith
 next-case-requires : tie.Need-next-case-requires Inv-loop μ-loop
 next-case-requires c κs = omega arith
 
+after-requires : tie.Need-after-requires Inv-loop μ-loop
+after-requires c κs = omega arith
+
 turns-left-requires : tie.Need-turns-left-requires Inv-loop μ-loop
-turns-left-requires c κs = omega arith
+turns-left-requires c κs =
+    let d = c .before .before .before .before .before .before .before .before .before .before .before in
+    let e = d .before .before .before .before .before .before .before .before .before .before .before in
+    e .loop-test .taken
 
 loop-less : tie.Need-loop-less Inv-loop μ-loop
 loop-less c = omega arith
 
 loop-again : tie.Need-loop-again Inv-loop μ-loop
-loop-again c = omega arith
+loop-again c =
+    let d = c .before .before .before .before .before .before .before .before .before .before .before .before in
+    let e = d .before .before .before .before .before .before .before .before .before .before .before .before in
+    omega (arith, d .body, d .before .before .part, d .before .before .before .next-case, e .loop .inv)
 
 print-requires : tie.Need-print-requires Inv-loop μ-loop
 print-requires c κs = omega arith
@@ -65,6 +74,7 @@ replay-spec =
     nothing-requires
     loop-holds
     next-case-requires
+    after-requires
     turns-left-requires
     loop-less
     loop-again

@@ -2,8 +2,8 @@
 use native.Mathlib.Omega.{arith}
 use Rattle.grouping_normalizer.proofs.OrderedLaws.{slice-numbers}
 use Rattle.grouping_normalizer.proofs.SortLaws.{Sorting, sorting-start, sorting-two, sorting-asks, sorting-turn, sorting-end, sorting-long}
-use Rattle.grouping_normalizer.proofs.heap.sort.Statement.{statement}
-use Rattle.grouping_normalizer.proofs.heap.sort.Tie as tie
+use Rattle.grouping_normalizer.proofs.heap.heap_sort.Statement.{statement}
+use Rattle.grouping_normalizer.proofs.heap.heap_sort.Tie as tie
 
 abbrev Inv-loop : tie.InvT-loop
 Inv-loop values₀ end₀ values end = Sorting values₀ values end
@@ -49,8 +49,8 @@ returns c =
     let s = c .before .before .before .before .before .before in
     sorting-end (slice-numbers (s .before .pre) (s .slice-known .given)) (c .before .before .before .before .heapify .ensures) (c .before .loop .inv) (c .loop-test .left)
 
-pub sort-spec : {M : Type 1} → statement M
-sort-spec =
+pub heap-sort-spec : {M : Type 1} → statement M
+heap-sort-spec =
     tie.close
     (tie.spec
     Inv-loop
