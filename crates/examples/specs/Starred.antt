@@ -15,8 +15,10 @@ encoding n hits streak streakPlace pattern patternPlace hit interval =
   where
     spare : List ℕ → List ℕ
     spare xs = xs ++ (77 ∷ [])
+
     cleared : List ℕ
     cleared = replicate (8 * n) 0 ++ (77 ∷ [])
+
     one : List ℕ
     one = 0x3ff0_0000_0000_0000 ∷ []
 
@@ -54,7 +56,7 @@ starred =
     ∷ record {
       question = encoded (0 ∷ 1 ∷ 1 ∷ 0 ∷ 0 ∷ 1 ∷ []);
       outcome = encoding 6 3 (0 ∷ 1 ∷ 1 ∷ 2 ∷ 2 ∷ 3 ∷ []) (0 ∷ 0 ∷ 0 ∷ 1 ∷ 1 ∷ 0 ∷ []) (0 ∷ 1 ∷ 1 ∷ 1 ∷ 1 ∷ 2 ∷ []) (0 ∷ 0 ∷ 0 ∷ 0 ∷ 0 ∷ 0 ∷ []) (0 ∷ 1 ∷ 1 ∷ 1 ∷ 1 ∷ 2 ∷ [])
-        (17 ∷ 17 ∷ 17 ∷ 17 ∷ 17 ∷ 2 ∷ []);
+          (17 ∷ 17 ∷ 17 ∷ 17 ∷ 17 ∷ 2 ∷ []);
     }
     -- "deltas 100 100 100: one group; 100 100 200: two then one; 100 200 100: three"
     ∷ record { question = grouped (100 ∷ 100 ∷ 100 ∷ []); outcome = (0 ∷ 0 ∷ 0 ∷ []) ∷ [] }

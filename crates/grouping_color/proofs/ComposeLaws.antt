@@ -90,15 +90,14 @@ part-shorter a s n v w h e = sym (take-take s n (drop a w) h) ∙ ap (take s) e 
 
 -- ---- streaks
 
-pub streaks-made : (kinds w₀ w₁ w₂ w₃ w₄ w : List ℕ) (s : ℕ) → Regions (length kinds) w₀
+pub streaks-made : (kinds w₀ w₁ w₂ w₃ w : List ℕ) (s : ℕ) → Regions (length kinds) w₀
     → w₁ ≡ put (7 * length kinds) (streakMarks kinds) w₀
     → w₂ ≡ put 0 (groupNumbers (part (7 * length kinds) (length kinds) w₁)) w₁
-    → w₃ ≡ put (2 * length kinds) kinds w₂
-    → w₄ ≡ put (2 * length kinds) (groupFirsts (part (7 * length kinds) (length kinds) w₃) (part (2 * length kinds) (length kinds) w₃)) w₃
-    → (s ≡ groupCount (part (7 * length kinds) (length kinds) w₄)) × (w ≡ put (length kinds) (groupSizes (part (7 * length kinds) (length kinds) w₄)) w₄)
+    → w₃ ≡ put (2 * length kinds) (groupFirsts (part (7 * length kinds) (length kinds) w₂) kinds) w₂
+    → (s ≡ groupCount (part (7 * length kinds) (length kinds) w₃)) × (w ≡ put (length kinds) (groupSizes (part (7 * length kinds) (length kinds) w₃)) w₃)
     → Streaks kinds w₀ w s
 unfolding streakOf streakLengths streakTypes
-streaks-made kinds w₀ w₁ w₂ w₃ w₄ w s r e₁ e₂ e₃ e₄ e₅ =
+streaks-made kinds w₀ w₁ w₂ w₃ w s r e₁ e₂ e₃ e₄ =
     let n : ℕ = length kinds in
     let m : List ℕ = streakMarks kinds in
     let q : ℕ = groupCount m in
@@ -110,26 +109,21 @@ streaks-made kinds w₀ w₁ w₂ w₃ w₄ w s r e₁ e₂ e₃ e₄ e₅ =
     let o₂ : Wrote 0 n (groupNumbers m) w₁ w₂ = record { is = e₂ ∙ ap (λ (l : List ℕ). put 0 (groupNumbers l) w₁) m₁; size = length-numbers m ∙ lm; room = omega arith } in
     let l₂ : length w₂ ≡ length w₀ = long o₂ ∙ l₁ in
     let m₂ : part (7 * n) n w₂ ≡ m = above o₂ (7 * n) n (omega arith) ∙ m₁ in
-    let o₃ : Wrote (2 * n) n kinds w₂ w₃ = record { is = e₃; size = refl; room = omega arith } in
+    let o₃ : Wrote (2 * n) q (groupFirsts m kinds) w₂ w₃ =
+    record { is = e₃ ∙ ap (λ (l : List ℕ). put (2 * n) (groupFirsts l kinds) w₂) m₂; size = length-firsts m kinds (omega arith); room = omega arith } in
     let l₃ : length w₃ ≡ length w₀ = long o₃ ∙ l₂ in
     let m₃ : part (7 * n) n w₃ ≡ m = above o₃ (7 * n) n (omega arith) ∙ m₂ in
-    let k₃ : part (2 * n) n w₃ ≡ kinds = here o₃ in
-    let o₄ : Wrote (2 * n) q (groupFirsts m kinds) w₃ w₄ =
-    record { is = e₄ ∙ (λ i. put (2 * n) (groupFirsts (m₃ i) (k₃ i)) w₃); size = length-firsts m kinds (omega arith); room = omega arith } in
-    let l₄ : length w₄ ≡ length w₀ = long o₄ ∙ l₃ in
-    let m₄ : part (7 * n) n w₄ ≡ m = above o₄ (7 * n) n (omega arith) ∙ m₃ in
-    let o₅ : Wrote n q (groupSizes m) w₄ w = record { is = e₅ .1 ∙ ap (λ (l : List ℕ). put n (groupSizes l) w₄) m₄; size = length-sizes m; room = omega arith } in
+    let o₄ : Wrote n q (groupSizes m) w₃ w = record { is = e₄ .1 ∙ ap (λ (l : List ℕ). put n (groupSizes l) w₃) m₃; size = length-sizes m; room = omega arith } in
     let made : Streaks kinds w₀ w q = record {
       counted = refl;
       few = few;
-      streak = below o₅ 0 n (omega arith) ∙ below o₄ 0 n (omega arith) ∙ below o₃ 0 n (omega arith) ∙ here o₂;
-      lengths = here o₅;
-      types = above o₅ (2 * n) q (omega arith) ∙ here o₄;
+      streak = below o₄ 0 n (omega arith) ∙ below o₃ 0 n (omega arith) ∙ here o₂;
+      lengths = here o₄;
+      types = above o₄ (2 * n) q (omega arith) ∙ here o₃;
       outside =
-          outside-then (outside o₁ n (omega arith))
-          (outside-then (outside o₂ n (omega arith)) (outside-then (outside o₃ n (omega arith)) (outside-then (outside o₄ n (omega arith)) (outside o₅ n (omega arith)))));
+          outside-then (outside o₁ n (omega arith)) (outside-then (outside o₂ n (omega arith)) (outside-then (outside o₃ n (omega arith)) (outside o₄ n (omega arith))));
     } in
-    subst (Streaks kinds w₀ w) (sym (e₅ .0 ∙ ap groupCount m₄)) made
+    subst (Streaks kinds w₀ w) (sym (e₄ .0 ∙ ap groupCount m₃)) made
 
 -- ---- patterns
 

@@ -1,6 +1,6 @@
 -- Hit patterns: the cases of stages, second lengths and matches, read in the work slice, the turns of the passes, and how large an interval is.
 use mathlib.Core.Path.{_≡_, refl, ap, _∙_}
-use mathlib.Core.Bool.{true, false}
+use mathlib.Core.Bool.{true, false, cond, _&&_}
 use mathlib.Core.List.{List}
 use Prim.Native.Nat.{ℕ, suc, _+_, _-_, _≤_, _<_}
 use native.Mathlib.Omega.{arith}
@@ -55,14 +55,9 @@ module _ (w : List ℕ) (lengths marks m i : ℕ) (t : Pair w lengths marks m) w
   inside : i + 1 < m → i + 1 < length (part lengths m w)
   inside h = omega (arith, long)
 
-  pub second-in : i + 1 < m → getD w (marks + (i + 1)) 0 ≡ 0 → getD w (lengths + (i + 1)) 0 ≡ secondAt (part lengths m w) (part marks m w) i
+  pub second-inside : i + 1 < m → cond (eqb (getD w (marks + (i + 1)) 0) 0) (getD w (lengths + (i + 1)) 0) 0 ≡ secondAt (part lengths m w) (part marks m w) i
   unfolding secondAt
-  second-in h e =
-      rw (lt-ltb _ _ (inside h), read-at marks m w (i + 1) (marks + (i + 1)) h refl, eq-eqb _ _ e, read-at lengths m w (i + 1) (lengths + (i + 1)) h refl)
-
-  pub second-out : i + 1 < m → (getD w (marks + (i + 1)) 0 ≡ 0 → ⊥) → 0 ≡ secondAt (part lengths m w) (part marks m w) i
-  unfolding secondAt
-  second-out h e = rw (lt-ltb _ _ (inside h), read-at marks m w (i + 1) (marks + (i + 1)) h refl, ne-eqb _ _ e)
+  second-inside h = rw (lt-ltb _ _ (inside h), read-at marks m w (i + 1) (marks + (i + 1)) h refl, read-at lengths m w (i + 1) (lengths + (i + 1)) h refl)
 
   pub second-end : m ≤ i + 1 → 0 ≡ secondAt (part lengths m w) (part marks m w) i
   unfolding secondAt
@@ -83,26 +78,21 @@ module _ {lengths marks m to : ℕ} {w₀ : List ℕ} (a : PairApart w₀ length
 
 -- ---- two hit patterns match
 
-module _ (w : List ℕ) (sizes firsts seconds m a b : ℕ) (ha : a < m) (hb : b < m) where
-  at-a : (r : ℕ) → getD (part r m w) a 0 ≡ getD w (r + a) 0
-  at-a r = read-at r m w a (r + a) ha refl
+module _ (w : List ℕ) (sizes firsts seconds m i : ℕ) (h : i < m) where
+  read-in : (r : ℕ) → getD (part r m w) i 0 ≡ getD w (r + i) 0
+  read-in r = read-at r m w i (r + i) h refl
 
-  at-b : (r : ℕ) → getD (part r m w) b 0 ≡ getD w (r + b) 0
-  at-b r = read-at r m w b (r + b) hb refl
+  -- what a hit pattern has, compared with three numbers
+  pub has-read : (x y z : ℕ) → (eqb (getD w (sizes + i) 0) x && (eqb (getD w (firsts + i) 0) y && eqb (getD w (seconds + i) 0) z))
+      ≡ (eqb (getD (part sizes m w) i 0) x && (eqb (getD (part firsts m w) i 0) y && eqb (getD (part seconds m w) i 0) z))
+  has-read x y z = rw (read-in sizes, read-in firsts, read-in seconds)
 
-  pub matches-sizes : (getD w (sizes + a) 0 ≡ getD w (sizes + b) 0 → ⊥) → false ≡ matches (part sizes m w) (part firsts m w) (part seconds m w) a b
+  -- a hit pattern matches i where it has what i has
+  pub matches-read : (a : ℕ) → matches (part sizes m w) (part firsts m w) (part seconds m w) a i
+      ≡ (eqb (getD (part sizes m w) a 0) (getD w (sizes + i) 0)
+      && (eqb (getD (part firsts m w) a 0) (getD w (firsts + i) 0) && eqb (getD (part seconds m w) a 0) (getD w (seconds + i) 0)))
   unfolding matches
-  matches-sizes p = rw (at-a sizes, at-b sizes, ne-eqb _ _ p)
-
-  pub matches-firsts : getD w (sizes + a) 0 ≡ getD w (sizes + b) 0 → (getD w (firsts + a) 0 ≡ getD w (firsts + b) 0 → ⊥)
-      → false ≡ matches (part sizes m w) (part firsts m w) (part seconds m w) a b
-  unfolding matches
-  matches-firsts p q = rw (at-a sizes, at-b sizes, eq-eqb _ _ p, at-a firsts, at-b firsts, ne-eqb _ _ q)
-
-  pub matches-seconds : getD w (sizes + a) 0 ≡ getD w (sizes + b) 0 → getD w (firsts + a) 0 ≡ getD w (firsts + b) 0
-      → eqb (getD w (seconds + a) 0) (getD w (seconds + b) 0) ≡ matches (part sizes m w) (part firsts m w) (part seconds m w) a b
-  unfolding matches
-  matches-seconds p q = rw (at-a sizes, at-b sizes, eq-eqb _ _ p, at-a firsts, at-b firsts, eq-eqb _ _ q, at-a seconds, at-b seconds)
+  matches-read a = rw (read-in sizes, read-in firsts, read-in seconds)
 
 -- ---- the search for an interval: what is left of it from k on is the whole of it
 

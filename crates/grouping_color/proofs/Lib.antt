@@ -5,4 +5,4 @@ pub mod PatternLaws
 pub mod HitLaws
 pub mod ComposeLaws
 pub mod BoundLaws
-pub mod Examples
+pub mod SearchLaws

@@ -1,9 +1,11 @@
 -- Alternating patterns: the cases of which streak opens one and of which pattern is coupled, read in the work slice, and the turns of the two passes.
 use mathlib.Core.Path.{_≡_, ap, _∙_}
+use mathlib.Core.Bool.{Bool, cond, _&&_}
 use mathlib.Core.List.{List}
 use Prim.Native.Nat.{ℕ, _+_, _-_, _≤_, _<_}
 use native.Mathlib.Omega.{arith}
 use borrow.Author.Tests.{lt-ltb, le-ltb, eq-eqb, ne-eqb}
+use lib.Dec.{eqb}
 use lib.ListN.{length, getD, set}
 use Rattle.grouping_marks.specs.Over.{part}
 use Rattle.grouping_marks.proofs.OverLaws.{length-part}
@@ -61,26 +63,12 @@ module _ (w : List ℕ) (lengths counts types m i : ℕ) (t : Triple w lengths c
   unfolding coupledAt
   coupled-end h = rw (le-ltb (i + 2) (length (part lengths m w)) (omega (arith, long)))
 
-  pub coupled-lengths : i + 2 < m → (getD w (lengths + i) 0 ≡ getD w (lengths + i + 2) 0 → ⊥) → 0 ≡ coupledAt (part lengths m w) (part counts m w) (part types m w) i
+  pub coupled-inside : i + 2 < m → (b : Bool)
+      → (eqb (getD w (lengths + i) 0) (getD w (lengths + i + 2) 0)
+      && (eqb (getD w (counts + i) 0) (getD w (counts + i + 2) 0) && eqb (getD w (types + i) 0) (getD w (types + i + 2) 0))) ≡ b
+      → cond b 1 0 ≡ coupledAt (part lengths m w) (part counts m w) (part types m w) i
   unfolding coupledAt
-  coupled-lengths h a = rw (lt-ltb _ _ (inside h), here h lengths, two-on h lengths, ne-eqb _ _ a)
-
-  pub coupled-counts : i + 2 < m → getD w (lengths + i) 0 ≡ getD w (lengths + i + 2) 0 → (getD w (counts + i) 0 ≡ getD w (counts + i + 2) 0 → ⊥)
-      → 0 ≡ coupledAt (part lengths m w) (part counts m w) (part types m w) i
-  unfolding coupledAt
-  coupled-counts h a b = rw (lt-ltb _ _ (inside h), here h lengths, two-on h lengths, eq-eqb _ _ a, here h counts, two-on h counts, ne-eqb _ _ b)
-
-  pub coupled-types : i + 2 < m → getD w (lengths + i) 0 ≡ getD w (lengths + i + 2) 0 → getD w (counts + i) 0 ≡ getD w (counts + i + 2) 0
-      → (getD w (types + i) 0 ≡ getD w (types + i + 2) 0 → ⊥) → 0 ≡ coupledAt (part lengths m w) (part counts m w) (part types m w) i
-  unfolding coupledAt
-  coupled-types h a b c =
-      rw (lt-ltb _ _ (inside h), here h lengths, two-on h lengths, eq-eqb _ _ a, here h counts, two-on h counts, eq-eqb _ _ b, here h types, two-on h types, ne-eqb _ _ c)
-
-  pub coupled-all : i + 2 < m → getD w (lengths + i) 0 ≡ getD w (lengths + i + 2) 0 → getD w (counts + i) 0 ≡ getD w (counts + i + 2) 0
-      → getD w (types + i) 0 ≡ getD w (types + i + 2) 0 → 1 ≡ coupledAt (part lengths m w) (part counts m w) (part types m w) i
-  unfolding coupledAt
-  coupled-all h a b c =
-      rw (lt-ltb _ _ (inside h), here h lengths, two-on h lengths, eq-eqb _ _ a, here h counts, two-on h counts, eq-eqb _ _ b, here h types, two-on h types, eq-eqb _ _ c)
+  coupled-inside h b e = rw (lt-ltb _ _ (inside h), here h lengths, two-on h lengths, here h counts, two-on h counts, here h types, two-on h types, e)
 
 module _ {lengths counts types m to : ℕ} {w₀ : List ℕ} (a : TripleApart w₀ lengths counts types m to) where
   pub coupled-start : Fill (coupled (part lengths m w₀) (part counts m w₀) (part types m w₀)) m to w₀ w₀ 0

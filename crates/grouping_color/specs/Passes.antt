@@ -1,7 +1,7 @@
 -- What each pass of the encoder asks and leaves. It works in the first 8 n places of one slice, in eight regions of n places, region r from place r * n on:
 --   0 object: streak
 --   1 streak: length, then pattern: first length, then hit pattern: first length, at the end pattern: hit pattern
---   2 object: kind, then streak: type, then pattern: type, then second length, then hit pattern: second length, at the end pattern: place in its hit pattern
+--   2 streak: type, then pattern: type, then second length, then hit pattern: second length, at the end pattern: place in its hit pattern
 --   3 streak: pattern      4 streak: place in its pattern      5 pattern: streak count, then hit pattern: size
 --   6 pattern: coupled, then opens a hit pattern      7 marks of streaks, then of patterns, at the end hit pattern: interval
 use mathlib.Core.Path.{_≡_}

@@ -36,16 +36,14 @@ fn is_coupled(w: &[u16], lengths: usize, counts: usize, types: usize, m: usize, 
     if m - i <= 2 {
         return 0;
     }
-    if w[lengths + i] != w[lengths + i + 2] {
-        return 0;
+    let same_length = w[lengths + i] == w[lengths + i + 2];
+    let same_count = w[counts + i] == w[counts + i + 2];
+    let same_type = w[types + i] == w[types + i + 2];
+    if same_length & (same_count & same_type) {
+        1
+    } else {
+        0
     }
-    if w[counts + i] != w[counts + i + 2] {
-        return 0;
-    }
-    if w[types + i] != w[types + i + 2] {
-        return 0;
-    }
-    1
 }
 
 // Marks the coupled patterns.

@@ -1,4 +1,4 @@
-// Streaks: which objects open one, and the kinds in the work slice, from which their types are taken.
+// Streaks: which objects open one.
 ghost use mathlib.Core.Path.{_≡_};
 ghost use mathlib.Core.Bool.{cond};
 ghost use Prim.Native.Nat.{_+_, _≤_};
@@ -47,17 +47,5 @@ pub fn mark_streaks(kind: &[u8], w: &mut [u16], to: usize)
         next = grouping_chart::object::note_after(k, next);
         last = last_after(last, k);
         at = ObjectIndex(i + 1);
-    }
-}
-
-// Copies the kinds: of these a streak's type is the first.
-pub fn copy_kinds(kind: &[u8], w: &mut [u16], to: usize)
-    requires { ⌜ to + length (now kind) ≤ length (now w) ⌝ }
-    ensures { λ r. ⌜ now (w .exit) ≡ put to (now (kind .entry)) (now (w .entry)) ⌝ }
-{
-    let mut i = 0;
-    while i < kind.len() {
-        w[to + i] = kind[i] as u16;
-        i += 1;
     }
 }

@@ -23,8 +23,7 @@ fn find_streaks(kind: &[u8], w: &mut [u16]) -> usize
     let n = kind.len();
     mono_streak::mark_streaks(kind, w, 7 * n);
     grouping_marks::group_numbers(w, 7 * n, n, 0);
-    mono_streak::copy_kinds(kind, w, 2 * n);
-    grouping_marks::group_firsts(w, 7 * n, n, 2 * n);
+    grouping_marks::group_firsts_of(kind, w, 7 * n, 2 * n);
     grouping_marks::group_sizes(w, 7 * n, n, n)
 }
 

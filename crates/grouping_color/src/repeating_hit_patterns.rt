@@ -1,9 +1,12 @@
 // Hit patterns: which patterns open one, and each hit pattern's repetition interval.
 ghost use mathlib.Core.Path.{_≡_};
+ghost use mathlib.Core.Bool.{cond, _&&_};
 ghost use Prim.Native.Nat.{_≤_, _<_};
+ghost use lib.Dec.{eqb};
+ghost use lib.ListN.{getD};
 ghost use Rattle.grouping_marks.specs.Over.{put, part};
 ghost use Rattle.grouping_marks.specs.Passes.{Room};
-ghost use Rattle.grouping_color.specs.RepeatingHitPatterns.{stageAfter, opensHit, hitMarks, secondAt, secondLengths, matches, intervalAt, intervals};
+ghost use Rattle.grouping_color.specs.RepeatingHitPatterns.{stageAfter, opensHit, hitMarks, secondAt, secondLengths, intervalAt, intervals};
 ghost use Rattle.grouping_color.specs.Passes.{Pair, PairApart, Triple, TripleApart};
 
 fn stage_after(stage: u16, coupled: u16) -> u16
@@ -37,16 +40,22 @@ pub fn mark_hits(w: &mut [u16], at: usize, m: usize)
     }
 }
 
+// A length whose pattern, by its mark, opens no hit pattern; else 0.
+fn second_by(mark: u16, length: u16) -> u16
+    ensures { λ r. ⌜ r ≡ cond (eqb mark 0) length 0 ⌝ }
+{
+    if mark == 0 { length } else { 0 }
+}
+
 fn second_at(w: &[u16], lengths: usize, marks: usize, m: usize, i: usize) -> u16
     requires { ⌜ Pair (now w) lengths marks m ⌝ ∗ ⌜ i < m ⌝ }
     ensures { λ r. ⌜ r ≡ secondAt (part lengths m (now (w .entry))) (part marks m (now (w .entry))) i ⌝ }
 {
     let j = i + 1;
     if j < m {
-        if w[marks + j] == 0 {
-            return w[lengths + j];
-        }
-        return 0;
+        let mark = w[marks + j];
+        let length = w[lengths + j];
+        return second_by(mark, length);
     }
     0
 }
@@ -56,33 +65,38 @@ pub fn second_lengths(w: &mut [u16], lengths: usize, marks: usize, m: usize, to:
     requires { ⌜ PairApart (now w) lengths marks m to ⌝ }
     ensures { λ r. ⌜ now (w .exit) ≡ put to (secondLengths (part lengths m (now (w .entry))) (part marks m (now (w .entry)))) (now (w .entry)) ⌝ }
 {
+    if m == 0 {
+        return;
+    }
     let mut i = 0;
-    while i < m {
+    while i + 1 < m {
         let second = second_at(w, lengths, marks, m, i);
         w[to + i] = second;
         i += 1;
     }
+    let last = second_at(w, lengths, marks, m, i);
+    w[to + i] = last;
 }
 
-fn hits_match(
+// Whether the hit pattern a holds `size` alternating patterns and these two first-streak lengths.
+fn hit_has(
     w: &[u16],
     sizes: usize,
     firsts: usize,
     seconds: usize,
     m: usize,
     a: usize,
-    b: usize,
+    size: u16,
+    first: u16,
+    second: u16,
 ) -> bool
-    requires { ⌜ Triple (now w) sizes firsts seconds m ⌝ ∗ ⌜ a < m ⌝ ∗ ⌜ b < m ⌝ }
-    ensures { λ r. ⌜ r ≡ matches (part sizes m (now (w .entry))) (part firsts m (now (w .entry))) (part seconds m (now (w .entry))) a b ⌝ }
+    requires { ⌜ Triple (now w) sizes firsts seconds m ⌝ ∗ ⌜ a < m ⌝ }
+    ensures { λ r. ⌜ r ≡ (eqb (getD (part sizes m (now (w .entry))) a 0) size && (eqb (getD (part firsts m (now (w .entry))) a 0) first && eqb (getD (part seconds m (now (w .entry))) a 0) second)) ⌝ }
 {
-    if w[sizes + a] != w[sizes + b] {
-        return false;
-    }
-    if w[firsts + a] != w[firsts + b] {
-        return false;
-    }
-    w[seconds + a] == w[seconds + b]
+    let same_size = w[sizes + a] == size;
+    let same_first = w[firsts + a] == first;
+    let same_second = w[seconds + a] == second;
+    same_size & (same_first & same_second)
 }
 
 // The repetition interval of the hit pattern h, searched below the limit.
@@ -98,13 +112,16 @@ fn interval_at(
     requires { ⌜ Triple (now w) sizes firsts seconds m ⌝ ∗ ⌜ h < m ⌝ ∗ ⌜ 1 ≤ limit ⌝ ∗ ⌜ limit < 65535 ⌝ }
     ensures { λ r. ⌜ r ≡ intervalAt limit (part sizes m (now (w .entry))) (part firsts m (now (w .entry))) (part seconds m (now (w .entry))) h ⌝ }
 {
+    let size = w[sizes + h];
+    let first = w[firsts + h];
+    let second = w[seconds + h];
     let mut k: u16 = 1;
     while k < limit {
         let back = k as usize;
         if h < back {
             return limit + 1;
         }
-        if hits_match(w, sizes, firsts, seconds, m, h - back, h) {
+        if hit_has(w, sizes, firsts, seconds, m, h - back, size, first, second) {
             return k;
         }
         k += 1;

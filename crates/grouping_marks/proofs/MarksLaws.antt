@@ -39,6 +39,24 @@ opened-bounds c m = go (eqb m 0) (eqb c 0) refl
     go true false e = let h : c ≡ 0 → ⊥ = eqb-false c 0 e in omega arith
     go false b e = omega arith
 
+-- the first item opens a group whatever its mark; after it the mark alone says so
+pub opened-first : (m : ℕ) → opened 0 m ≡ 1
+unfolding opened
+opened-first m = go (eqb m 0)
+  where
+    go : (a : Bool) → _≡_ {A = ℕ} (cond a 1 1) 1
+    go true = refl
+    go false = refl
+
+pub opened-later : (c m o : ℕ) → o ≡ cond (eqb m 0) 0 1 → opened (c + 1) m ≡ c + o + 1
+unfolding opened
+opened-later c m o e = go (eqb m 0) (eqb (c + 1) 0) refl e
+  where
+    go : (a b : Bool) → eqb (c + 1) 0 ≡ b → o ≡ cond a 0 1 → cond a (cond b 1 (c + 1)) (c + 1 + 1) ≡ c + o + 1
+    go true true z e = absurd (omega (arith, eqb-true (c + 1) 0 z))
+    go true false z e = omega arith
+    go false b z e = omega arith
+
 after-bounds : (c : ℕ) (marks : List ℕ) → (c ≤ after opened c marks) × (after opened c marks ≤ c + length marks)
 unfolding after
 after-bounds c [] = omega arith

@@ -1,5 +1,6 @@
 -- `alternating_mono_pattern::is_coupled` meets its contract, case by case.
-use Rattle.grouping_color.proofs.PatternLaws.{coupled-end, coupled-lengths, coupled-counts, coupled-types, coupled-all}
+use mathlib.Core.Bool.{true, false}
+use Rattle.grouping_color.proofs.PatternLaws.{coupled-end, coupled-inside}
 use native.Mathlib.Omega.{arith}
 use Rattle.grouping_color.proofs.alternating_mono_pattern.is_coupled.Statement.{statement}
 use Rattle.grouping_color.proofs.alternating_mono_pattern.is_coupled.Tie as tie
@@ -10,80 +11,74 @@ sub-if1 c = omega arith
 returns : tie.Need-returns
 returns c = coupled-end _ _ _ _ _ _ (c .before .pre .0) (omega arith)
 
-add-if2 : tie.Need-add-if2
-add-if2 c = omega arith
+add-same-length : tie.Need-add-same-length
+add-same-length c = omega arith
 
-mul-if2 : tie.Need-mul-if2
-mul-if2 c = omega arith
+mul-same-length : tie.Need-mul-same-length
+mul-same-length c = omega arith
 
-shared-slice-read-if2 : tie.Need-shared-slice-read-if2
-shared-slice-read-if2 c = omega arith
+shared-slice-read-same-length : tie.Need-shared-slice-read-same-length
+shared-slice-read-same-length c = omega arith
 
-add-if2-2 : tie.Need-add-if2-2
-add-if2-2 c = omega arith
+add-same-length-2 : tie.Need-add-same-length-2
+add-same-length-2 c = omega arith
 
-add-if2-3 : tie.Need-add-if2-3
-add-if2-3 c = omega arith
+add-same-length-3 : tie.Need-add-same-length-3
+add-same-length-3 c = omega arith
 
-mul-if2-2 : tie.Need-mul-if2-2
-mul-if2-2 c = omega arith
+mul-same-length-2 : tie.Need-mul-same-length-2
+mul-same-length-2 c = omega arith
 
-shared-slice-read-if2-2 : tie.Need-shared-slice-read-if2-2
-shared-slice-read-if2-2 c = omega arith
+shared-slice-read-same-length-2 : tie.Need-shared-slice-read-same-length-2
+shared-slice-read-same-length-2 c = omega arith
+
+add-same-count : tie.Need-add-same-count
+add-same-count c = omega arith
+
+mul-same-count : tie.Need-mul-same-count
+mul-same-count c = omega arith
+
+shared-slice-read-same-count : tie.Need-shared-slice-read-same-count
+shared-slice-read-same-count c = omega arith
+
+add-same-count-2 : tie.Need-add-same-count-2
+add-same-count-2 c = omega arith
+
+add-same-count-3 : tie.Need-add-same-count-3
+add-same-count-3 c = omega arith
+
+mul-same-count-2 : tie.Need-mul-same-count-2
+mul-same-count-2 c = omega arith
+
+shared-slice-read-same-count-2 : tie.Need-shared-slice-read-same-count-2
+shared-slice-read-same-count-2 c = omega arith
+
+add-same-type : tie.Need-add-same-type
+add-same-type c = omega arith
+
+mul-same-type : tie.Need-mul-same-type
+mul-same-type c = omega arith
+
+shared-slice-read-same-type : tie.Need-shared-slice-read-same-type
+shared-slice-read-same-type c = omega arith
+
+add-same-type-2 : tie.Need-add-same-type-2
+add-same-type-2 c = omega arith
+
+add-same-type-3 : tie.Need-add-same-type-3
+add-same-type-3 c = omega arith
+
+mul-same-type-2 : tie.Need-mul-same-type-2
+mul-same-type-2 c = omega arith
+
+shared-slice-read-same-type-2 : tie.Need-shared-slice-read-same-type-2
+shared-slice-read-same-type-2 c = omega arith
 
 returns-2 : tie.Need-returns-2
-returns-2 c = coupled-lengths _ _ _ _ _ _ (c .before .before .before .before .pre .0) (omega arith) (c .if2 .taken)
-
-add-if3 : tie.Need-add-if3
-add-if3 c = omega arith
-
-mul-if3 : tie.Need-mul-if3
-mul-if3 c = omega arith
-
-shared-slice-read-if3 : tie.Need-shared-slice-read-if3
-shared-slice-read-if3 c = omega arith
-
-add-if3-2 : tie.Need-add-if3-2
-add-if3-2 c = omega arith
-
-add-if3-3 : tie.Need-add-if3-3
-add-if3-3 c = omega arith
-
-mul-if3-2 : tie.Need-mul-if3-2
-mul-if3-2 c = omega arith
-
-shared-slice-read-if3-2 : tie.Need-shared-slice-read-if3-2
-shared-slice-read-if3-2 c = omega arith
+returns-2 c = coupled-inside _ _ _ _ _ _ (c .before .before .before .before .before .before .before .before .pre .0) (omega arith) true (c .if2 .taken)
 
 returns-3 : tie.Need-returns-3
-returns-3 c = coupled-counts _ _ _ _ _ _ (c .before .before .before .before .before .before .before .pre .0) (omega arith) (c .before .before .before .if2 .left) (c .if3 .taken)
-
-add-if4 : tie.Need-add-if4
-add-if4 c = omega arith
-
-mul-if4 : tie.Need-mul-if4
-mul-if4 c = omega arith
-
-shared-slice-read-if4 : tie.Need-shared-slice-read-if4
-shared-slice-read-if4 c = omega arith
-
-add-if4-2 : tie.Need-add-if4-2
-add-if4-2 c = omega arith
-
-add-if4-3 : tie.Need-add-if4-3
-add-if4-3 c = omega arith
-
-mul-if4-2 : tie.Need-mul-if4-2
-mul-if4-2 c = omega arith
-
-shared-slice-read-if4-2 : tie.Need-shared-slice-read-if4-2
-shared-slice-read-if4-2 c = omega arith
-
-returns-4 : tie.Need-returns-4
-returns-4 c = coupled-types _ _ _ _ _ _ (c .before .before .before .before .before .before .before .before .before .before .pre .0) (omega arith) (c .before .before .before .before .before .before .if2 .left) (c .before .before .before .if3 .left) (c .if4 .taken)
-
-returns-5 : tie.Need-returns-5
-returns-5 c = coupled-all _ _ _ _ _ _ (c .before .before .before .before .before .before .before .before .before .before .pre .0) (omega arith) (c .before .before .before .before .before .before .if2 .left) (c .before .before .before .if3 .left) (c .if4 .left)
+returns-3 c = coupled-inside _ _ _ _ _ _ (c .before .before .before .before .before .before .before .before .pre .0) (omega arith) false (c .if2 .left)
 
 pub is-coupled-spec : {M : Type 1} → statement M
 is-coupled-spec =
@@ -91,28 +86,26 @@ is-coupled-spec =
     (tie.spec
     sub-if1
     returns
-    add-if2
-    mul-if2
-    shared-slice-read-if2
-    add-if2-2
-    add-if2-3
-    mul-if2-2
-    shared-slice-read-if2-2
+    add-same-length
+    mul-same-length
+    shared-slice-read-same-length
+    add-same-length-2
+    add-same-length-3
+    mul-same-length-2
+    shared-slice-read-same-length-2
+    add-same-count
+    mul-same-count
+    shared-slice-read-same-count
+    add-same-count-2
+    add-same-count-3
+    mul-same-count-2
+    shared-slice-read-same-count-2
+    add-same-type
+    mul-same-type
+    shared-slice-read-same-type
+    add-same-type-2
+    add-same-type-3
+    mul-same-type-2
+    shared-slice-read-same-type-2
     returns-2
-    add-if3
-    mul-if3
-    shared-slice-read-if3
-    add-if3-2
-    add-if3-3
-    mul-if3-2
-    shared-slice-read-if3-2
-    returns-3
-    add-if4
-    mul-if4
-    shared-slice-read-if4
-    add-if4-2
-    add-if4-3
-    mul-if4-2
-    shared-slice-read-if4-2
-    returns-4
-    returns-5)
+    returns-3)

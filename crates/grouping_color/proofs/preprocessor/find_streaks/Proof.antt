@@ -17,20 +17,14 @@ mul-group-numbers c = omega arith
 group-numbers-requires : tie.Need-group-numbers-requires
 group-numbers-requires c κs = room-behind (omega arith) (omega arith) (omega arith)
 
-mul-copy-kinds : tie.Need-mul-copy-kinds
-mul-copy-kinds c = omega arith
+mul-group-firsts-of : tie.Need-mul-group-firsts-of
+mul-group-firsts-of c = omega arith
 
-copy-kinds-requires : tie.Need-copy-kinds-requires
-copy-kinds-requires c κs = search needs
+mul-group-firsts-of-2 : tie.Need-mul-group-firsts-of-2
+mul-group-firsts-of-2 c = omega arith
 
-mul-group-firsts : tie.Need-mul-group-firsts
-mul-group-firsts c = omega arith
-
-mul-group-firsts-2 : tie.Need-mul-group-firsts-2
-mul-group-firsts-2 c = omega arith
-
-group-firsts-requires : tie.Need-group-firsts-requires
-group-firsts-requires c κs = room-behind (omega arith) (omega arith) (omega arith)
+group-firsts-of-requires : tie.Need-group-firsts-of-requires
+group-firsts-of-requires c κs = room-behind (omega arith) (omega arith) (omega arith)
 
 mul-group-sizes : tie.Need-mul-group-sizes
 mul-group-sizes c = omega arith
@@ -43,7 +37,7 @@ same-length c = omega arith
 
 returns : tie.Need-returns
 returns c =
-    streaks-made _ _ _ _ _ _ _ _ (c .before .before .before .before .before .before .before .before .before .before .before .before .before .before .before .before .before .before .before .before .before .before .pre) (c .before .before .before .before .before .before .before .before .before .before .before .before .before .before .before .before .before .before .mark-streaks .ensures) (c .before .before .before .before .before .before .before .before .before .before .before .before .before .before .group-numbers .ensures) (c .before .before .before .before .before .before .before .before .before .before .copy-kinds .ensures) (c .before .before .before .before .before .before .group-firsts .ensures)
+    streaks-made _ _ _ _ _ _ _ (c .before .before .before .before .before .before .before .before .before .before .before .before .before .before .before .before .before .before .pre) (c .before .before .before .before .before .before .before .before .before .before .before .before .before .before .mark-streaks .ensures) (c .before .before .before .before .before .before .before .before .before .before .group-numbers .ensures) (c .before .before .before .before .before .before .group-firsts-of .ensures)
     (c .before .before .group-sizes .ensures)
 
 pub find-streaks-spec : {M : Type 1} → statement M
@@ -54,11 +48,9 @@ find-streaks-spec =
     mark-streaks-requires
     mul-group-numbers
     group-numbers-requires
-    mul-copy-kinds
-    copy-kinds-requires
-    mul-group-firsts
-    mul-group-firsts-2
-    group-firsts-requires
+    mul-group-firsts-of
+    mul-group-firsts-of-2
+    group-firsts-of-requires
     mul-group-sizes
     group-sizes-requires
     same-length
