@@ -182,7 +182,8 @@ fn starts(random: &mut Xorshift, deltas: &[f64]) -> Vec<f64> {
             0 => now + delta,
             1 => now - delta,
             _ => random.pick(&[0.0, 5.0, 7.0, -3.0]),
-        };
+        }
+        .clamp(-16_777_216.0, 16_777_216.0);
         now
     };
     deltas.iter().map(&mut next).collect()
