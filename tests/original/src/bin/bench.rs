@@ -64,18 +64,25 @@ fn charts(n: usize) -> [(&'static str, Vec<Lists>); 4] {
     ]
 }
 
-/// The median of some runs, in nanoseconds; a run repeats the work so that it takes a while.
-fn median(mut work: impl FnMut()) -> f64 {
-    let mut timed = |times: u32| {
-        let start = Instant::now();
-        (0..times).for_each(|_| work());
-        start.elapsed().as_nanos() as f64 / f64::from(times)
-    };
-    let once = timed(1);
-    let times = (500_000.0 / once).clamp(1.0, 10_000.0) as u32;
-    let mut runs: Vec<f64> = (0..11).map(|_| timed(times)).collect();
+/// One run's time in nanoseconds; it repeats the work so that it takes a while.
+fn timed(work: &mut dyn FnMut(), times: u32) -> f64 {
+    let start = Instant::now();
+    (0..times).for_each(|_| work());
+    start.elapsed().as_nanos() as f64 / f64::from(times)
+}
+
+fn median(mut runs: Vec<f64>) -> f64 {
     runs.sort_by(f64::total_cmp);
     runs[runs.len() / 2]
+}
+
+/// The medians of some runs of either, in turn, so that what else the machine does falls on both.
+fn medians(original: &mut dyn FnMut(), library: &mut dyn FnMut()) -> [f64; 2] {
+    let times = |work: &mut dyn FnMut()| (1e6 / timed(work, 1)).clamp(1.0, 10_000.0) as u32;
+    let counts = [times(original), times(library)];
+    let run = |_| [timed(original, counts[0]), timed(library, counts[1])];
+    let runs: Vec<[f64; 2]> = (0..21).map(run).collect();
+    [0, 1].map(|k| median(runs.iter().map(|pair| pair[k]).collect()))
 }
 
 /// A chart of the original's, its groups, and the number of the last one.
@@ -99,20 +106,24 @@ impl Original {
     }
 }
 
-/// The times of the four calls on all charts of a set.
-fn original_times(set: &[Lists]) -> [f64; 4] {
-    let charts: Vec<Original> = set.iter().map(Original::of).collect();
-    let all = |work: &dyn Fn(&Original)| median(|| charts.iter().for_each(work));
+type Work<'a> = Box<dyn FnMut() + 'a>;
+
+/// The four calls on all charts of a set.
+fn original_works(charts: &[Original]) -> [Work<'_>; 4] {
     [
-        all(&|o| o.chart.process_color()),
-        all(&|o| {
-            o.chart.process_color();
-            black_box(o.chart.colour());
+        Box::new(move || charts.iter().for_each(|o| o.chart.process_color())),
+        Box::new(move || {
+            for o in charts {
+                o.chart.process_color();
+                black_box(o.chart.colour());
+            }
         }),
-        all(&|o| o.chart.process_rhythm()),
-        all(&|o| {
-            o.chart.process_rhythm();
-            black_box(o.rhythm.record(o.last, WINDOW));
+        Box::new(move || charts.iter().for_each(|o| o.chart.process_rhythm())),
+        Box::new(move || {
+            for o in charts {
+                o.chart.process_rhythm();
+                black_box(o.rhythm.record(o.last, WINDOW));
+            }
         }),
     ]
 }
@@ -126,32 +137,40 @@ struct Room {
     rhythm: Rhythm,
 }
 
-fn library_times(set: &[Lists]) -> [f64; 4] {
-    let mut room = Room::default();
-    let charts: Vec<(Chart, usize)> = set
-        .iter()
-        .map(|lists| {
-            let chart = Chart::new(&lists.kind, &lists.start, &lists.delta, &lists.ratio);
-            let rhythm = room.workspace.rhythm(&chart).expect("a good chart");
-            (chart, rhythm.groups - 1)
-        })
-        .collect();
-    let mut all = |work: &dyn Fn(&mut Room, &Chart, usize) -> Result<(), Refusal>| {
-        median(|| {
-            for (chart, last) in &charts {
-                work(&mut room, black_box(chart), *last).expect("a good chart");
+/// One call on a chart, of whose groups the last has this number.
+type Call = fn(&mut Room, &Chart, usize) -> Result<(), Refusal>;
+
+const LIBRARY: [Call; 4] = [
+    |room, chart, _| room.workspace.encode_into(chart, &mut room.encoding),
+    |room, chart, _| room.workspace.colour_into(chart, &mut room.values),
+    |room, chart, _| room.workspace.rhythm_into(chart, &mut room.rhythm),
+    |room, chart, last| {
+        black_box(room.workspace.record(chart, last, WINDOW)?);
+        Ok(())
+    },
+];
+
+fn library_works<'a>(set: &'a [Lists], originals: &'a [Original]) -> [Work<'a>; 4] {
+    let chart = |l: &'a Lists| Chart::new(&l.kind, &l.start, &l.delta, &l.ratio);
+    let charts: Vec<Chart> = set.iter().map(chart).collect();
+    LIBRARY.map(|call| {
+        let (charts, mut room) = (charts.clone(), Room::default());
+        let all = move || {
+            for (chart, original) in charts.iter().zip(originals) {
+                call(&mut room, black_box(chart), original.last).expect("a good chart");
             }
-        })
-    };
-    [
-        all(&|room, chart, _| room.workspace.encode_into(chart, &mut room.encoding)),
-        all(&|room, chart, _| room.workspace.colour_into(chart, &mut room.values)),
-        all(&|room, chart, _| room.workspace.rhythm_into(chart, &mut room.rhythm)),
-        all(&|room, chart, last| {
-            black_box(room.workspace.record(chart, last, WINDOW)?);
-            Ok(())
-        }),
-    ]
+        };
+        Box::new(all) as Work
+    })
+}
+
+/// The times of the four calls, the original's and the library's.
+fn times(set: &[Lists]) -> [[f64; 4]; 2] {
+    let originals: Vec<Original> = set.iter().map(Original::of).collect();
+    let mut original = original_works(&originals);
+    let mut library = library_works(set, &originals);
+    let both = [0, 1, 2, 3].map(|k| medians(&mut original[k], &mut library[k]));
+    [0, 1].map(|who| both.map(|pair| pair[who]))
 }
 
 fn row(numbers: [f64; 4]) -> String {
@@ -171,7 +190,7 @@ fn main() {
     let mut at_thousand: Vec<[f64; 4]> = Vec::new();
     for n in SIZES {
         for (place, (name, set)) in charts(n).iter().enumerate() {
-            let (original, library) = (original_times(set), library_times(set));
+            let [original, library] = times(set);
             println!("| {name} | {n} | {} |", row(over(&original, &library)));
             let each = library.map(|time| time / set.len() as f64);
             if n == 1_000 {
