@@ -30,9 +30,6 @@ pub record GoodChart (c : Chart) (short : Bool) : Type 0 where
   pub objects : (i : ℕ) (z : Float) → i < length (c .kinds)
       → GoodObject (getD (c .kinds) i 0) (getD (c .starts) i z) (getD (c .deltas) i z) (getD (c .ratios) i z)
 
-pub good-kind : {k : ℕ} {s d r : Float} → GoodObject k s d r → leb k 2 ≡ true
-good-kind {k} g = le-leb k 2 (g .kind)
-
 -- ---- an object
 
 T-of : (b : Bool) → b ≡ true → T b

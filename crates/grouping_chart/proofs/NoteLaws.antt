@@ -84,11 +84,6 @@ module _ (ks : List ℕ) (i : ℕ) (h : i < length ks) (n : isNote (getD ks i 0)
   unfolding noteIdx noteObjects
   note-within = rw n (number-of 0 ks i h n .within)
 
-  -- the object of its note number is the object itself
-  pub object-of-note : getD (noteObjects ks) (noteIdx ks i) 0 ≡ i
-  unfolding noteIdx noteObjects
-  object-of-note = rw n (omega (arith, number-of 0 ks i h n .object))
-
 -- ---- each note's delta is that of its object
 
 delta-from : (f : ℕ → Float) (a : ℕ) (ks : List ℕ) (ds : List Float) → length ds ≡ length ks → ((i : ℕ) → getD ds i nan ≡ f (a + i))

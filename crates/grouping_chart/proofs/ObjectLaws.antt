@@ -46,15 +46,6 @@ seenNext-last s k = by (isNote k)
     by true = refl
     by false = refl
 
--- there is no previous note exactly where note_idx is 0
-pub previousSeen-index : (s : Seen) (k : ℕ) → previousSeen s k ≡ cond (eqb (cond (isNote k) (s .notes) 0) 0) none (kind (s .last))
-unfolding previousSeen
-previousSeen-index s k = by (isNote k)
-  where
-    by : (b : Bool) → cond b (cond (eqb (s .notes) 0) none (kind (s .last))) none ≡ cond (eqb (cond b (s .notes) 0) 0) none (kind (s .last))
-    by true = refl
-    by false = refl
-
 -- ---- the walk over two lists, and over one object more
 
 pub seenAfter-append : (s : Seen) (xs ys : List ℕ) → seenAfter s (xs ++ ys) ≡ seenAfter (seenAfter s xs) ys
@@ -71,10 +62,6 @@ module _ (ks : List ℕ) (i : ℕ) (h : i < length ks) where
   pub notes-turn : (n r : ℕ) → n ≡ seenAfter seen₀ (take i ks) .notes → r ≡ cond (isNote (getD ks i 0)) (n + 1) n
       → r ≡ seenAfter seen₀ (take (i + 1) ks) .notes
   notes-turn n r e f = rw (seenAfter-take seen₀ ks i h, seenNext-notes (seenAfter seen₀ (take i ks)) (getD ks i 0), ← e) f
-
-  pub last-turn : (l r : ℕ) → l ≡ seenAfter seen₀ (take i ks) .last → r ≡ cond (isNote (getD ks i 0)) (getD ks i 0) l
-      → r ≡ seenAfter seen₀ (take (i + 1) ks) .last
-  last-turn l r e f = rw (seenAfter-take seen₀ ks i h, seenNext-last (seenAfter seen₀ (take i ks)) (getD ks i 0), ← e) f
 
 -- ---- the notes of a list
 

@@ -74,10 +74,6 @@ module _ (kinds : List ℕ) where
       length-hitMarks (coupled (firstLengths kinds) (streakCounts kinds) (patternTypes kinds)) ∙ length-coupled (firstLengths kinds) (streakCounts kinds) (patternTypes kinds)
       ∙ length-firsts (patternsOpen kinds) (streakLengths kinds) (omega (arith, lengths-even))
 
-  pub length-hitIntervals : (limit : ℕ) → length (hitIntervals limit kinds) ≡ hitCount kinds
-  unfolding hitIntervals hitSizes hitCount
-  length-hitIntervals limit = length-intervals limit (hitSizes kinds) (hitFirsts kinds) (hitSeconds kinds) ∙ length-sizes (hitsOpen kinds)
-
   -- each number is below its level's count
   pub streak-below : (i : ℕ) → i < length kinds → getD (streakOf kinds) i 0 < groupCount (streakMarks kinds)
   unfolding streakOf
@@ -99,18 +95,9 @@ module _ (kinds : List ℕ) where
   unfolding hitIntervals
   hit-interval-byte limit l j = interval-byte limit (hitSizes kinds) (hitFirsts kinds) (hitSeconds kinds) l j
 
-  -- object by object
-  pub length-streakPlaceOf : length (streakPlaceOf kinds) ≡ length kinds
-  unfolding streakPlaceOf
-  length-streakPlaceOf = length-gathered (groupPlaces (patternsOpen kinds)) (streakOf kinds) ∙ length-streakOf
-
   pub length-patternOf : length (patternOf kinds) ≡ length kinds
   unfolding patternOf
   length-patternOf = length-gathered (groupNumbers (patternsOpen kinds)) (streakOf kinds) ∙ length-streakOf
-
-  pub length-patternPlaceOf : length (patternPlaceOf kinds) ≡ length kinds
-  unfolding patternPlaceOf
-  length-patternPlaceOf = length-gathered (groupPlaces (hitsOpen kinds)) (patternOf kinds) ∙ length-patternOf
 
   pub length-hitOf : length (hitOf kinds) ≡ length kinds
   unfolding hitOf

@@ -6,8 +6,8 @@ use Prim.Native.Nat.{ℕ, suc, _+_, _-_, _≤_, _<_}
 use native.Mathlib.Numerals.{add-one}
 use native.Mathlib.Omega.{arith}
 use lib.Dec.{ltb}
-use lib.ListN.{length, drop, getD, replicate, length-replicate, length-drop, drop-of-length-le}
-use lib.Seq.{drop-cons, drop-drop, drop-at}
+use lib.ListN.{length, drop, getD, replicate, length-drop, drop-of-length-le}
+use lib.Seq.{drop-cons, drop-drop}
 use lib.Ieee.{Float, nan}
 use borrow.Author.Tests.{lt-ltb, le-ltb, ltb-true, ltb-false}
 use Rattle.numeric.specs.Near.{isNear}
@@ -169,22 +169,6 @@ module _ (margin : Float) (values : List Float) (at : ℕ) where
       by many x g end e m =
           let k : end - at - 1 ≡ g = omega arith in
           rw (m, drop-drop g (suc at) values, ← e, k)
-
--- the marks of the whole, from a position where a group opens on, are known at that group's end too: so from the start, by `marks-all`, at every group's end
-pub marks-next : (margin : Float) (values : List Float) (at : ℕ) → at < length values
-    → drop at (intervalMarks margin values) ≡ marksFrom margin (ltb 2 (length values)) (drop at values)
-    → drop (groupEnd margin values at) (intervalMarks margin values) ≡ marksFrom margin (ltb 2 (length values)) (drop (groupEnd margin values at) values)
-marks-next margin values at h e =
-    let end : ℕ = groupEnd margin values at in
-    let many : Bool = ltb 2 (length values) in
-    let b : at < end = end-after margin values at h in
-    let zeros : List ℕ = 1 ∷ replicate (end - at - 1) 0 in
-    let l : length zeros ≡ end - at = ap suc (length-replicate (end - at - 1) 0) ∙ omega arith in
-    let k : at + (end - at) ≡ end = omega arith in
-    ap (λ (n : ℕ). drop n (intervalMarks margin values)) (sym k)
-    ∙ sym (drop-drop (end - at) at (intervalMarks margin values))
-    ∙ ap (drop (end - at)) (e ∙ marks-at margin values at h)
-    ∙ drop-at zeros (marksFrom margin many (drop end values)) (end - at) l
 
 -- a loop over one group: the group took the value before i, and it ends where the group that starts at `at` ends
 pub record Within (margin : Float) (values : List Float) (at n i : ℕ) : Type 0 where

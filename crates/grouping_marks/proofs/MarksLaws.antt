@@ -71,11 +71,6 @@ count-le marks = omega (arith, after-bounds 0 marks)
 pub count-none : (marks : List ℕ) → length marks ≡ 0 → groupCount marks ≡ 0
 count-none marks h = omega (arith, count-le marks)
 
-pub count-some : (marks : List ℕ) → 0 < length marks → 0 < groupCount marks
-unfolding groupCount after
-count-some [] h = absurd (not-suc-le-zero h)
-count-some (m ∷ ms) h = omega (arith, opened-bounds 0 m, after-bounds (opened 0 m) ms)
-
 number-below : (c : ℕ) (marks : List ℕ) (i : ℕ) → i < length marks → getD (scan opened (λ c m. opened c m - 1) c marks) i 0 < after opened c marks
 unfolding scan after
 number-below c [] i h = absurd (not-suc-le-zero h)

@@ -28,11 +28,6 @@ module _ {A : Type 0} where
       let e : length new + k ≡ n = omega arith in
       subst (λ (m : ℕ). drop m (new ++ drop (length new) old) ≡ drop m old) e (drop-append-add new (drop (length new) old) k ∙ drop-drop k (length new) old)
 
-  -- what is written over something as short or shorter
-  pub over-over : (new mid old : List A) → length mid ≤ length new → over new (over mid old) ≡ over new old
-  unfolding over
-  over-over new mid old h = ap (λ (l : List A). new ++ l) (drop-over mid old (length new) h)
-
   getD-over-past : (new old : List A) (j : ℕ) (d : A) → length new ≤ length old → length new ≤ j → getD (over new old) j d ≡ getD old j d
   unfolding over
   getD-over-past [] old j d r h = refl
@@ -104,11 +99,6 @@ module _ {A : Type 0} where
   pub part-put-after : (b n a : ℕ) (new old : List A) → a + length new ≤ b → part b n (put a new old) ≡ part b n old
   unfolding part
   part-put-after b n a new old h = ap (λ (l : List A). take n l) (drop-put b a new old h)
-
-  -- all that was put goes under what is then written over the front
-  pub over-put : (new : List A) (a : ℕ) (mid old : List A) → a + length mid ≤ length new → over new (put a mid old) ≡ over new old
-  unfolding over
-  over-put new a mid old h = ap (λ (l : List A). new ++ l) (drop-put (length new) a mid old h)
 
   pub getD-put-before : (a : ℕ) (new old : List A) (j : ℕ) (d : A) → a ≤ length old → j < a → getD (put a new old) j d ≡ getD old j d
   getD-put-before a new old j d r h =

@@ -1,16 +1,15 @@
 -- A loop that walks a list xs of m elements with a state and stores what is emitted from place `to` on: its invariant, with the laws of a turn and of the end.
-use mathlib.Core.Path.{_≡_, refl, sym, ap, _∙_, subst}
+use mathlib.Core.Path.{_≡_, refl, sym, ap, _∙_}
 use mathlib.Core.List.{List, [], _∷_, _++_}
 use Prim.Native.Nat.{ℕ, suc, _+_, _≤_, _<_}
-use native.Mathlib.Nat.{zero-add}
 use native.Mathlib.Numerals.{add-one}
 use native.Mathlib.Omega.{arith}
-use lib.ListN.{length, drop, getD, set, drop-of-length-le}
+use lib.ListN.{length, drop, getD, set}
 use lib.Seq.{drop-cons}
 use Rattle.grouping_marks.specs.Over.{over, put, part}
 use Rattle.grouping_marks.specs.Scan.{scan, after}
 use Rattle.grouping_marks.specs.Passes.{Room}
-use Rattle.grouping_marks.proofs.OverLaws.{length-part, put-front}
+use Rattle.grouping_marks.proofs.OverLaws.{length-part}
 use Rattle.grouping_marks.proofs.FillLaws.{Fill, Onward, fill-start, fill-next, fill-end, fill-read}
 
 pub after-append : {S A : Type 0} (next : S → A → S) (s : S) (xs ys : List A) → after next s (xs ++ ys) ≡ after next (after next s xs) ys
@@ -56,25 +55,7 @@ module _ {S A B : Type 0} {next : S → A → S} {emit : S → A → B} {s₀ : 
 
   pub ended : {to : ℕ} → Walk next emit s₀ xs m to w₀ w s i → m ≤ i → w ≡ put to (scan next emit s₀ xs) w₀
   ended x h = fill-end (x .fill) h
-
-  pub ended-state : {to : ℕ} → Walk next emit s₀ xs m to w₀ w s i → m ≤ i → s ≡ after next s₀ xs
-  unfolding after
-  ended-state x h =
-      let k : length xs ≤ i = omega (arith, length-scan next emit s₀ xs, x .fill .size) in
-      rw (drop-of-length-le xs k) at (x .last)
-
   -- ---- a walk that writes the front
-
-  pub turn-front : {s′ : S} {v : B} (d : A) → Walk next emit s₀ xs m 0 w₀ w s i → i < m → v ≡ emit s (getD xs i d) → s′ ≡ next s (getD xs i d)
-      → Walk next emit s₀ xs m 0 w₀ (set w i v) s′ (i + 1)
-  turn-front {s′} {v} d x h q e = subst (λ (k : ℕ). Walk next emit s₀ xs m 0 w₀ (set w k v) s′ (i + 1)) (zero-add i) (turn d x h q e)
-
-  pub ended-front : Walk next emit s₀ xs m 0 w₀ w s i → m ≤ i → w ≡ over (scan next emit s₀ xs) w₀
-  ended-front x h = ended x h ∙ put-front (scan next emit s₀ xs) w₀
-
-pub start-front : {S A B : Type 0} (next : S → A → S) (emit : S → A → B) (s₀ : S) (xs : List A) (m : ℕ) (w₀ : List B) → length xs ≡ m → m ≤ length w₀
-    → Walk next emit s₀ xs m 0 w₀ w₀ s₀ 0
-start-front next emit s₀ xs m w₀ e h = start next emit s₀ xs m 0 w₀ e (omega arith)
 
 -- ---- a walk over m places of the very slice that it writes
 

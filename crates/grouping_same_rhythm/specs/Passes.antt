@@ -11,7 +11,7 @@ use Rattle.grouping_interval.specs.IntervalGrouping.{intervalMarks}
 use Rattle.grouping_normalizer.specs.Ordered.{ordered, AllFinite}
 use Rattle.grouping_normalizer.specs.Normalizer.{distinct}
 use Rattle.grouping_same_rhythm.specs.Own.{modalDelta, ownsOf}
-use Rattle.grouping_same_rhythm.specs.SameRhythm.{firstsOf, startsOf, intervalsOf}
+use Rattle.grouping_same_rhythm.specs.SameRhythm.{firstsOf}
 use Rattle.grouping_same_rhythm.specs.declared.own.Own.{Own}
 use Rattle.grouping_same_rhythm.specs.declared.own.Own.the-variants.{Absent}
 use Rattle.grouping_same_rhythm.specs.declared.owns.Recent.{Recent}

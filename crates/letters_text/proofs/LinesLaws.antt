@@ -15,7 +15,7 @@ use Rattle.letters_text.specs.Letters.{letterOf}
 use Rattle.letters_text.specs.Decimal.{decimal}
 use Rattle.letters_text.specs.Lines.{Columns, objectAt, objects, lineHead, parting, firstLetter, nextLetter, linesAfter, linesOf, lines, badLine}
 use Rattle.letters_text.specs.Memory.{Wrote, Written, LinesFit}
-use Rattle.letters_text.proofs.DecimalLaws.{decimal-two, decimal-four}
+use Rattle.letters_text.proofs.DecimalLaws.{decimal-two}
 use Rattle.letters_text.proofs.WroteLaws.{wrote-nothing, wrote-same, wrote-more, wrote-length, written, Progress, progress-start, progress-room, progress-turn, progress-end}
 
 -- ---- what parts two objects
@@ -42,9 +42,6 @@ module _ (p o : Object) where
 pub bad-length : (p : ℕ) → length (badLine p) ≡ length (decimal p) + 5
 unfolding badLine
 bad-length p = simp length-append (omega arith)
-
-pub bad-short : (p : ℕ) → length (badLine p) ≤ 9
-bad-short p = omega (arith, bad-length p, decimal-four p)
 
 pub head-length : (o : Object) → length (lineHead o) ≡ length (decimal (o .interval)) + 1
 unfolding lineHead

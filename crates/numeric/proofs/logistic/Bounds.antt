@@ -4,8 +4,7 @@ use mathlib.Core.List.{List, [], _∷_}
 use Prim.Native.Nat.{ℕ, zero, suc, _*_}
 use lib.Dec.{T, leb, leb→le}
 use lib.ListN.{getD}
-use lib.Ieee.{Float, nan, inf, fin, binary64, up, down, fits, ofBits, sub}
-use lib.Ieee.Bits.{ofBits-fits}
+use lib.Ieee.{Float, nan, inf, fin, binary64, up, down, ofBits, sub}
 use lib.Ieee.Fits.{and-l, and-r}
 use Rattle.numeric.specs.Logistic.{tableBits, logisticAt}
 use Rattle.numeric.proofs.Values.{one64}
@@ -37,10 +36,6 @@ bitTest a = small (ofBits binary64 a) && small (sub binary64 one64 (ofBits binar
 passes : T (each bitTest tableBits)
 unfolding tableBits ofBits sub
 passes = tt
-
-pub logistic-fits : (n : ℕ) → T (fits binary64 (logisticAt n))
-unfolding logisticAt
-logistic-fits n = ofBits-fits binary64 (getD tableBits n 0)
 
 pub logistic-bounded : (n : ℕ) → Bounded (logisticAt n) 1
 unfolding logisticAt
