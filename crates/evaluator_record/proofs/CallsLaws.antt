@@ -21,7 +21,8 @@ use Rattle.grouping_rhythm.specs.Rhythm.{baseMargin, groupsIn}
 use Rattle.evaluator_record.specs.declared.GroupRecord.{GroupRecord}
 use Rattle.evaluator_record.specs.declared.Recording.the-variants.{Done}
 use Rattle.evaluator_record.specs.declared.Recording.the-variants as answer
-use Rattle.evaluator_record.specs.Calls.{Memory, Outcome, short, windowGood, recordVerdict, cleared, recordBy, recordOutcome}
+use Rattle.evaluator_record.specs.Record.{recordOf}
+use Rattle.evaluator_record.specs.Calls.{Memory, Outcome, baseThreshold, short, windowGood, recordVerdict, cleared, recordBy, recordOutcome}
 use Rattle.evaluator_record.specs.Passes.{GroupRoom, Recorded}
 
 -- ---- no slice is too short
@@ -69,8 +70,9 @@ module _ (c : Chart) (m : Memory) where
   pub lengths-same : judged ≡ Accepted → length (c .deltas) ≡ length (c .kinds)
   lengths-same h = accepted-good c (short (size c) m) h .lengths .delta
 
-  pub group-room : (g : ℕ) → judged ≡ Accepted → g < groupsOf c → GroupRoom (c .kinds) (c .starts) (c .deltas) g (m .work) (m .scratch)
-  group-room g h there =
+  pub group-room : (margin : Float) (g : ℕ) → judged ≡ Accepted → g < groupsOf c → margin ≡ baseMargin
+      → GroupRoom margin (c .kinds) (c .starts) (c .deltas) g (m .work) (m .scratch)
+  group-room margin g h there b =
       let good = accepted-good c (short (size c) m) h in
       let e = enough (size c) m (good .room) in
       record {
@@ -78,7 +80,7 @@ module _ (c : Chart) (m : Memory) where
         started = good .lengths .start;
         whole = good .lengths .delta;
         numbers = λ i k. finite-time (getD (c .deltas) i nan) (good .objects i nan (omega (arith, good .lengths .delta)) .delta);
-        there = there;
+        there = omega (arith, there, ap (λ (x : Float). groupsIn x (c .kinds) (c .deltas)) b);
         regions = e .work;
         floats = e .scratch;
       }
@@ -110,10 +112,12 @@ module _ (c : Chart) (m : Memory) where
           → _≡_ {A = Outcome} (record { answer = answer.Refused 9 (record { 0 = 0 }); memory = m }) (recordOutcome c g window m)
       group-refused h k = refused-by 9 (record { 0 = 0 }) (tested true false h (le-ltb _ _ k))
 
-      pub record-done : windowGood window ≡ true → g < groupsOf c → (r : GroupRecord) (work : List ℕ) (scratch : List Float)
-          → Recorded (c .kinds) (c .starts) (c .deltas) g window (m .work) work (m .scratch) scratch r
+      pub record-done : windowGood window ≡ true → g < groupsOf c → (margin threshold : Float) (r : GroupRecord) (work : List ℕ) (scratch : List Float)
+          → Recorded margin threshold (c .kinds) (c .starts) (c .deltas) g window (m .work) work (m .scratch) scratch r
+          → margin ≡ baseMargin → threshold ≡ baseThreshold
           → _≡_ {A = Outcome} (record { answer = Done r; memory = record { work = work; scratch = scratch } }) (recordOutcome c g window m)
       unfolding recordOutcome recordBy cleared
-      record-done h k r work scratch x =
-          (λ t. record { answer = Done (x .answer t); memory = record { work = x .work-cleared t; scratch = x .scratch-cleared t } })
+      record-done h k margin threshold r work scratch x b e =
+          let answers = x .answer ∙ (λ t. recordOf (b t) (e t) window (c .kinds) (c .starts) (c .deltas) g) in
+          (λ t. record { answer = Done (answers t); memory = record { work = x .work-cleared t; scratch = x .scratch-cleared t } })
           ∙ sym (ap (λ (v : Verdict). recordBy v c g window m) (tested true true h (lt-ltb _ _ k)))

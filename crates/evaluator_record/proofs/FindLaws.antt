@@ -14,20 +14,18 @@ use Rattle.grouping_same_rhythm.specs.SameRhythm.{groupObjects, firstsOf, start
 use Rattle.grouping_same_rhythm.specs.SamePatterns.{patternOf}
 use Rattle.grouping_same_rhythm.specs.Passes.{IntervalsRoom}
 use Rattle.grouping_same_rhythm.specs.declared.patterns.Pattern.{Pattern}
-use Rattle.grouping_rhythm.specs.Rhythm.{baseMargin}
 use Rattle.evaluator_rhythm.specs.RepeatedInterval.{repeatedIntervalPenalty}
 use Rattle.evaluator_record.specs.Record.{recordOf}
-use Rattle.evaluator_record.specs.Calls.{baseThreshold}
 use Rattle.evaluator_record.specs.Passes.{GroupRoom, LocatedIs, FoundIs, Recorded}
 use Rattle.evaluator_record.specs.declared.found.Located.{Located}
 use Rattle.evaluator_record.specs.declared.found.Found.{Found}
 use Rattle.evaluator_record.proofs.GroupLaws.{objects-few, groups-few, firsts-grouped, intervals-grouped, firsts-below}
 
 -- ---- the notes are located
-module _ {kinds : List ℕ} {starts deltas : List Float} {g : ℕ} {work₀ work : List ℕ} {scratch₀ scratch₁ : List Float} {r : Located}
-    (room : GroupRoom kinds starts deltas g work₀ scratch₀) (at : LocatedIs kinds starts deltas g work₀ work scratch₀ scratch₁ r) where
+module _ {margin : Float} {kinds : List ℕ} {starts deltas : List Float} {g : ℕ} {work₀ work : List ℕ} {scratch₀ scratch₁ : List Float} {r : Located}
+    (room : GroupRoom margin kinds starts deltas g work₀ scratch₀) (at : LocatedIs margin kinds starts deltas g work₀ work scratch₀ scratch₁ r) where
   few : r .groups ≤ length kinds
-  few = omega (arith, at .groups, groups-few baseMargin kinds deltas (room .whole), objects-few kinds)
+  few = omega (arith, at .groups, groups-few margin kinds deltas (room .whole), objects-few kinds)
 
   pub groups-small : length kinds + r .groups ≤ 32768
   groups-small = omega (arith, few, room .few)
@@ -38,13 +36,13 @@ module _ {kinds : List ℕ} {starts deltas : List Float} {g : ℕ} {work₀ work
   pub region-inside : length kinds + r .groups ≤ length work
   region-inside = omega (arith, few, at .regions, room .regions)
 
-  lent : take (length kinds + r .groups - length kinds) (drop (length kinds) work) ≡ firstsOf (groupObjects baseMargin kinds deltas)
+  lent : take (length kinds + r .groups - length kinds) (drop (length kinds) work) ≡ firstsOf (groupObjects margin kinds deltas)
   lent = lent-part (length kinds) (r .groups) work ∙ at .firsts
 
-  lent-room : IntervalsRoom starts (firstsOf (groupObjects baseMargin kinds deltas)) scratch₁
+  lent-room : IntervalsRoom starts (firstsOf (groupObjects margin kinds deltas)) scratch₁
   lent-room = record {
-    room = omega (arith, few, firsts-grouped baseMargin kinds deltas (room .whole), at .groups, at .floats, room .floats);
-    inside = λ k h. omega (arith, firsts-below baseMargin kinds deltas (room .whole) k h, room .started);
+    room = omega (arith, few, firsts-grouped margin kinds deltas (room .whole), at .groups, at .floats, room .floats);
+    inside = λ k h. omega (arith, firsts-below margin kinds deltas (room .whole) k h, room .started);
   }
 
   pub intervals-room : IntervalsRoom starts (take (length kinds + r .groups - length kinds) (drop (length kinds) work)) scratch₁
@@ -52,16 +50,16 @@ module _ {kinds : List ℕ} {starts deltas : List Float} {g : ℕ} {work₀ work
 
   -- ---- and the groups' intervals are filled
   module _ {scratch : List Float}
-      (filled : scratch ≡ over (intervalsOf baseMargin (startsOf starts (take (length kinds + r .groups - length kinds) (drop (length kinds) work)))) scratch₁) where
+      (filled : scratch ≡ over (intervalsOf margin (startsOf starts (take (length kinds + r .groups - length kinds) (drop (length kinds) work)))) scratch₁) where
     abbrev intervals : List Float
-    intervals = groupIntervals baseMargin kinds starts deltas
+    intervals = groupIntervals margin kinds starts deltas
 
     long : length intervals ≡ r .groups
-    long = intervals-grouped baseMargin kinds deltas (room .whole) starts ∙ sym (at .groups)
+    long = intervals-grouped margin kinds deltas (room .whole) starts ∙ sym (at .groups)
 
     written : scratch ≡ over intervals scratch₁
     unfolding groupIntervals
-    written = filled ∙ ap (λ (l : List ℕ). over (intervalsOf baseMargin (startsOf starts l)) scratch₁) lent
+    written = filled ∙ ap (λ (l : List ℕ). over (intervalsOf margin (startsOf starts l)) scratch₁) lent
 
     floats-left : length scratch ≡ length scratch₀
     floats-left = ap length written ∙ length-over intervals scratch₁ (omega (arith, long, few, at .floats, room .floats)) ∙ at .floats
@@ -75,8 +73,8 @@ module _ {kinds : List ℕ} {starts deltas : List Float} {g : ℕ} {work₀ work
     pub intervals-counted : r .groups ≡ length (take (r .groups) scratch)
     intervals-counted = sym long ∙ ap length (sym intervals-front)
 
-    pub found : (p : Pattern) → p ≡ patternOf baseMargin (take (r .groups) scratch) g
-        → FoundIs kinds starts deltas g work₀ work scratch₀ scratch (
+    pub found : (p : Pattern) → p ≡ patternOf margin (take (r .groups) scratch) g
+        → FoundIs margin kinds starts deltas g work₀ work scratch₀ scratch (
         record { first = r .first; notes = r .notes; owns = r .owns; duration = r .duration; interval = getD scratch g nan; pattern = p }
         )
     found p e = record {
@@ -85,7 +83,7 @@ module _ {kinds : List ℕ} {starts deltas : List Float} {g : ℕ} {work₀ work
       owns = at .owns;
       duration = at .duration;
       interval = sym (getD-take (r .groups) scratch g nan group-below) ∙ ap (λ (l : List Float). getD l g nan) intervals-front;
-      pattern = e ∙ ap (λ (l : List Float). patternOf baseMargin l g) intervals-front;
+      pattern = e ∙ ap (λ (l : List Float). patternOf margin l g) intervals-front;
       regions = at .regions;
       floats = floats-left;
       past = at .past;
@@ -94,16 +92,15 @@ module _ {kinds : List ℕ} {starts deltas : List Float} {g : ℕ} {work₀ work
 
 -- ---- the group is found, and both slices are cleared
 pub recorded : {kinds : List ℕ} {starts deltas : List Float} {g : ℕ} {window : Float} {work₀ work₁ work : List ℕ} {scratch₀ scratch₁ scratch : List Float} {f : Found}
-    {threshold ratio ratio′ penalty patternratio : Float}
-    → FoundIs kinds starts deltas g work₀ work₁ scratch₀ scratch₁ f
+    {margin threshold ratio ratio′ penalty patternratio : Float}
+    → FoundIs margin kinds starts deltas g work₀ work₁ scratch₀ scratch₁ f
     → work ≡ over (replicate (8 * length kinds) 0) work₁
     → scratch ≡ over (replicate (length kinds) (ofBits binary64 0)) scratch₁
     → ratio ≡ ratioOf (f .owns .newest) (f .owns .second)
     → ratio′ ≡ ratio
-    → threshold ≡ baseThreshold
     → penalty ≡ repeatedIntervalPenalty threshold (f .owns) (f .notes) (f .duration) window
     → patternratio ≡ f .pattern .ratio
-    → Recorded kinds starts deltas g window work₀ work scratch₀ scratch (
+    → Recorded margin threshold kinds starts deltas g window work₀ work scratch₀ scratch (
     record {
       first = record { 0 = f .first };
       notes = f .notes;
@@ -116,9 +113,9 @@ pub recorded : {kinds : List ℕ} {starts deltas : List Float} {g : ℕ} {window
     }
     )
 unfolding recordOf
-recorded {kinds} {starts} {deltas} {g} {window} {work₀} {work₁} {work} {scratch₀} {scratch₁} {scratch} {f} x cleared floats r r′ h p q =
+recorded {kinds} {starts} {deltas} {g} {window} {work₀} {work₁} {work} {scratch₀} {scratch₁} {scratch} {f} {margin} {threshold} x cleared floats r r′ p q =
     let ratios = r′ ∙ r ∙ (λ t. ratioOf (x .owns t .newest) (x .owns t .second)) in
-    let penalties = p ∙ (λ t. repeatedIntervalPenalty (h t) (x .owns t) (x .notes t) (x .duration t) window) in
+    let penalties = p ∙ (λ t. repeatedIntervalPenalty threshold (x .owns t) (x .notes t) (x .duration t) window) in
     let patterns = q ∙ (λ t. x .pattern t .ratio) in
     record {
       answer = λ t. record {

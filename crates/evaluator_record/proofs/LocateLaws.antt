@@ -21,7 +21,7 @@ use Rattle.grouping_same_rhythm.specs.SameRhythm.{rhythmMarks, groupObjects, gr
 use Rattle.grouping_same_rhythm.specs.Own.{ownsOf}
 use Rattle.grouping_same_rhythm.specs.Passes.{GroupThere, ReachedIs, FirstsRoom, FirstsListed, recentOf}
 use Rattle.grouping_same_rhythm.specs.declared.owns.Reached.{Reached}
-use Rattle.grouping_rhythm.specs.Rhythm.{baseMargin, groupsIn}
+use Rattle.grouping_rhythm.specs.Rhythm.{groupsIn}
 use Rattle.evaluator_record.specs.Record.{objectsIn, ownsAt, durationOf}
 use Rattle.evaluator_record.specs.Passes.{GroupRoom, LocatedIs}
 use Rattle.evaluator_record.proofs.GroupLaws.{objects-few, deltas-noted, groups-few, firsts-grouped}
@@ -35,8 +35,8 @@ pub record Readable (starts : List Float) (work : List ℕ) (r : Reached) : Type
   pub started : (i : ℕ) → i < r .end → getD work i 0 < length starts
 
 -- ---- the notes are listed
-module _ {kinds : List ℕ} {starts deltas : List Float} {g : ℕ} {work₀ work₁ : List ℕ} {scratch₀ scratch₁ : List Float} {m : ℕ}
-    (room : GroupRoom kinds starts deltas g work₀ scratch₀) (listed : NotesListed kinds deltas work₀ work₁ scratch₀ scratch₁ m) where
+module _ {margin : Float} {kinds : List ℕ} {starts deltas : List Float} {g : ℕ} {work₀ work₁ : List ℕ} {scratch₀ scratch₁ : List Float} {m : ℕ}
+    (room : GroupRoom margin kinds starts deltas g work₀ scratch₀) (listed : NotesListed kinds deltas work₀ work₁ scratch₀ scratch₁ m) where
   noted : length (noteDeltas kinds deltas) ≡ m
   noted = deltas-noted kinds deltas (room .whole) ∙ sym (listed .count)
 
@@ -71,47 +71,47 @@ module _ {kinds : List ℕ} {starts deltas : List Float} {g : ℕ} {work₀ work
     room = omega (arith, front-long, notes-few, work-long, room .regions);
   }
 
-  there : GroupThere baseMargin (noteDeltas kinds deltas) g
+  there : GroupThere margin (noteDeltas kinds deltas) g
   unfolding groupsIn rhythmMarks
   there = record { finite = record { each = note-deltas-all (λ (x : Float). T (finite x)) kinds deltas (room .numbers) }; there = room .there }
 
-  pub group-there : GroupThere baseMargin (take m scratch₁) g
-  group-there = subst (λ (ds : List Float). GroupThere baseMargin ds g) (sym deltas-front) there
+  pub group-there : GroupThere margin (take m scratch₁) g
+  group-there = subst (λ (ds : List Float). GroupThere margin ds g) (sym deltas-front) there
 
   -- ---- and so are the groups' first objects
-  module _ {work₂ : List ℕ} {groups : ℕ} (firsts : FirstsListed baseMargin (take m scratch₁) work₁ work₂ (length kinds) groups) where
-    counted : groups ≡ groupsIn baseMargin kinds deltas
+  module _ {work₂ : List ℕ} {groups : ℕ} (firsts : FirstsListed margin (take m scratch₁) work₁ work₂ (length kinds) groups) where
+    counted : groups ≡ groupsIn margin kinds deltas
     unfolding groupsIn rhythmMarks
-    counted = firsts .count ∙ (λ t. groupCount (intervalMarks baseMargin (deltas-front t)))
+    counted = firsts .count ∙ (λ t. groupCount (intervalMarks margin (deltas-front t)))
 
-    written : work₂ ≡ put (length kinds) (firstsOf (groupObjects baseMargin kinds deltas)) work₁
+    written : work₂ ≡ put (length kinds) (firstsOf (groupObjects margin kinds deltas)) work₁
     unfolding groupObjects rhythmMarks
     written =
         firsts .objects
-        ∙ ap (λ (n : ℕ). put (length kinds) (firstsOf (parted (intervalMarks baseMargin (take m scratch₁)) (take n work₁))) work₁) front-long
-        ∙ (λ t. put (length kinds) (firstsOf (parted (intervalMarks baseMargin (deltas-front t)) (objects-front t))) work₁)
+        ∙ ap (λ (n : ℕ). put (length kinds) (firstsOf (parted (intervalMarks margin (take m scratch₁)) (take n work₁))) work₁) front-long
+        ∙ (λ t. put (length kinds) (firstsOf (parted (intervalMarks margin (deltas-front t)) (objects-front t))) work₁)
 
-    firsts-long : length (firstsOf (groupObjects baseMargin kinds deltas)) ≡ groups
-    firsts-long = firsts-grouped baseMargin kinds deltas (room .whole) ∙ sym counted
+    firsts-long : length (firstsOf (groupObjects margin kinds deltas)) ≡ groups
+    firsts-long = firsts-grouped margin kinds deltas (room .whole) ∙ sym counted
 
     firsts-few : groups ≤ m
-    firsts-few = omega (arith, counted, groups-few baseMargin kinds deltas (room .whole), listed .count)
+    firsts-few = omega (arith, counted, groups-few margin kinds deltas (room .whole), listed .count)
 
     regions-left : length work₂ ≡ length work₀
     regions-left =
         ap length written
-        ∙ length-put (length kinds) (firstsOf (groupObjects baseMargin kinds deltas)) work₁ (omega (arith, firsts-long, firsts-few, notes-few, work-long, room .regions))
+        ∙ length-put (length kinds) (firstsOf (groupObjects margin kinds deltas)) work₁ (omega (arith, firsts-long, firsts-few, notes-few, work-long, room .regions))
         ∙ work-long
 
     object-at : (i : ℕ) → i < m → getD work₂ i 0 ≡ getD (noteObjects kinds) i 0
     object-at i h =
         ap (λ (l : List ℕ). getD l i 0) written
-        ∙ getD-put-before (length kinds) (firstsOf (groupObjects baseMargin kinds deltas)) work₁ i 0 (omega (arith, work-long, room .regions)) (omega (arith, notes-few))
+        ∙ getD-put-before (length kinds) (firstsOf (groupObjects margin kinds deltas)) work₁ i 0 (omega (arith, work-long, room .regions)) (omega (arith, notes-few))
         ∙ sym (getD-take m work₁ i 0 h)
         ∙ ap (λ (l : List ℕ). getD l i 0) objects-front
 
     -- ---- and group g is reached
-    module _ {left : List Float} {r : Reached} (reached : ReachedIs baseMargin (take m scratch₁) left g r) where
+    module _ {left : List Float} {r : Reached} (reached : ReachedIs margin (take m scratch₁) left g r) where
       end-inside : r .end ≤ m
       end-inside = omega (arith, reached .upto, front-long)
 
@@ -127,38 +127,38 @@ module _ {kinds : List ℕ} {starts deltas : List Float} {g : ℕ} {work₀ work
         started = λ i h. omega (arith, object-below-all i h, room .started);
       }
 
-      group-notes : objectsIn baseMargin kinds deltas g ≡ part (r .at) (r .end - r .at) (noteObjects kinds)
+      group-notes : objectsIn margin kinds deltas g ≡ part (r .at) (r .end - r .at) (noteObjects kinds)
       unfolding objectsIn groupObjects rhythmMarks
       group-notes =
-          (λ t. getD (parted (intervalMarks baseMargin (sym deltas-front t)) (noteObjects kinds)) g [])
+          (λ t. getD (parted (intervalMarks margin (sym deltas-front t)) (noteObjects kinds)) g [])
           ∙ reached .notes (noteObjects kinds) (omega (arith, listed .count, front-long))
 
-      noted-long : length (objectsIn baseMargin kinds deltas g) ≡ r .end - r .at
+      noted-long : length (objectsIn margin kinds deltas g) ≡ r .end - r .at
       noted-long = ap length group-notes ∙ length-part (r .at) (r .end - r .at) (noteObjects kinds) (omega (arith, reached .from, end-inside, listed .count))
 
-      noted-at : (i : ℕ) → i < r .end - r .at → getD (objectsIn baseMargin kinds deltas g) i 0 ≡ getD work₂ (r .at + i) 0
+      noted-at : (i : ℕ) → i < r .end - r .at → getD (objectsIn margin kinds deltas g) i 0 ≡ getD work₂ (r .at + i) 0
       noted-at i h =
           ap (λ (l : List ℕ). getD l i 0) group-notes ∙ getD-part (r .at) (r .end - r .at) (noteObjects kinds) i 0 h
           ∙ sym (object-at (r .at + i) (omega (arith, reached .from, end-inside)))
 
-      first-is : getD work₂ (r .at) 0 ≡ getD (objectsIn baseMargin kinds deltas g) 0 0
+      first-is : getD work₂ (r .at) 0 ≡ getD (objectsIn margin kinds deltas g) 0 0
       first-is =
           let e : r .at ≡ r .at + 0 = omega arith in
           ap (λ (i : ℕ). getD work₂ i 0) e ∙ sym (noted-at 0 (omega (arith, reached .from)))
 
-      last-is : getD work₂ (r .end - 1) 0 ≡ getD (objectsIn baseMargin kinds deltas g) (length (objectsIn baseMargin kinds deltas g) - 1) 0
+      last-is : getD work₂ (r .end - 1) 0 ≡ getD (objectsIn margin kinds deltas g) (length (objectsIn margin kinds deltas g) - 1) 0
       last-is =
           let e : r .end - 1 ≡ r .at + (r .end - r .at - 1) = omega (arith, reached .from) in
           ap (λ (i : ℕ). getD work₂ i 0) e
           ∙ sym (noted-at (r .end - r .at - 1) (omega (arith, reached .from)))
-          ∙ ap (λ (n : ℕ). getD (objectsIn baseMargin kinds deltas g) (n - 1) 0) (sym noted-long)
+          ∙ ap (λ (n : ℕ). getD (objectsIn margin kinds deltas g) (n - 1) 0) (sym noted-long)
 
-      owns-is : r .owns ≡ ownsAt baseMargin kinds deltas g
+      owns-is : r .owns ≡ ownsAt margin kinds deltas g
       unfolding ownsAt groupDeltas rhythmMarks
-      owns-is = reached .owns ∙ (λ t. recentOf (ownsOf baseMargin (parted (intervalMarks baseMargin (deltas-front t)) (deltas-front t))) g)
+      owns-is = reached .owns ∙ (λ t. recentOf (ownsOf margin (parted (intervalMarks margin (deltas-front t)) (deltas-front t))) g)
 
       pub located : length left ≡ length (take m scratch₁)
-          → LocatedIs kinds starts deltas g work₀ work₂ scratch₀ (left ++ drop m scratch₁) (
+          → LocatedIs margin kinds starts deltas g work₀ work₂ scratch₀ (left ++ drop m scratch₁) (
           record {
             first = getD work₂ (r .at) 0;
             notes = r .end - r .at;
@@ -179,13 +179,13 @@ module _ {kinds : List ℕ} {starts deltas : List Float} {g : ℕ} {work₀ work
             groups = counted;
             firsts =
                 ap (part (length kinds) groups) written
-                ∙ part-put-same (length kinds) groups (firstsOf (groupObjects baseMargin kinds deltas)) work₁ firsts-long
+                ∙ part-put-same (length kinds) groups (firstsOf (groupObjects margin kinds deltas)) work₁ firsts-long
                 (omega (arith, firsts-few, notes-few, work-long, room .regions));
             regions = regions-left;
             floats = ap length back ∙ length-over left scratch₁ (omega (arith, long, notes-inside)) ∙ scratch-long;
             past =
                 ap (drop (8 * length kinds)) written
-                ∙ drop-put (8 * length kinds) (length kinds) (firstsOf (groupObjects baseMargin kinds deltas)) work₁ (omega (arith, firsts-long, firsts-few, notes-few))
+                ∙ drop-put (8 * length kinds) (length kinds) (firstsOf (groupObjects margin kinds deltas)) work₁ (omega (arith, firsts-long, firsts-few, notes-few))
                 ∙ ap (drop (8 * length kinds)) (listed .numbers)
                 ∙ drop-over (noteObjects kinds) work₀ (8 * length kinds) (omega (arith, objects-few kinds));
             past-floats =

@@ -9,51 +9,50 @@ use lib.Ieee.Scale.{finite}
 use Rattle.grouping_marks.specs.Over.{over, part}
 use Rattle.grouping_same_rhythm.specs.SameRhythm.{groupObjects, firstsOf, groupIntervals}
 use Rattle.grouping_same_rhythm.specs.SamePatterns.{patternOf}
-use Rattle.grouping_rhythm.specs.Rhythm.{baseMargin, groupsIn}
+use Rattle.grouping_rhythm.specs.Rhythm.{groupsIn}
 use Rattle.evaluator_record.specs.Record.{objectsIn, ownsAt, durationOf, recordOf}
-use Rattle.evaluator_record.specs.Calls.{baseThreshold}
 use Rattle.evaluator_record.specs.declared.GroupRecord.{GroupRecord}
 use Rattle.evaluator_record.specs.declared.found.Located.{Located}
 use Rattle.evaluator_record.specs.declared.found.Found.{Found}
 
 -- a start and a finite delta for each object, a group g, and room in the work slices
-pub record GroupRoom (kinds : List ℕ) (starts deltas : List Float) (g : ℕ) (work : List ℕ) (scratch : List Float) : Type 0 where
+pub record GroupRoom (margin : Float) (kinds : List ℕ) (starts deltas : List Float) (g : ℕ) (work : List ℕ) (scratch : List Float) : Type 0 where
   pub few : length kinds ≤ 16384
   pub started : length starts ≡ length kinds
   pub whole : length deltas ≡ length kinds
   pub numbers : (i : ℕ) → i < length deltas → T (finite (getD deltas i nan))
-  pub there : g < groupsIn baseMargin kinds deltas
+  pub there : g < groupsIn margin kinds deltas
   pub regions : 8 * length kinds ≤ length work
   pub floats : length kinds ≤ length scratch
 
 -- what is said of group g's notes, with each group's first object in region 1; nothing is written past the regions
-pub record LocatedIs (kinds : List ℕ) (starts deltas : List Float) (g : ℕ) (work₀ work : List ℕ) (scratch₀ scratch : List Float) (r : Located) : Type 0 where
-  pub first : r .first ≡ getD (objectsIn baseMargin kinds deltas g) 0 0
-  pub notes : r .notes ≡ length (objectsIn baseMargin kinds deltas g)
-  pub owns : r .owns ≡ ownsAt baseMargin kinds deltas g
-  pub duration : r .duration ≡ durationOf starts (objectsIn baseMargin kinds deltas g)
-  pub groups : r .groups ≡ groupsIn baseMargin kinds deltas
-  pub firsts : part (length kinds) (r .groups) work ≡ firstsOf (groupObjects baseMargin kinds deltas)
+pub record LocatedIs (margin : Float) (kinds : List ℕ) (starts deltas : List Float) (g : ℕ) (work₀ work : List ℕ) (scratch₀ scratch : List Float) (r : Located) : Type 0 where
+  pub first : r .first ≡ getD (objectsIn margin kinds deltas g) 0 0
+  pub notes : r .notes ≡ length (objectsIn margin kinds deltas g)
+  pub owns : r .owns ≡ ownsAt margin kinds deltas g
+  pub duration : r .duration ≡ durationOf starts (objectsIn margin kinds deltas g)
+  pub groups : r .groups ≡ groupsIn margin kinds deltas
+  pub firsts : part (length kinds) (r .groups) work ≡ firstsOf (groupObjects margin kinds deltas)
   pub regions : length work ≡ length work₀
   pub floats : length scratch ≡ length scratch₀
   pub past : drop (8 * length kinds) work ≡ drop (8 * length kinds) work₀
   pub past-floats : drop (length kinds) scratch ≡ drop (length kinds) scratch₀
 
 -- what is found of group g; nothing is written past the regions
-pub record FoundIs (kinds : List ℕ) (starts deltas : List Float) (g : ℕ) (work₀ work : List ℕ) (scratch₀ scratch : List Float) (r : Found) : Type 0 where
-  pub first : r .first ≡ getD (objectsIn baseMargin kinds deltas g) 0 0
-  pub notes : r .notes ≡ length (objectsIn baseMargin kinds deltas g)
-  pub owns : r .owns ≡ ownsAt baseMargin kinds deltas g
-  pub duration : r .duration ≡ durationOf starts (objectsIn baseMargin kinds deltas g)
-  pub interval : r .interval ≡ getD (groupIntervals baseMargin kinds starts deltas) g nan
-  pub pattern : r .pattern ≡ patternOf baseMargin (groupIntervals baseMargin kinds starts deltas) g
+pub record FoundIs (margin : Float) (kinds : List ℕ) (starts deltas : List Float) (g : ℕ) (work₀ work : List ℕ) (scratch₀ scratch : List Float) (r : Found) : Type 0 where
+  pub first : r .first ≡ getD (objectsIn margin kinds deltas g) 0 0
+  pub notes : r .notes ≡ length (objectsIn margin kinds deltas g)
+  pub owns : r .owns ≡ ownsAt margin kinds deltas g
+  pub duration : r .duration ≡ durationOf starts (objectsIn margin kinds deltas g)
+  pub interval : r .interval ≡ getD (groupIntervals margin kinds starts deltas) g nan
+  pub pattern : r .pattern ≡ patternOf margin (groupIntervals margin kinds starts deltas) g
   pub regions : length work ≡ length work₀
   pub floats : length scratch ≡ length scratch₀
   pub past : drop (8 * length kinds) work ≡ drop (8 * length kinds) work₀
   pub past-floats : drop (length kinds) scratch ≡ drop (length kinds) scratch₀
 
 -- what record does with an accepted chart
-pub record Recorded (kinds : List ℕ) (starts deltas : List Float) (g : ℕ) (window : Float) (work₀ work : List ℕ) (scratch₀ scratch : List Float) (r : GroupRecord) : Type 0 where
-  pub answer : r ≡ recordOf baseMargin baseThreshold window kinds starts deltas g
+pub record Recorded (margin threshold : Float) (kinds : List ℕ) (starts deltas : List Float) (g : ℕ) (window : Float) (work₀ work : List ℕ) (scratch₀ scratch : List Float) (r : GroupRecord) : Type 0 where
+  pub answer : r ≡ recordOf margin threshold window kinds starts deltas g
   pub work-cleared : work ≡ over (replicate (8 * length kinds) 0) work₀
   pub scratch-cleared : scratch ≡ over (replicate (length kinds) (ofBits binary64 0)) scratch₀

@@ -32,27 +32,30 @@ fn locate(
     kind: &[u8],
     start: &[f64],
     delta: &[f64],
+    margin: f64,
     g: usize,
     work: &mut [u16],
     scratch: &mut [f64],
 ) -> Located
-    requires { ⌜ GroupRoom (now kind) (now start) (now delta) g (now work) (now scratch) ⌝ }
-    ensures { λ r. ⌜ LocatedIs (now (kind .entry)) (now (start .entry)) (now (delta .entry)) g (now (work .entry)) (now (work .exit)) (now (scratch .entry)) (now (scratch .exit)) r ⌝ }
+    requires { ⌜ GroupRoom margin (now kind) (now start) (now delta) g (now work) (now scratch) ⌝ }
+    ensures { λ r. ⌜ LocatedIs margin (now (kind .entry)) (now (start .entry)) (now (delta .entry)) g (now (work .entry)) (now (work .exit)) (now (scratch .entry)) (now (scratch .exit)) r ⌝ }
 {
     let n = kind.len();
     let m = list_notes(kind, delta, work, scratch);
-    let groups = list_firsts(&scratch[..m], 5.0, work, n);
-    let reached = reach(&mut scratch[..m], 5.0, g);
+    let groups = list_firsts(&scratch[..m], margin, work, n);
+    let reached = reach(&mut scratch[..m], margin, g);
     let at = reached.at;
     let end = reached.end;
     let owns = reached.owns;
     let first = work[at] as usize;
     let last = work[end - 1] as usize;
+    let notes = end - at;
+    let duration = start[last] - start[first];
     Located {
         first,
-        notes: end - at,
+        notes,
         owns,
-        duration: start[last] - start[first],
+        duration,
         groups,
     }
 }
@@ -62,20 +65,21 @@ pub fn find(
     kind: &[u8],
     start: &[f64],
     delta: &[f64],
+    margin: f64,
     g: usize,
     work: &mut [u16],
     scratch: &mut [f64],
 ) -> Found
-    requires { ⌜ GroupRoom (now kind) (now start) (now delta) g (now work) (now scratch) ⌝ }
-    ensures { λ r. ⌜ FoundIs (now (kind .entry)) (now (start .entry)) (now (delta .entry)) g (now (work .entry)) (now (work .exit)) (now (scratch .entry)) (now (scratch .exit)) r ⌝ }
+    requires { ⌜ GroupRoom margin (now kind) (now start) (now delta) g (now work) (now scratch) ⌝ }
+    ensures { λ r. ⌜ FoundIs margin (now (kind .entry)) (now (start .entry)) (now (delta .entry)) g (now (work .entry)) (now (work .exit)) (now (scratch .entry)) (now (scratch .exit)) r ⌝ }
 {
     let n = kind.len();
-    let located = locate(kind, start, delta, g, work, scratch);
+    let located = locate(kind, start, delta, margin, g, work, scratch);
     let groups = located.groups;
     let owns = located.owns;
-    fill_intervals(start, &work[n..n + groups], 5.0, scratch);
+    fill_intervals(start, &work[n..n + groups], margin, scratch);
     let interval = scratch[g];
-    let pattern = pattern_at(&scratch[..groups], 5.0, g);
+    let pattern = pattern_at(&scratch[..groups], margin, g);
     Found {
         first: located.first,
         notes: located.notes,

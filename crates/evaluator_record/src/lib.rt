@@ -55,23 +55,25 @@ fn make_record(
     kind: &[u8],
     start: &[f64],
     delta: &[f64],
+    margin: f64,
+    threshold: f64,
     g: usize,
     window: f64,
     work: &mut [u16],
     scratch: &mut [f64],
 ) -> GroupRecord
-    requires { ⌜ GroupRoom (now kind) (now start) (now delta) g (now work) (now scratch) ⌝ }
-    ensures { λ r. ⌜ Recorded (now (kind .entry)) (now (start .entry)) (now (delta .entry)) g window (now (work .entry)) (now (work .exit)) (now (scratch .entry)) (now (scratch .exit)) r ⌝ }
+    requires { ⌜ GroupRoom margin (now kind) (now start) (now delta) g (now work) (now scratch) ⌝ }
+    ensures { λ r. ⌜ Recorded margin threshold (now (kind .entry)) (now (start .entry)) (now (delta .entry)) g window (now (work .entry)) (now (work .exit)) (now (scratch .entry)) (now (scratch .exit)) r ⌝ }
 {
     let n = kind.len();
-    let found = found::find(kind, start, delta, g, work, scratch);
+    let found = found::find(kind, start, delta, margin, g, work, scratch);
     fill::clear(work, 8 * n);
     fill::clear_floats(scratch, n);
     let owns = found.owns;
     let own = owns.newest;
     let previous = owns.second;
     let ratio = grouping_same_rhythm::own::ratio(own, previous);
-    let penalty = repeated_interval_penalty(owns, found.notes, found.duration, window, 0.1);
+    let penalty = repeated_interval_penalty(owns, found.notes, found.duration, window, threshold);
     let pattern = found.pattern;
     GroupRecord {
         first: ObjectIndex(found.first),
@@ -100,6 +102,9 @@ pub fn record(
         (recordOutcome (record { kinds = now (kind .entry); starts = now (start .entry); deltas = now (delta .entry); ratios = now (ratio .entry) }) g window
         (record { work = now (work .entry); scratch = now (scratch .entry) })) ⌝ }
 {
+    // the margin and the penalty threshold of the base
+    let margin = 5.0;
+    let threshold = 0.1;
     let n = kind.len();
     let short = too_short(n, work, scratch);
     match grouping_chart::chart::check(kind, start, delta, ratio, short) {
@@ -108,10 +113,21 @@ pub fn record(
             if !window_good(window) {
                 return Recording::Refused(8, ObjectIndex(0));
             }
-            if grouping_notes::count_groups(kind, delta, 5.0) <= g {
+            if grouping_notes::count_groups(kind, delta, margin) <= g {
                 return Recording::Refused(9, ObjectIndex(0));
             }
-            Recording::Done(make_record(kind, start, delta, g, window, work, scratch))
+            let r = make_record(
+                kind,
+                start,
+                delta,
+                margin,
+                threshold,
+                g,
+                window,
+                work,
+                scratch,
+            );
+            Recording::Done(r)
         }
     }
 }

@@ -17,7 +17,7 @@ use Rattle.grouping_interval.specs.IntervalGrouping.{intervalMarks}
 use Rattle.grouping_same_rhythm.specs.SameRhythm.{rhythmMarks, groupIntervals}
 use Rattle.grouping_same_rhythm.specs.SamePatterns.{patternNumber}
 use Rattle.grouping_rhythm.specs.declared.tables.Counts.{Counts}
-use Rattle.grouping_rhythm.specs.Rhythm.{baseMargin, perNote, noteGroup, groupOf, patternGroupOf, groupsIn}
+use Rattle.grouping_rhythm.specs.Rhythm.{perNote, noteGroup, groupOf, patternGroupOf, groupsIn}
 use Rattle.grouping_rhythm.specs.Passes.{Tabled, AnswerRoom, Grouped, LookRoom, TablesThere, Answered}
 use Rattle.grouping_rhythm.proofs.PerNoteLaws.{per-note-ext}
 use Rattle.grouping_rhythm.proofs.TablesLaws.{length-rhythm-marks, groups-few}
@@ -63,24 +63,24 @@ module _ {kinds : List ℕ} {k : Counts} {work group₀ pattern₀ : List ℕ} (
 
 module _ {kinds : List ℕ} {starts deltas : List Float} {group₀ pattern₀ work₀ : List ℕ} {scratch₀ : List Float} (r : AnswerRoom kinds starts deltas group₀ pattern₀ work₀ scratch₀) where
   -- each note's pattern, by its group
-  patterns-are : listed (gathered (groupNumbers (intervalMarks baseMargin (groupIntervals baseMargin kinds starts deltas))) (groupNumbers (rhythmMarks baseMargin kinds deltas))) kinds
-      ≡ patternGroupOf baseMargin kinds starts deltas
+  patterns-are : (margin : Float) → listed (gathered (groupNumbers (intervalMarks margin (groupIntervals margin kinds starts deltas))) (groupNumbers (rhythmMarks margin kinds deltas))) kinds
+      ≡ patternGroupOf margin kinds starts deltas
   unfolding patternGroupOf noteGroup patternNumber
-  patterns-are =
+  patterns-are margin =
       per-note-ext _ _ kinds
-      (λ j h. getD-gathered (groupNumbers (intervalMarks baseMargin (groupIntervals baseMargin kinds starts deltas))) (groupNumbers (rhythmMarks baseMargin kinds deltas)) j
-      (omega (arith, length-numbers (rhythmMarks baseMargin kinds deltas), length-rhythm-marks baseMargin kinds deltas (r .tables .whole))))
+      (λ j h. getD-gathered (groupNumbers (intervalMarks margin (groupIntervals margin kinds starts deltas))) (groupNumbers (rhythmMarks margin kinds deltas)) j
+      (omega (arith, length-numbers (rhythmMarks margin kinds deltas), length-rhythm-marks margin kinds deltas (r .tables .whole))))
 
-  module _ {work₁ : List ℕ} {scratch₁ : List Float} {k : Counts} (t : Tabled kinds starts deltas work₀ work₁ scratch₀ scratch₁ k) where
+  module _ {margin : Float} {work₁ : List ℕ} {scratch₁ : List Float} {k : Counts} (t : Tabled margin kinds starts deltas work₀ work₁ scratch₀ scratch₁ k) where
     pub tables-there : TablesThere kinds k work₁ group₀ pattern₀
     unfolding groupsIn
     tables-there =
-        let marks : List ℕ = rhythmMarks baseMargin kinds deltas in
-        let l : length marks ≡ length (notes kinds) = length-rhythm-marks baseMargin kinds deltas (r .tables .whole) in
+        let marks : List ℕ = rhythmMarks margin kinds deltas in
+        let l : length marks ≡ length (notes kinds) = length-rhythm-marks margin kinds deltas (r .tables .whole) in
         record {
           few = r .tables .few;
           noted = t .noted;
-          most = omega (arith, t .grouped, groups-few baseMargin kinds deltas (r .tables .whole), notes-few kinds);
+          most = omega (arith, t .grouped, groups-few margin kinds deltas (r .tables .whole), notes-few kinds);
           regions = omega (arith, t .regions, r .tables .regions);
           below = λ i h. subst (λ (xs : List ℕ). getD xs i 0 < k .groups) (sym (t .note-groups)) (omega (arith, numbers-below marks i (omega (arith, t .noted)), t .grouped));
           group-room = r .group-room;
@@ -89,14 +89,14 @@ module _ {kinds : List ℕ} {starts deltas : List Float} {group₀ pattern₀ wo
 
     pub answers-are : {work₂ work group pattern : List ℕ} {scratch : List Float} → Answered kinds k work₁ work₂ group₀ group pattern₀ pattern
         → work ≡ over (replicate (8 * length kinds) 0) work₂ → scratch ≡ over (replicate (length kinds) (ofBits binary64 0)) scratch₁
-        → Grouped kinds starts deltas group₀ group pattern₀ pattern work₀ work scratch₀ scratch k
+        → Grouped margin kinds starts deltas group₀ group pattern₀ pattern work₀ work scratch₀ scratch k
     unfolding groupOf noteGroup
     answers-are {work₂} a z s = record {
       counted = t .grouped;
       patterned = t .patterned;
       groups = a .groups ∙ ap (λ (xs : List ℕ). over (listed xs kinds) group₀) (t .note-groups);
       patterns =
-          a .patterns ∙ (λ i. over (listed (gathered (t .group-patterns i) (t .note-groups i)) kinds) pattern₀) ∙ ap (λ (xs : List ℕ). over xs pattern₀) patterns-are;
+          a .patterns ∙ (λ i. over (listed (gathered (t .group-patterns i) (t .note-groups i)) kinds) pattern₀) ∙ ap (λ (xs : List ℕ). over xs pattern₀) (patterns-are margin);
       cleared = z ∙ over-agree (replicate (8 * length kinds) 0) work₂ work₀ (8 * length kinds) (length-replicate (8 * length kinds) 0) (a .past ∙ t .past);
       floats = s ∙ over-agree (replicate (length kinds) (ofBits binary64 0)) scratch₁ scratch₀ (length kinds) (length-replicate (length kinds) (ofBits binary64 0)) (t .past-floats);
     }

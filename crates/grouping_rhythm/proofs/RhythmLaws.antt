@@ -1,5 +1,5 @@
 -- The outcome of rhythm, case by case, over plain lists: a refusal leaves all as lent, and an accepted call has room in every slice.
-use mathlib.Core.Path.{_≡_, refl, sym, ap, _∙_}
+use mathlib.Core.Path.{_≡_, refl, sym, ap, _∙_, subst}
 use mathlib.Core.Bool.{Bool, true, false, _||_, true≢false}
 use mathlib.Core.List.{List}
 use Prim.Native.Nat.{ℕ, _*_, _≤_}
@@ -14,7 +14,7 @@ use Rattle.grouping_chart.specs.declared.chart.Verdict.the-variants.{Accepted, 
 use Rattle.grouping_chart.proofs.AcceptedLaws.{accepted-good}
 use Rattle.grouping_rhythm.specs.declared.Grouping.the-variants as answer
 use Rattle.grouping_rhythm.specs.declared.tables.Counts.{Counts}
-use Rattle.grouping_rhythm.specs.Rhythm.{Memory, Outcome, short, filled, outcomeBy, rhythmOutcome}
+use Rattle.grouping_rhythm.specs.Rhythm.{baseMargin, Memory, Outcome, short, filled, outcomeBy, rhythmOutcome}
 use Rattle.grouping_rhythm.specs.Passes.{AnswerRoom, Grouped}
 
 -- ---- no slice is too short
@@ -60,12 +60,14 @@ module _ (c : Chart) (m : Memory) where
   unfolding rhythmOutcome outcomeBy
   rhythm-refused number place h = sym (ap (λ (v : Verdict). outcomeBy v c m) h)
 
-  -- the counts and the memory that the passes leave are the definition's
-  pub rhythm-done : (group pattern work : List ℕ) (scratch : List Float) (k : Counts) → judged ≡ Accepted
-      → Grouped (c .kinds) (c .starts) (c .deltas) (m .group) group (m .pattern) pattern (m .work) work (m .scratch) scratch k
+  -- the counts and the memory that the passes leave at the margin of the base are the definition's
+  pub rhythm-done : (margin : Float) (group pattern work : List ℕ) (scratch : List Float) (k : Counts) → judged ≡ Accepted
+      → Grouped margin (c .kinds) (c .starts) (c .deltas) (m .group) group (m .pattern) pattern (m .work) work (m .scratch) scratch k
+      → margin ≡ baseMargin
       → _≡_ {A = Outcome} (record { answer = answer.Done (k .groups) (k .patterns); memory = record { group = group; pattern = pattern; work = work; scratch = scratch } }) (rhythmOutcome c m)
   unfolding rhythmOutcome outcomeBy filled
-  rhythm-done group pattern work scratch k h e =
+  rhythm-done margin group pattern work scratch k h g b =
+      let e = subst (λ (x : Float). Grouped x (c .kinds) (c .starts) (c .deltas) (m .group) group (m .pattern) pattern (m .work) work (m .scratch) scratch k) b g in
       (λ t. record {
         answer = answer.Done (e .counted t) (e .patterned t);
         memory = record { group = e .groups t; pattern = e .patterns t; work = e .cleared t; scratch = e .floats t };

@@ -21,7 +21,7 @@ use Rattle.grouping_interval.proofs.IntervalLaws.{length-marks}
 use Rattle.grouping_notes.specs.Notes.{NotesListed}
 use Rattle.grouping_same_rhythm.specs.SameRhythm.{firstsOf, startsOf, intervalsOf, rhythmMarks, groupObjects, groupIntervals}
 use Rattle.grouping_same_rhythm.proofs.GroupsLaws.{length-starts, length-intervals, length-firsts, firsts-inside}
-use Rattle.grouping_rhythm.specs.Rhythm.{baseMargin, groupsIn, patternGroupsIn}
+use Rattle.grouping_rhythm.specs.Rhythm.{groupsIn, patternGroupsIn}
 use Rattle.grouping_rhythm.specs.Passes.{NumbersRoom, NotesNumbered, FirstsThere, GroupsNumbered, TablesRoom, Tabled}
 use Rattle.grouping_rhythm.proofs.RegionLaws.{length-group-numbers}
 
@@ -64,11 +64,11 @@ module _ (margin : Float) (kinds : List ℕ) (deltas : List Float) (e : length d
       omega (arith, count-le (intervalMarks margin values), length-marks margin values, length-group-intervals starts)
 
 -- ---- the notes listed and numbered: what is in regions 1 and 2 then
-pub record Noted (kinds : List ℕ) (deltas : List Float) (work₀ work : List ℕ) (scratch₀ scratch : List Float) (m groups : ℕ) : Type 0 where
+pub record Noted (margin : Float) (kinds : List ℕ) (deltas : List Float) (work₀ work : List ℕ) (scratch₀ scratch : List Float) (m groups : ℕ) : Type 0 where
   pub noted : m ≡ length (notes kinds)
-  pub grouped : groups ≡ groupsIn baseMargin kinds deltas
-  pub firsts : part (length kinds) groups work ≡ firstsOf (groupObjects baseMargin kinds deltas)
-  pub note-groups : part (2 * length kinds) m work ≡ groupNumbers (rhythmMarks baseMargin kinds deltas)
+  pub grouped : groups ≡ groupsIn margin kinds deltas
+  pub firsts : part (length kinds) groups work ≡ firstsOf (groupObjects margin kinds deltas)
+  pub note-groups : part (2 * length kinds) m work ≡ groupNumbers (rhythmMarks margin kinds deltas)
   pub regions : length work ≡ length work₀
   pub floats : length scratch ≡ length scratch₀
   pub past : drop (8 * length kinds) work ≡ drop (8 * length kinds) work₀
@@ -103,22 +103,23 @@ module _ {kinds : List ℕ} {starts deltas : List Float} {work₀ : List ℕ} {s
       regions = omega (arith, work-same, r .regions);
     }
 
-    pub noted : {work : List ℕ} {groups : ℕ} → NotesNumbered (take m scratch₁) (length kinds) work₁ work groups → Noted kinds deltas work₀ work scratch₀ scratch₁ m groups
+    pub noted : {margin : Float} {work : List ℕ} {groups : ℕ} → NotesNumbered margin (take m scratch₁) (length kinds) work₁ work groups
+        → Noted margin kinds deltas work₀ work scratch₀ scratch₁ m groups
     unfolding rhythmMarks groupObjects groupsIn
-    noted {work} {groups} a =
+    noted {margin} {work} {groups} a =
         let n : ℕ = length kinds in
-        let numbers : List ℕ = groupNumbers (rhythmMarks baseMargin kinds deltas) in
-        let firsts : List ℕ = firstsOf (groupObjects baseMargin kinds deltas) in
+        let numbers : List ℕ = groupNumbers (rhythmMarks margin kinds deltas) in
+        let firsts : List ℕ = firstsOf (groupObjects margin kinds deltas) in
         let mid : List ℕ = put n firsts work₁ in
-        let c : groups ≡ groupsIn baseMargin kinds deltas = a .count ∙ ap (λ (vs : List Float). groupCount (intervalMarks baseMargin vs)) values-are in
+        let c : groups ≡ groupsIn margin kinds deltas = a .count ∙ ap (λ (vs : List Float). groupCount (intervalMarks margin vs)) values-are in
         let w : work ≡ put (2 * n) numbers mid =
         a .tables
-        ∙ ap (λ (xs : List ℕ). put (2 * n) (groupNumbers (intervalMarks baseMargin (take m scratch₁))) (put n (firstsOf (parted (intervalMarks baseMargin (take m scratch₁)) xs)) work₁))
+        ∙ ap (λ (xs : List ℕ). put (2 * n) (groupNumbers (intervalMarks margin (take m scratch₁))) (put n (firstsOf (parted (intervalMarks margin (take m scratch₁)) xs)) work₁))
         (objects-are (length (take m scratch₁)) (length-take-le m scratch₁ notes-lent))
-        ∙ ap (λ (vs : List Float). put (2 * n) (groupNumbers (intervalMarks baseMargin vs)) (put n (firstsOf (parted (intervalMarks baseMargin vs) (noteObjects kinds))) work₁)) values-are in
-        let ln : length numbers ≡ m = length-group-numbers baseMargin (noteDeltas kinds deltas) ∙ length-note-deltas kinds deltas (r .whole) ∙ sym noted-count in
-        let lf : length firsts ≡ groups = length-first-objects baseMargin kinds deltas (r .whole) ∙ sym c in
-        let few : groups ≤ n = omega (arith, groups-few baseMargin kinds deltas (r .whole), notes-few kinds, c) in
+        ∙ ap (λ (vs : List Float). put (2 * n) (groupNumbers (intervalMarks margin vs)) (put n (firstsOf (parted (intervalMarks margin vs) (noteObjects kinds))) work₁)) values-are in
+        let ln : length numbers ≡ m = length-group-numbers margin (noteDeltas kinds deltas) ∙ length-note-deltas kinds deltas (r .whole) ∙ sym noted-count in
+        let lf : length firsts ≡ groups = length-first-objects margin kinds deltas (r .whole) ∙ sym c in
+        let few : groups ≤ n = omega (arith, groups-few margin kinds deltas (r .whole), notes-few kinds, c) in
         let most : m ≤ n = omega (arith, noted-count, notes-few kinds) in
         let room : 8 * n ≤ length work₁ = omega (arith, work-same, r .regions) in
         let same : length mid ≡ length work₁ = length-put n firsts work₁ (omega arith) in
@@ -140,9 +141,9 @@ module _ {kinds : List ℕ} {starts deltas : List Float} {work₀ : List ℕ} {s
         }
 
   -- ---- the groups numbered
-  module _ {work₁ : List ℕ} {scratch₁ : List Float} {m groups : ℕ} (a : Noted kinds deltas work₀ work₁ scratch₀ scratch₁ m groups) where
+  module _ {margin : Float} {work₁ : List ℕ} {scratch₁ : List Float} {m groups : ℕ} (a : Noted margin kinds deltas work₀ work₁ scratch₀ scratch₁ m groups) where
     few-groups : groups ≤ length kinds
-    few-groups = omega (arith, groups-few baseMargin kinds deltas (r .whole), notes-few kinds, a .grouped)
+    few-groups = omega (arith, groups-few margin kinds deltas (r .whole), notes-few kinds, a .grouped)
 
     pub firsts-there : FirstsThere starts (length kinds) groups work₁ scratch₁
     firsts-there = record {
@@ -152,21 +153,21 @@ module _ {kinds : List ℕ} {starts deltas : List Float} {work₀ : List ℕ} {s
       floats = omega (arith, a .floats, r .floats);
       inside = λ k h.
           subst (λ (xs : List ℕ). getD xs k 0 < length starts) (sym (a .firsts))
-          (omega (arith, first-object-below baseMargin kinds deltas (r .whole) k (omega (arith, length-first-objects baseMargin kinds deltas (r .whole), a .grouped)), r .started));
+          (omega (arith, first-object-below margin kinds deltas (r .whole) k (omega (arith, length-first-objects margin kinds deltas (r .whole), a .grouped)), r .started));
     }
 
-    pub tabled : {work : List ℕ} {scratch : List Float} {patterns : ℕ} → GroupsNumbered starts (length kinds) groups work₁ work scratch₁ scratch patterns
-        → Tabled kinds starts deltas work₀ work scratch₀ scratch (record { notes = m; groups = groups; patterns = patterns })
+    pub tabled : {work : List ℕ} {scratch : List Float} {patterns : ℕ} → GroupsNumbered margin starts (length kinds) groups work₁ work scratch₁ scratch patterns
+        → Tabled margin kinds starts deltas work₀ work scratch₀ scratch (record { notes = m; groups = groups; patterns = patterns })
     unfolding groupIntervals patternGroupsIn
     tabled {work} {scratch} {patterns} b =
         let n : ℕ = length kinds in
-        let values : List Float = groupIntervals baseMargin kinds starts deltas in
-        let numbers : List ℕ = groupNumbers (intervalMarks baseMargin values) in
+        let values : List Float = groupIntervals margin kinds starts deltas in
+        let numbers : List ℕ = groupNumbers (intervalMarks margin values) in
         let w : work ≡ put (3 * n) numbers work₁ =
-        b .tables ∙ ap (λ (xs : List ℕ). put (3 * n) (groupNumbers (intervalMarks baseMargin (intervalsOf baseMargin (startsOf starts xs)))) work₁) (a .firsts) in
-        let f : scratch ≡ over values scratch₁ = b .floats ∙ ap (λ (xs : List ℕ). over (intervalsOf baseMargin (startsOf starts xs)) scratch₁) (a .firsts) in
-        let lv : length values ≡ groups = length-group-intervals baseMargin kinds deltas (r .whole) starts ∙ sym (a .grouped) in
-        let ln : length numbers ≡ groups = length-group-numbers baseMargin values ∙ lv in
+        b .tables ∙ ap (λ (xs : List ℕ). put (3 * n) (groupNumbers (intervalMarks margin (intervalsOf margin (startsOf starts xs)))) work₁) (a .firsts) in
+        let f : scratch ≡ over values scratch₁ = b .floats ∙ ap (λ (xs : List ℕ). over (intervalsOf margin (startsOf starts xs)) scratch₁) (a .firsts) in
+        let lv : length values ≡ groups = length-group-intervals margin kinds deltas (r .whole) starts ∙ sym (a .grouped) in
+        let ln : length numbers ≡ groups = length-group-numbers margin values ∙ lv in
         let few : groups ≤ n = few-groups in
         let most : m ≤ n = omega (arith, a .noted, notes-few kinds) in
         let room : 8 * n ≤ length work₁ = omega (arith, a .regions, r .regions) in
@@ -174,7 +175,7 @@ module _ {kinds : List ℕ} {starts deltas : List Float} {work₀ : List ℕ} {s
         record {
           noted = a .noted;
           grouped = a .grouped;
-          patterned = b .count ∙ ap (λ (xs : List ℕ). groupCount (intervalMarks baseMargin (intervalsOf baseMargin (startsOf starts xs)))) (a .firsts);
+          patterned = b .count ∙ ap (λ (xs : List ℕ). groupCount (intervalMarks margin (intervalsOf margin (startsOf starts xs)))) (a .firsts);
           note-groups = ap (part (2 * n) m) w ∙ part-put-before (2 * n) m (3 * n) numbers work₁ (omega arith) (omega arith) ∙ a .note-groups;
           group-patterns = ap (part (3 * n) groups) w ∙ part-put-same (3 * n) groups numbers work₁ ln (omega arith);
           regions = ap length w ∙ length-put (3 * n) numbers work₁ (omega arith) ∙ a .regions;

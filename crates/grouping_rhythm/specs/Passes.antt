@@ -11,7 +11,7 @@ use Rattle.grouping_marks.specs.Parted.{parted}
 use Rattle.grouping_chart.specs.Object.{notes}
 use Rattle.grouping_interval.specs.IntervalGrouping.{intervalMarks}
 use Rattle.grouping_same_rhythm.specs.SameRhythm.{firstsOf, startsOf, intervalsOf, rhythmMarks, groupIntervals}
-use Rattle.grouping_rhythm.specs.Rhythm.{baseMargin, perNote, groupOf, patternGroupOf, groupsIn, patternGroupsIn}
+use Rattle.grouping_rhythm.specs.Rhythm.{perNote, groupOf, patternGroupOf, groupsIn, patternGroupsIn}
 use Rattle.grouping_rhythm.specs.declared.tables.Counts.{Counts}
 
 -- at most n notes, whose objects are in front, and room for the regions of n places
@@ -21,9 +21,9 @@ pub record NumbersRoom (deltas : List Float) (n : ℕ) (work : List ℕ) : Type 
   pub regions : 8 * n ≤ length work
 
 -- each group's first object in region 1, each note's group in region 2
-pub record NotesNumbered (deltas : List Float) (n : ℕ) (work₀ work : List ℕ) (r : ℕ) : Type 0 where
-  pub count : r ≡ groupCount (intervalMarks baseMargin deltas)
-  pub tables : work ≡ put (2 * n) (groupNumbers (intervalMarks baseMargin deltas)) (put n (firstsOf (parted (intervalMarks baseMargin deltas) (take (length deltas) work₀))) work₀)
+pub record NotesNumbered (margin : Float) (deltas : List Float) (n : ℕ) (work₀ work : List ℕ) (r : ℕ) : Type 0 where
+  pub count : r ≡ groupCount (intervalMarks margin deltas)
+  pub tables : work ≡ put (2 * n) (groupNumbers (intervalMarks margin deltas)) (put n (firstsOf (parted (intervalMarks margin deltas) (take (length deltas) work₀))) work₀)
 
 -- the groups' first objects, each with a start, are in region 1
 pub record FirstsThere (starts : List Float) (n groups : ℕ) (work : List ℕ) (scratch : List Float) : Type 0 where
@@ -34,10 +34,10 @@ pub record FirstsThere (starts : List Float) (n groups : ℕ) (work : List ℕ) 
   pub inside : (k : ℕ) → k < groups → getD (part n groups work) k 0 < length starts
 
 -- each group's pattern in region 3, by the intervals
-pub record GroupsNumbered (starts : List Float) (n groups : ℕ) (work₀ work : List ℕ) (scratch₀ scratch : List Float) (r : ℕ) : Type 0 where
-  pub count : r ≡ groupCount (intervalMarks baseMargin (intervalsOf baseMargin (startsOf starts (part n groups work₀))))
-  pub tables : work ≡ put (3 * n) (groupNumbers (intervalMarks baseMargin (intervalsOf baseMargin (startsOf starts (part n groups work₀))))) work₀
-  pub floats : scratch ≡ over (intervalsOf baseMargin (startsOf starts (part n groups work₀))) scratch₀
+pub record GroupsNumbered (margin : Float) (starts : List Float) (n groups : ℕ) (work₀ work : List ℕ) (scratch₀ scratch : List Float) (r : ℕ) : Type 0 where
+  pub count : r ≡ groupCount (intervalMarks margin (intervalsOf margin (startsOf starts (part n groups work₀))))
+  pub tables : work ≡ put (3 * n) (groupNumbers (intervalMarks margin (intervalsOf margin (startsOf starts (part n groups work₀))))) work₀
+  pub floats : scratch ≡ over (intervalsOf margin (startsOf starts (part n groups work₀))) scratch₀
 
 -- a start and a delta for each object, and room in the work slices
 pub record TablesRoom (kinds : List ℕ) (starts deltas : List Float) (work : List ℕ) (scratch : List Float) : Type 0 where
@@ -48,12 +48,12 @@ pub record TablesRoom (kinds : List ℕ) (starts deltas : List Float) (work : Li
   pub floats : length kinds ≤ length scratch
 
 -- each note's group in region 2, each group's pattern in region 3; nothing is written past the regions
-pub record Tabled (kinds : List ℕ) (starts deltas : List Float) (work₀ work : List ℕ) (scratch₀ scratch : List Float) (r : Counts) : Type 0 where
+pub record Tabled (margin : Float) (kinds : List ℕ) (starts deltas : List Float) (work₀ work : List ℕ) (scratch₀ scratch : List Float) (r : Counts) : Type 0 where
   pub noted : r .notes ≡ length (notes kinds)
-  pub grouped : r .groups ≡ groupsIn baseMargin kinds deltas
-  pub patterned : r .patterns ≡ patternGroupsIn baseMargin kinds starts deltas
-  pub note-groups : part (2 * length kinds) (r .notes) work ≡ groupNumbers (rhythmMarks baseMargin kinds deltas)
-  pub group-patterns : part (3 * length kinds) (r .groups) work ≡ groupNumbers (intervalMarks baseMargin (groupIntervals baseMargin kinds starts deltas))
+  pub grouped : r .groups ≡ groupsIn margin kinds deltas
+  pub patterned : r .patterns ≡ patternGroupsIn margin kinds starts deltas
+  pub note-groups : part (2 * length kinds) (r .notes) work ≡ groupNumbers (rhythmMarks margin kinds deltas)
+  pub group-patterns : part (3 * length kinds) (r .groups) work ≡ groupNumbers (intervalMarks margin (groupIntervals margin kinds starts deltas))
   pub regions : length work ≡ length work₀
   pub floats : length scratch ≡ length scratch₀
   pub past : drop (8 * length kinds) work ≡ drop (8 * length kinds) work₀
@@ -66,11 +66,11 @@ pub record AnswerRoom (kinds : List ℕ) (starts deltas : List Float) (group pat
   pub pattern-room : length kinds ≤ length pattern
 
 -- what rhythm does with an accepted chart
-pub record Grouped (kinds : List ℕ) (starts deltas : List Float) (group₀ group pattern₀ pattern work₀ work : List ℕ) (scratch₀ scratch : List Float) (r : Counts) : Type 0 where
-  pub counted : r .groups ≡ groupsIn baseMargin kinds deltas
-  pub patterned : r .patterns ≡ patternGroupsIn baseMargin kinds starts deltas
-  pub groups : group ≡ over (groupOf baseMargin kinds deltas) group₀
-  pub patterns : pattern ≡ over (patternGroupOf baseMargin kinds starts deltas) pattern₀
+pub record Grouped (margin : Float) (kinds : List ℕ) (starts deltas : List Float) (group₀ group pattern₀ pattern work₀ work : List ℕ) (scratch₀ scratch : List Float) (r : Counts) : Type 0 where
+  pub counted : r .groups ≡ groupsIn margin kinds deltas
+  pub patterned : r .patterns ≡ patternGroupsIn margin kinds starts deltas
+  pub groups : group ≡ over (groupOf margin kinds deltas) group₀
+  pub patterns : pattern ≡ over (patternGroupOf margin kinds starts deltas) pattern₀
   pub cleared : work ≡ over (replicate (8 * length kinds) 0) work₀
   pub floats : scratch ≡ over (replicate (length kinds) (ofBits binary64 0)) scratch₀
 

@@ -38,16 +38,17 @@ fn fill_groups(
     kind: &[u8],
     start: &[f64],
     delta: &[f64],
+    margin: f64,
     group: &mut [u16],
     pattern: &mut [u16],
     work: &mut [u16],
     scratch: &mut [f64],
 ) -> Counts
     requires { ⌜ AnswerRoom (now kind) (now start) (now delta) (now group) (now pattern) (now work) (now scratch) ⌝ }
-    ensures { λ r. ⌜ Grouped (now (kind .entry)) (now (start .entry)) (now (delta .entry)) (now (group .entry)) (now (group .exit)) (now (pattern .entry)) (now (pattern .exit)) (now (work .entry)) (now (work .exit)) (now (scratch .entry)) (now (scratch .exit)) r ⌝ }
+    ensures { λ r. ⌜ Grouped margin (now (kind .entry)) (now (start .entry)) (now (delta .entry)) (now (group .entry)) (now (group .exit)) (now (pattern .entry)) (now (pattern .exit)) (now (work .entry)) (now (work .exit)) (now (scratch .entry)) (now (scratch .exit)) r ⌝ }
 {
     let n = kind.len();
-    let k = tables::group_notes(kind, start, delta, work, scratch);
+    let k = tables::group_notes(kind, start, delta, margin, work, scratch);
     spread::fill_answers(kind, k, work, group, pattern);
     fill::clear(work, 8 * n);
     fill::clear_floats(scratch, n);
@@ -69,12 +70,14 @@ pub fn rhythm(
         (rhythmOutcome (record { kinds = now (kind .entry); starts = now (start .entry); deltas = now (delta .entry); ratios = now (ratio .entry) })
         (record { group = now (group .entry); pattern = now (pattern .entry); work = now (work .entry); scratch = now (scratch .entry) })) ⌝ }
 {
+    // the margin of the base
+    let margin = 5.0;
     let n = kind.len();
     let short = too_short(n, group, pattern, work, scratch);
     match grouping_chart::chart::check(kind, start, delta, ratio, short) {
         Verdict::Refused(number, place) => Grouping::Refused(number, place),
         Verdict::Accepted => {
-            let k = fill_groups(kind, start, delta, group, pattern, work, scratch);
+            let k = fill_groups(kind, start, delta, margin, group, pattern, work, scratch);
             Grouping::Done(k.groups, k.patterns)
         }
     }

@@ -1,16 +1,8 @@
 -- `make_record` meets its contract: what was found is scored, and the slices that served for it are cleared. Assumes nothing.
-use mathlib.Core.Path.{_≡_, refl}
-use lib.Ieee.{binary64, ofBits, round}
-use Rattle.evaluator_record.specs.Calls.{baseThreshold}
 use Rattle.evaluator_record.proofs.FindLaws.{recorded}
 use borrow.Author.Needs.{needs}
 use Rattle.evaluator_record.proofs.make_record.Statement.{statement}
 use Rattle.evaluator_record.proofs.make_record.Tie as tie
-
--- the literal 0.1
-threshold-is : ofBits binary64 0x3fb9_9999_9999_999a ≡ baseThreshold
-unfolding ofBits round baseThreshold
-threshold-is = refl
 
 find-requires : tie.Need-find-requires
 find-requires c κs = search needs
@@ -47,7 +39,7 @@ returns c =
     let f = c .before .before .before .before .before .before .before .before in
     let w = f .before .before .before .before in
     recorded (w .before .before .before .before .before .before .find .ensures) (w .clear .ensures) (f .clear-floats .ensures)
-    (c .before .before .before .before .ratio .ensures) (c .before .canonical .ensures) threshold-is (c .before .before .before .repeated-interval-penalty .ensures) (c .canonical2 .ensures)
+    (c .before .before .before .before .ratio .ensures) (c .before .canonical .ensures) (c .before .before .before .repeated-interval-penalty .ensures) (c .canonical2 .ensures)
 
 pub make-record-spec : {M : Type 1} → statement M
 make-record-spec =

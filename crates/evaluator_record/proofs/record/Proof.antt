@@ -1,13 +1,13 @@
 -- `record` meets its contract: the verdict of the definition is the one that the tests gave, and each case leaves its outcome. Assumes nothing.
-use mathlib.Core.Path.{_≡_, refl, sym, _∙_}
+use mathlib.Core.Path.{_≡_, refl, sym, ap, _∙_}
 use mathlib.Core.Bool.{Bool, true, false, not}
 use native.Mathlib.Omega.{arith}
-use lib.Ieee.{ofBits}
+use lib.Ieee.{Float, binary64, ofBits, round}
 use Rattle.grouping_chart.specs.Chart.{Chart}
 use Rattle.grouping_chart.specs.declared.chart.Verdict.the-variants.{Accepted}
 use Rattle.grouping_same_rhythm.specs.SameRhythm.{rhythmMarks}
-use Rattle.grouping_rhythm.specs.Rhythm.{groupsIn}
-use Rattle.evaluator_record.specs.Calls.{Memory, windowGood}
+use Rattle.grouping_rhythm.specs.Rhythm.{baseMargin, groupsIn}
+use Rattle.evaluator_record.specs.Calls.{Memory, baseThreshold, windowGood}
 use Rattle.evaluator_record.proofs.CallsLaws.{groupsOf, judged, verdict-is, lengths-same, group-room, chart-refused, window-refused, group-refused, record-done}
 use borrow.Author.Needs.{needs}
 use Rattle.evaluator_record.proofs.record.Statement.{statement}
@@ -20,6 +20,15 @@ not-true false h = refl
 not-false : (b : Bool) → not b ≡ false → b ≡ true
 not-false true h = refl
 not-false false h = sym h
+
+-- the literals 5.0 and 0.1
+margin-is : ofBits binary64 0x4014_0000_0000_0000 ≡ baseMargin
+unfolding ofBits
+margin-is = refl
+
+threshold-is : ofBits binary64 0x3fb9_9999_9999_999a ≡ baseThreshold
+unfolding ofBits round baseThreshold
+threshold-is = refl
 
 -- the chart and the memory as lent
 abbrev chartOf : tie.Start → Chart
@@ -44,8 +53,10 @@ abbrev told : tie.After-count-groups → tie.After-enum-told
 told c = c .before .before .before
 
 counted : (c : tie.After-count-groups) → c .count-groups .result ≡ groupsOf (chartOf (start (told c)))
-unfolding groupsIn rhythmMarks ofBits
-counted c = c .count-groups .ensures
+unfolding groupsIn rhythmMarks
+counted c =
+    let s = start (told c) in
+    c .count-groups .ensures ∙ ap (λ (x : Float). groupsIn x (s .args .kind .now) (s .args .delta .now)) margin-is
 
 too-short-requires : tie.Need-too-short-requires
 too-short-requires c κs = search needs
@@ -94,7 +105,7 @@ make-record-requires : tie.Need-make-record-requires
 make-record-requires c κs =
     let k = c .before .before .before in
     let t = told k in
-    group-room (chartOf (start t)) (memoryOf (start t)) (start t .args .g) (accepted t) (omega (arith, counted k, c .before .before .if2 .left))
+    group-room (chartOf (start t)) (memoryOf (start t)) _ (start t .args .g) (accepted t) (omega (arith, counted k, c .before .before .if2 .left)) margin-is
 
 same-length-5 : tie.Need-same-length-5
 same-length-5 c = search needs
@@ -120,8 +131,8 @@ returns-4 c =
     let m = c .before .before .before .before in
     let k = m .before .before .before .before in
     let t = told k in
-    record-done (chartOf (start t)) (memoryOf (start t)) (start t .args .g) (start t .args .window) (accepted t) (window (k .before)) (omega (arith, counted k, m .before .before .before .if2 .left)) _ _ _
-    (m .make-record .ensures)
+    record-done (chartOf (start t)) (memoryOf (start t)) (start t .args .g) (start t .args .window) (accepted t) (window (k .before)) (omega (arith, counted k, m .before .before .before .if2 .left)) _ _ _ _ _
+    (m .make-record .ensures) margin-is threshold-is
 
 pub record-spec : {M : Type 1} → statement M
 record-spec =

@@ -1,12 +1,18 @@
 -- The verdict of the definition is the one that the tests gave, and each case leaves its outcome.
-use mathlib.Core.Path.{_≡_}
+use mathlib.Core.Path.{_≡_, refl}
+use lib.Ieee.{binary64, ofBits}
 use Rattle.grouping_chart.specs.Chart.{Chart}
 use Rattle.grouping_chart.specs.declared.chart.Verdict.the-variants.{Accepted}
-use Rattle.grouping_rhythm.specs.Rhythm.{Memory}
+use Rattle.grouping_rhythm.specs.Rhythm.{Memory, baseMargin}
 use Rattle.grouping_rhythm.proofs.RhythmLaws.{judged, verdict-is, answer-room, rhythm-refused, rhythm-done}
 use borrow.Author.Needs.{needs}
 use Rattle.grouping_rhythm.proofs.rhythm.Statement.{statement}
 use Rattle.grouping_rhythm.proofs.rhythm.Tie as tie
+
+-- the literal 5.0
+margin-is : ofBits binary64 0x4014_0000_0000_0000 ≡ baseMargin
+unfolding ofBits
+margin-is = refl
 
 -- the chart and the memory as lent
 abbrev chartOf : tie.Start → Chart
@@ -71,7 +77,7 @@ same-length-8 c = search needs
 returns-2 : tie.Need-returns-2
 returns-2 c =
     let t = c .before .before .before .before .before .before .before .before .before .before .before .before .before in
-    rhythm-done (chartOf (start t)) (memoryOf (start t)) _ _ _ _ _ (accepted t) (c .before .before .before .before .before .before .before .before .fill-groups .ensures)
+    rhythm-done (chartOf (start t)) (memoryOf (start t)) _ _ _ _ _ _ (accepted t) (c .before .before .before .before .before .before .before .before .fill-groups .ensures) margin-is
 
 pub rhythm-spec : {M : Type 1} → statement M
 rhythm-spec =

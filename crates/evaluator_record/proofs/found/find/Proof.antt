@@ -1,6 +1,5 @@
 -- `find` meets its contract: the intervals are made where the first objects were left, and the group is read from them. Assumes nothing.
 use native.Mathlib.Omega.{arith}
-use lib.Ieee.{ofBits}
 use Rattle.evaluator_record.proofs.FindLaws.{groups-small, group-below, region-inside, intervals-room, intervals-inside, intervals-counted, found}
 use borrow.Author.Needs.{needs}
 use Rattle.evaluator_record.proofs.found.find.Statement.{statement}
@@ -47,28 +46,24 @@ mul-interval c =
     omega (arith, group-below (start l .pre) (l .locate .ensures), groups-small (start l .pre) (l .locate .ensures))
 
 slice-read-interval : tie.Need-slice-read-interval
-unfolding ofBits
 slice-read-interval c =
     let f = c .before .before .before in
     let l = place f in
     omega (arith, group-below (start l .pre) (l .locate .ensures), intervals-inside (start l .pre) (l .locate .ensures) (f .fill-intervals .ensures))
 
 slice-reshare-prefix-pattern-at : tie.Need-slice-reshare-prefix-pattern-at
-unfolding ofBits
 slice-reshare-prefix-pattern-at c =
     let f = c .before .before .before in
     let l = place f in
     intervals-inside (start l .pre) (l .locate .ensures) (f .fill-intervals .ensures)
 
 slice-aggregate-pattern-at : tie.Need-slice-aggregate-pattern-at
-unfolding ofBits
 slice-aggregate-pattern-at c =
     let f = c .before .before .before .before in
     let l = place f in
     intervals-counted (start l .pre) (l .locate .ensures) (f .fill-intervals .ensures)
 
 pattern-at-requires : tie.Need-pattern-at-requires
-unfolding ofBits
 pattern-at-requires c κs =
     let f = c .before .before .before .before in
     let l = place f in
@@ -81,7 +76,6 @@ same-length-2 : tie.Need-same-length-2
 same-length-2 c = search needs
 
 returns : tie.Need-returns
-unfolding ofBits
 returns c =
     let f = c .before .before .before .before .before in
     let l = place f in

@@ -1,7 +1,6 @@
 -- `locate` meets its contract: each pass finds what the one before left, and the group's objects are read at its ends. Assumes nothing.
 use Prim.Native.Nat.{_-_, _<_}
 use native.Mathlib.Omega.{arith}
-use lib.Ieee.{ofBits}
 use Rattle.evaluator_record.proofs.LocateLaws.{Readable, notes-inside, front-counted, firsts-room, group-there, readable, located}
 use borrow.Author.Needs.{needs}
 use Rattle.evaluator_record.proofs.found.locate.Statement.{statement}
@@ -20,7 +19,6 @@ abbrev firsts : tie.After-reach → tie.After-list-firsts
 firsts c = c .before .before .before .before
 
 reading : (c : tie.After-reach) → Readable (start (notes (firsts c)) .args .start .now) (firsts c .list-firsts .last .1 .1 .0) (c .reach .result)
-unfolding ofBits
 reading c =
     let f = firsts c in
     let l = notes f in
@@ -58,7 +56,6 @@ slice-aggregate-reach c =
     front-counted (start l .pre) (l .list-notes .ensures)
 
 reach-requires : tie.Need-reach-requires
-unfolding ofBits
 reach-requires c κs =
     let l = c .before .before .before .before .before .before .before .before .before .before in
     group-there (start l .pre) (l .list-notes .ensures)
@@ -96,26 +93,26 @@ cast-last c =
     let r = c .before .before .before .before .before in
     omega (arith, reading r .small _ (last r))
 
-sub-t26 : tie.Need-sub-t26
-sub-t26 c = search needs
+sub-notes : tie.Need-sub-notes
+sub-notes c = search needs
 
-mul-t29 : tie.Need-mul-t29
-mul-t29 c =
+mul-duration : tie.Need-mul-duration
+mul-duration c =
     let r = c .before .before .before .before .before in
     omega (arith, reading r .small _ (last r))
 
-shared-slice-read-t32 : tie.Need-shared-slice-read-t32
-shared-slice-read-t32 c =
+shared-slice-read-duration : tie.Need-shared-slice-read-duration
+shared-slice-read-duration c =
     let r = c .before .before .before .before .before .before in
     reading r .started _ (last r)
 
-mul-t33 : tie.Need-mul-t33
-mul-t33 c =
+mul-duration-2 : tie.Need-mul-duration-2
+mul-duration-2 c =
     let r = c .before .before .before .before .before .before in
     omega (arith, reading r .small _ (reading r .from))
 
-shared-slice-read-t35 : tie.Need-shared-slice-read-t35
-shared-slice-read-t35 c =
+shared-slice-read-duration-2 : tie.Need-shared-slice-read-duration-2
+shared-slice-read-duration-2 c =
     let r = c .before .before .before .before .before .before .before in
     reading r .started _ (reading r .from)
 
@@ -126,7 +123,6 @@ same-length-2 : tie.Need-same-length-2
 same-length-2 c = search needs
 
 returns : tie.Need-returns
-unfolding ofBits
 returns c =
     let r = c .before .before .before .before .before .before .before in
     let f = firsts r in
@@ -151,11 +147,11 @@ locate-spec =
     mul-last
     slice-read-last
     cast-last
-    sub-t26
-    mul-t29
-    shared-slice-read-t32
-    mul-t33
-    shared-slice-read-t35
+    sub-notes
+    mul-duration
+    shared-slice-read-duration
+    mul-duration-2
+    shared-slice-read-duration-2
     same-length
     same-length-2
     returns)

@@ -1,6 +1,5 @@
 -- The intervals, as many as the groups, are in front of the scratch slice, and their groups' numbers fill the lent region whole.
 use mathlib.Core.Path.{sym}
-use lib.Ieee.{ofBits}
 use lib.Seq.{length-take-le}
 use Rattle.grouping_rhythm.proofs.RegionLaws.{intervals-room, values-lent, groups-places, groups-numbered}
 use borrow.Author.Needs.{needs}
@@ -26,18 +25,16 @@ fill-intervals-requires : tie.Need-fill-intervals-requires
 fill-intervals-requires c κs = intervals-room (c .before .before .before .before .before .before .pre)
 
 slice-reshare-prefix-group-by-interval : tie.Need-slice-reshare-prefix-group-by-interval
-unfolding ofBits
 slice-reshare-prefix-group-by-interval c =
     let f = c .before .before in
     let s = f .before .before .before .before .before .before .before in
-    values-lent (s .pre) (f .fill-intervals .ensures)
+    values-lent (s .pre) (s .args .margin) (f .fill-intervals .ensures)
 
 slice-aggregate-group-by-interval : tie.Need-slice-aggregate-group-by-interval
-unfolding ofBits
 slice-aggregate-group-by-interval c =
     let f = c .before .before .before in
     let s = f .before .before .before .before .before .before .before in
-    sym (length-take-le _ _ (values-lent (s .pre) (f .fill-intervals .ensures)))
+    sym (length-take-le _ _ (values-lent (s .pre) (s .args .margin) (f .fill-intervals .ensures)))
 
 mul-group-by-interval : tie.Need-mul-group-by-interval
 mul-group-by-interval c = search needs
@@ -61,11 +58,10 @@ part-group-by-interval-end : tie.Need-part-group-by-interval-end
 part-group-by-interval-end c = search needs
 
 group-by-interval-requires : tie.Need-group-by-interval-requires
-unfolding ofBits
 group-by-interval-requires c κs =
     let f = c .before .before .before .before in
     let s = f .before .before .before .before .before .before .before in
-    groups-places (s .pre) (f .fill-intervals .ensures)
+    groups-places (s .pre) (s .args .margin) (f .fill-intervals .ensures)
 
 same-length : tie.Need-same-length
 same-length c = search needs
@@ -74,11 +70,10 @@ same-length-2 : tie.Need-same-length-2
 same-length-2 c = search needs
 
 returns : tie.Need-returns
-unfolding ofBits
 returns c =
     let f = c .before .before .before .before .before .before .before in
     let s = f .before .before .before .before .before .before .before in
-    groups-numbered (s .pre) (f .fill-intervals .ensures) _ _ (c .before .before .group-by-interval .ensures)
+    groups-numbered (s .pre) (s .args .margin) (f .fill-intervals .ensures) _ _ (c .before .before .group-by-interval .ensures)
 
 pub number-groups-spec : {M : Type 1} → statement M
 number-groups-spec =

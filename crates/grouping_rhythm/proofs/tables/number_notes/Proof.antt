@@ -1,5 +1,4 @@
 -- The numbers, as many as the notes, fill the lent region whole.
-use lib.Ieee.{ofBits}
 use Rattle.grouping_rhythm.proofs.RegionLaws.{notes-numbered}
 use borrow.Author.Needs.{needs}
 use Rattle.grouping_rhythm.proofs.tables.number_notes.Statement.{statement}
@@ -36,8 +35,7 @@ same-length : tie.Need-same-length
 same-length c = search needs
 
 returns : tie.Need-returns
-unfolding ofBits
-returns c = notes-numbered _ _ _ _ _ _ _ (c .before .before .before .before .before .before .list-firsts .ensures) (c .before .before .group-by-interval .ensures)
+returns c = notes-numbered _ _ _ _ _ _ _ _ (c .before .before .before .before .before .before .list-firsts .ensures) (c .before .before .group-by-interval .ensures)
 
 pub number-notes-spec : {M : Type 1} → statement M
 number-notes-spec =
