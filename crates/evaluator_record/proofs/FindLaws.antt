@@ -19,7 +19,8 @@ use Rattle.evaluator_record.specs.Record.{recordOf}
 use Rattle.evaluator_record.specs.Passes.{GroupRoom, LocatedIs, FoundIs, Recorded}
 use Rattle.evaluator_record.specs.declared.found.Located.{Located}
 use Rattle.evaluator_record.specs.declared.found.Found.{Found}
-use Rattle.evaluator_record.proofs.GroupLaws.{objects-few, groups-few, firsts-grouped, intervals-grouped, firsts-below}
+use Rattle.grouping_rhythm.proofs.TablesLaws.{length-first-objects, length-group-intervals, first-object-below}
+use Rattle.evaluator_record.proofs.GroupLaws.{objects-few, groups-few}
 
 -- ---- the notes are located
 module _ {margin : Float} {kinds : List ℕ} {starts deltas : List Float} {g : ℕ} {work₀ work : List ℕ} {scratch₀ scratch₁ : List Float} {r : Located}
@@ -41,8 +42,8 @@ module _ {margin : Float} {kinds : List ℕ} {starts deltas : List Float} {g : �
 
   lent-room : IntervalsRoom starts (firstsOf (groupObjects margin kinds deltas)) scratch₁
   lent-room = record {
-    room = omega (arith, few, firsts-grouped margin kinds deltas (room .whole), at .groups, at .floats, room .floats);
-    inside = λ k h. omega (arith, firsts-below margin kinds deltas (room .whole) k h, room .started);
+    room = omega (arith, few, length-first-objects margin kinds deltas (room .whole), at .groups, at .floats, room .floats);
+    inside = λ k h. omega (arith, first-object-below margin kinds deltas (room .whole) k h, room .started);
   }
 
   pub intervals-room : IntervalsRoom starts (take (length kinds + r .groups - length kinds) (drop (length kinds) work)) scratch₁
@@ -55,7 +56,7 @@ module _ {margin : Float} {kinds : List ℕ} {starts deltas : List Float} {g : �
     intervals = groupIntervals margin kinds starts deltas
 
     long : length intervals ≡ r .groups
-    long = intervals-grouped margin kinds deltas (room .whole) starts ∙ sym (at .groups)
+    long = length-group-intervals margin kinds deltas (room .whole) starts ∙ sym (at .groups)
 
     written : scratch ≡ over intervals scratch₁
     unfolding groupIntervals

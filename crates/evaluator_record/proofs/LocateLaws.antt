@@ -24,7 +24,8 @@ use Rattle.grouping_same_rhythm.specs.declared.owns.Reached.{Reached}
 use Rattle.grouping_rhythm.specs.Rhythm.{groupsIn}
 use Rattle.evaluator_record.specs.Record.{objectsIn, ownsAt, durationOf}
 use Rattle.evaluator_record.specs.Passes.{GroupRoom, LocatedIs}
-use Rattle.evaluator_record.proofs.GroupLaws.{objects-few, deltas-noted, groups-few, firsts-grouped}
+use Rattle.grouping_rhythm.proofs.TablesLaws.{length-first-objects}
+use Rattle.evaluator_record.proofs.GroupLaws.{objects-few, deltas-noted, groups-few}
 
 -- the group's objects can be read, and each has a start
 pub record Readable (starts : List Float) (work : List ℕ) (r : Reached) : Type 0 where
@@ -92,7 +93,7 @@ module _ {margin : Float} {kinds : List ℕ} {starts deltas : List Float} {g : �
         ∙ (λ t. put (length kinds) (firstsOf (parted (intervalMarks margin (deltas-front t)) (objects-front t))) work₁)
 
     firsts-long : length (firstsOf (groupObjects margin kinds deltas)) ≡ groups
-    firsts-long = firsts-grouped margin kinds deltas (room .whole) ∙ sym counted
+    firsts-long = length-first-objects margin kinds deltas (room .whole) ∙ sym counted
 
     firsts-few : groups ≤ m
     firsts-few = omega (arith, counted, groups-few margin kinds deltas (room .whole), listed .count)

@@ -38,13 +38,13 @@ module _ (margin : Float) (kinds : List ℕ) (deltas : List Float) (e : length d
   groups-few = omega (arith, count-le (rhythmMarks margin kinds deltas), length-rhythm-marks)
 
   -- a first object for each group, one of the chart's
-  length-first-objects : length (firstsOf (groupObjects margin kinds deltas)) ≡ groupsIn margin kinds deltas
+  pub length-first-objects : length (firstsOf (groupObjects margin kinds deltas)) ≡ groupsIn margin kinds deltas
   unfolding groupObjects groupsIn
   length-first-objects =
       length-firsts (parted (rhythmMarks margin kinds deltas) (noteObjects kinds))
       ∙ length-parted (rhythmMarks margin kinds deltas) (noteObjects kinds) (omega (arith, length-rhythm-marks, length-note-objects kinds))
 
-  first-object-below : (k : ℕ) → k < length (firstsOf (groupObjects margin kinds deltas)) → getD (firstsOf (groupObjects margin kinds deltas)) k 0 < length kinds
+  pub first-object-below : (k : ℕ) → k < length (firstsOf (groupObjects margin kinds deltas)) → getD (firstsOf (groupObjects margin kinds deltas)) k 0 < length kinds
   unfolding groupObjects
   first-object-below k h =
       firsts-inside (length kinds) (rhythmMarks margin kinds deltas) (noteObjects kinds) (object-below kinds) (omega (arith, length-rhythm-marks, length-note-objects kinds)) k h
