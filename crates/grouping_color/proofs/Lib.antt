@@ -3,6 +3,7 @@ pub mod TableLaws
 pub mod StreakLaws
 pub mod PatternLaws
 pub mod HitLaws
+pub mod IntervalLaws
 pub mod ComposeLaws
 pub mod BoundLaws
 pub mod SearchLaws

@@ -6,14 +6,17 @@
 --   6 pattern: coupled, then opens a hit pattern      7 marks of streaks, then of patterns, at the end hit pattern: interval
 use mathlib.Core.Path.{_≡_}
 use mathlib.Core.Logic.{_⊎_}
-use Prim.Native.Nat.{ℕ, _+_, _*_, _≤_}
+use mathlib.Core.Bool.{cond, _&&_}
+use Prim.Native.Nat.{ℕ, _+_, _*_, _-_, _≤_}
 use mathlib.Core.List.{List}
-use lib.ListN.{length, drop}
+use lib.Dec.{leb}
+use lib.ListN.{length, drop, getD}
 use Rattle.grouping_marks.specs.Over.{part}
+use Rattle.grouping_marks.specs.Scan.{tabulate}
 use Rattle.grouping_marks.specs.Marks.{groupCount, groupNumbers, groupPlaces, groupSizes, groupFirsts}
 use Rattle.grouping_color.specs.MonoStreak.{streakMarks, streakOf, streakLengths, streakTypes}
 use Rattle.grouping_color.specs.AlternatingMonoPattern.{patternMarks}
-use Rattle.grouping_color.specs.RepeatingHitPatterns.{secondLengths, intervals}
+use Rattle.grouping_color.specs.RepeatingHitPatterns.{secondLengths, matches, intervals}
 use Rattle.grouping_color.specs.Preprocessor.{patternsOpen, hitsOpen, hitCount, hitIntervals}
 use Rattle.grouping_color.specs.declared.preprocessor.Counts.{Counts}
 
@@ -112,3 +115,10 @@ pub record Pair (w : List ℕ) (a b m : ℕ) : Type 0 where
 pub record PairApart (w : List ℕ) (a b m to : ℕ) : Type 0 where
   pub first : Apart w a m to
   pub second : Apart w b m to
+
+-- what each hit pattern has after a pass that looks k back: k where it matches the one k before it, else what it had
+unfoldable pub matchTakenAt : ℕ → List ℕ → List ℕ → List ℕ → List ℕ → ℕ → ℕ
+matchTakenAt k sizes firsts seconds had h = cond (leb k h && matches sizes firsts seconds (h - k) h) k (getD had h 0)
+
+unfoldable pub matchesTaken : ℕ → List ℕ → List ℕ → List ℕ → List ℕ → List ℕ
+matchesTaken k sizes firsts seconds had = tabulate (matchTakenAt k sizes firsts seconds had) (length sizes)

@@ -1,13 +1,13 @@
 // Hit patterns: which patterns open one, and each hit pattern's repetition interval.
 ghost use mathlib.Core.Path.{_≡_};
-ghost use mathlib.Core.Bool.{cond, _&&_};
+ghost use mathlib.Core.Bool.{cond};
 ghost use Prim.Native.Nat.{_≤_, _<_};
 ghost use lib.Dec.{eqb};
-ghost use lib.ListN.{getD};
 ghost use Rattle.grouping_marks.specs.Over.{put, part};
 ghost use Rattle.grouping_marks.specs.Passes.{Room};
-ghost use Rattle.grouping_color.specs.RepeatingHitPatterns.{stageAfter, opensHit, hitMarks, secondAt, secondLengths, intervalAt, intervals};
-ghost use Rattle.grouping_color.specs.Passes.{Pair, PairApart, Triple, TripleApart};
+ghost use Rattle.grouping_color.specs.RepeatingHitPatterns.{stageAfter, opensHit, hitMarks, secondAt, secondLengths, matches, intervals};
+ghost use Rattle.grouping_color.specs.Passes.{Pair, PairApart, Triple, TripleApart, matchesTaken};
+use grouping_marks::fill;
 
 fn stage_after(stage: u16, coupled: u16) -> u16
     ensures { λ r. ⌜ r ≡ stageAfter stage coupled ⌝ }
@@ -78,58 +78,58 @@ pub fn second_lengths(w: &mut [u16], lengths: usize, marks: usize, m: usize, to:
     w[to + i] = last;
 }
 
-// Whether the hit pattern a holds `size` alternating patterns and these two first-streak lengths.
-fn hit_has(
+// Whether the hit patterns a and b match. The three tests are joined without jumps, so that eight hit patterns are tested at a time.
+fn hits_match(
     w: &[u16],
     sizes: usize,
     firsts: usize,
     seconds: usize,
     m: usize,
     a: usize,
-    size: u16,
-    first: u16,
-    second: u16,
+    b: usize,
 ) -> bool
-    requires { ⌜ Triple (now w) sizes firsts seconds m ⌝ ∗ ⌜ a < m ⌝ }
-    ensures { λ r. ⌜ r ≡ (eqb (getD (part sizes m (now (w .entry))) a 0) size && (eqb (getD (part firsts m (now (w .entry))) a 0) first && eqb (getD (part seconds m (now (w .entry))) a 0) second)) ⌝ }
+    requires { ⌜ Triple (now w) sizes firsts seconds m ⌝ ∗ ⌜ a < m ⌝ ∗ ⌜ b < m ⌝ }
+    ensures { λ r. ⌜ r ≡ matches (part sizes m (now (w .entry))) (part firsts m (now (w .entry))) (part seconds m (now (w .entry))) a b ⌝ }
 {
-    let same_size = w[sizes + a] == size;
-    let same_first = w[firsts + a] == first;
-    let same_second = w[seconds + a] == second;
+    let same_size = w[sizes + a] == w[sizes + b];
+    let same_first = w[firsts + a] == w[firsts + b];
+    let same_second = w[seconds + a] == w[seconds + b];
     same_size & (same_first & same_second)
 }
 
-// The repetition interval of the hit pattern h, searched below the limit.
-fn interval_at(
-    w: &[u16],
+fn nearer(found: bool, k: u16, other: u16) -> u16
+    ensures { λ r. ⌜ r ≡ cond found k other ⌝ }
+{
+    if found { k } else { other }
+}
+
+// Gives k to each of m hit patterns that matches the one k before it. The others keep what stands at `to`.
+fn take_matches(
+    w: &mut [u16],
     sizes: usize,
     firsts: usize,
     seconds: usize,
     m: usize,
-    limit: u16,
-    h: usize,
-) -> u16
-    requires { ⌜ Triple (now w) sizes firsts seconds m ⌝ ∗ ⌜ h < m ⌝ ∗ ⌜ 1 ≤ limit ⌝ ∗ ⌜ limit < 65535 ⌝ }
-    ensures { λ r. ⌜ r ≡ intervalAt limit (part sizes m (now (w .entry))) (part firsts m (now (w .entry))) (part seconds m (now (w .entry))) h ⌝ }
+    k: u16,
+    to: usize,
+)
+    requires { ⌜ TripleApart (now w) sizes firsts seconds m to ⌝ }
+    ensures { λ r. ⌜ now (w .exit) ≡ put to (matchesTaken k (part sizes m (now (w .entry))) (part firsts m (now (w .entry))) (part seconds m (now (w .entry))) (part to m (now (w .entry)))) (now (w .entry)) ⌝ }
 {
-    let size = w[sizes + h];
-    let first = w[firsts + h];
-    let second = w[seconds + h];
-    let mut k: u16 = 1;
-    while k < limit {
-        let back = k as usize;
-        if h < back {
-            return limit + 1;
-        }
-        if hit_has(w, sizes, firsts, seconds, m, h - back, size, first, second) {
-            return k;
-        }
-        k += 1;
+    let back = k as usize;
+    if m <= back {
+        return;
     }
-    limit + 1
+    let mut h = back;
+    while h < m {
+        let other = w[to + h];
+        let found = hits_match(w, sizes, firsts, seconds, m, h - back, h);
+        w[to + h] = nearer(found, k, other);
+        h += 1;
+    }
 }
 
-// Each hit pattern's repetition interval.
+// Each hit pattern's repetition interval, searched below the limit: from the largest k down, so that the smallest one stays.
 pub fn repetition_intervals(
     w: &mut [u16],
     sizes: usize,
@@ -142,10 +142,10 @@ pub fn repetition_intervals(
     requires { ⌜ TripleApart (now w) sizes firsts seconds m to ⌝ ∗ ⌜ 1 ≤ limit ⌝ ∗ ⌜ limit < 65535 ⌝ }
     ensures { λ r. ⌜ now (w .exit) ≡ put to (intervals limit (part sizes m (now (w .entry))) (part firsts m (now (w .entry))) (part seconds m (now (w .entry)))) (now (w .entry)) ⌝ }
 {
-    let mut h = 0;
-    while h < m {
-        let interval = interval_at(w, sizes, firsts, seconds, m, limit, h);
-        w[to + h] = interval;
-        h += 1;
+    fill::store_all(w, to, m, limit + 1);
+    let mut k = limit;
+    while 1 < k {
+        k -= 1;
+        take_matches(w, sizes, firsts, seconds, m, k, to);
     }
 }

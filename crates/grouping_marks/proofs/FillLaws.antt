@@ -1,7 +1,7 @@
 -- A loop that stores a goal list g of n elements from place `to` on, one element a turn: its invariant, with the laws of the start, of a turn and of the end.
 use mathlib.Core.Path.{_≡_, refl, sym, ap, _∙_, subst}
 use mathlib.Core.Logic.{_⊎_, inl, inr, ⊎-elim}
-use mathlib.Core.List.{List, [], _∷_, map}
+use mathlib.Core.List.{List, [], _∷_, _++_, map}
 use Prim.Native.Nat.{ℕ, zero, suc, _+_, _≤_, _<_}
 use native.Mathlib.Nat.{le-of-suc-le-suc, not-suc-le-zero, eq-or-lt-of-le, zero-add}
 use native.Mathlib.Numerals.{add-one}
@@ -10,7 +10,7 @@ use lib.ListN.{length, take, drop, getD, length-drop, set, length-set, length-ap
 use lib.Seq.{getD-at, drop-cons}
 use Rattle.grouping_marks.specs.Over.{over, put, part}
 use Rattle.grouping_marks.specs.Scan.{tabulate, gathered}
-use Rattle.grouping_marks.proofs.OverLaws.{put-front, put-nothing, put-all, store, unread, getD-part}
+use Rattle.grouping_marks.proofs.OverLaws.{put-front, put-nothing, put-kept, put-all, store, unread, getD-part}
 
 -- i elements are stored in what was w₀ and is now w
 pub record Fill {A : Type 0} (g : List A) (n to : ℕ) (w₀ w : List A) (i : ℕ) : Type 0 where
@@ -29,6 +29,11 @@ pub record Onward {A : Type 0} (g : List A) (n to : ℕ) (w₀ w : List A) (j : 
 module _ {A : Type 0} where
   pub fill-start : (g : List A) (n to : ℕ) (w₀ : List A) → length g ≡ n → to + n ≤ length w₀ → Fill g n to w₀ w₀ 0
   fill-start g n to w₀ e h = record { size = e; room = h; upto = omega arith; written = sym (put-nothing to w₀); long = refl }
+
+  -- a loop that begins at element i, where the elements before it stand already
+  pub fill-from : (g : List A) (n to : ℕ) (w₀ : List A) (i : ℕ) (d : A) → length g ≡ n → to + n ≤ length w₀ → i ≤ n → ((j : ℕ) → j < i → getD g j d ≡ getD w₀ (to + j) d)
+      → Fill g n to w₀ w₀ i
+  fill-from g n to w₀ i d e h u k = record { size = e; room = h; upto = u; written = sym (put-kept to g w₀ i d (omega arith) (omega arith) k); long = refl }
 
   pub fill-turn : {g : List A} {n to : ℕ} {w₀ w : List A} {i : ℕ} {v : A} (d : A) → Fill g n to w₀ w i → i < n → v ≡ getD g i d
       → Fill g n to w₀ (set w (to + i) v) (i + 1)
@@ -87,6 +92,14 @@ module _ {B : Type 0} (f : ℕ → B) where
       (λ e. getD-at (tabulate f n) (f n) [] d i (length-tabulate n ∙ sym e) ∙ ap f (sym e))
       (λ l. List·getD-append (tabulate f n) (f n ∷ []) d i (rw length-tabulate l) ∙ getD-tabulate n i d l)
       (eq-or-lt-of-le (le-of-suc-le-suc h))
+
+pub tabulate-agree : {B : Type 0} (f g : ℕ → B) (n : ℕ) → ((i : ℕ) → i < n → f i ≡ g i) → tabulate f n ≡ tabulate g n
+unfolding tabulate
+tabulate-agree f g zero e = refl
+tabulate-agree f g (suc n) e =
+    let before : tabulate f n ≡ tabulate g n = tabulate-agree f g n (λ i h. e i (omega arith)) in
+    let here : f n ≡ g n = e n (omega arith) in
+    λ t. before t ++ (here t ∷ [])
 
 pub getD-map : {A B : Type 0} (f : A → B) (xs : List A) (i : ℕ) (a : A) (b : B) → i < length xs → getD (map f xs) i b ≡ f (getD xs i a)
 getD-map f [] i a b h = absurd (not-suc-le-zero h)

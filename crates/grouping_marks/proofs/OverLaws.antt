@@ -7,7 +7,7 @@ use native.Mathlib.Nat.{le-of-suc-le-suc, not-suc-le-zero, suc-add, zero-add}
 use native.Mathlib.Numerals.{add-one}
 use native.Mathlib.Omega.{arith}
 use lib.ListN.{length, take, drop, getD, set, length-append, length-drop, take-append-drop}
-use lib.Seq.{length-take-le, take-at, drop-at, drop-append-add, drop-drop, take-append-le, take-take, take-length, getD-take, getD-drop}
+use lib.Seq.{length-take-le, take-at, drop-at, drop-append-add, drop-drop, take-append-le, take-take, take-length, getD-take, getD-drop, set-getD}
 use Rattle.grouping_marks.specs.Over.{over, put, part}
 
 module _ {A : Type 0} where
@@ -100,6 +100,9 @@ module _ {A : Type 0} where
   unfolding part
   part-put-after b n a new old h = ap (λ (l : List A). take n l) (drop-put b a new old h)
 
+  pub part-put-apart : (b n a : ℕ) (new old : List A) → (b + n ≤ a) ⊎ (a + length new ≤ b) → a ≤ length old → part b n (put a new old) ≡ part b n old
+  part-put-apart b n a new old h r = ⊎-elim (λ x. part-put-before b n a new old x r) (λ x. part-put-after b n a new old x) h
+
   pub getD-put-before : (a : ℕ) (new old : List A) (j : ℕ) (d : A) → a ≤ length old → j < a → getD (put a new old) j d ≡ getD old j d
   getD-put-before a new old j d r h =
       sym (getD-take a (put a new old) j d h) ∙ ap (λ (l : List A). getD l j d) (take-put a a new old (omega arith) r) ∙ getD-take a old j d h
@@ -124,6 +127,24 @@ module _ {A : Type 0} where
   pub store : (a : ℕ) (g w : List A) (i : ℕ) (d : A) → i < length g → a + length g ≤ length w
       → set (put a (take i g) w) (a + i) (getD g i d) ≡ put a (take (i + 1) g) w
   store a g w i d h r = rw add-one (store-suc a g w i d h r)
+
+  -- what is written is what stood there
+  pub put-kept : (a : ℕ) (g w : List A) (i : ℕ) (d : A) → i ≤ length g → a + length g ≤ length w → ((j : ℕ) → j < i → getD g j d ≡ getD w (a + j) d)
+      → put a (take i g) w ≡ w
+  put-kept a g w zero d h r e = put-nothing a w
+  put-kept a g w (suc i) d h r e =
+      let before : put a (take i g) w ≡ w = put-kept a g w i d (omega arith) r (λ j k. e j (omega arith)) in
+      sym (store-suc a g w i d (omega arith) r) ∙ ap (λ (l : List A). set l (a + i) (getD g i d)) before ∙ ap (set w (a + i)) (e i (omega arith)) ∙ set-getD w (a + i) d
+
+  put-whole : (a : ℕ) (g x : List A) → put a g x ≡ take a x ++ (g ++ drop (a + length g) x)
+  unfolding put over
+  put-whole a g x = ap (λ (l : List A). take a x ++ (g ++ l)) (drop-drop (length g) a x)
+
+  -- what is written twice is as the second time has it
+  pub put-twice : (a : ℕ) (f g w : List A) → length f ≡ length g → a + length g ≤ length w → put a g (put a f w) ≡ put a g w
+  put-twice a f g w l r =
+      let past : drop (a + length g) (put a f w) ≡ drop (a + length g) w = drop-put (a + length g) a f w (omega arith) in
+      put-whole a g (put a f w) ∙ (λ t. take-put a a f w (omega arith) (omega arith) t ++ (g ++ past t)) ∙ sym (put-whole a g w)
 
   pub put-all : (a : ℕ) (g w : List A) (i : ℕ) → i ≡ length g → put a (take i g) w ≡ put a g w
   put-all a g w i e = ap (λ (l : List A). put a l w) (ap (λ (k : ℕ). take k g) e ∙ take-length g)

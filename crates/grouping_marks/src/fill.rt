@@ -1,10 +1,10 @@
 // Filling a lent slice from its front: copies, look-ups and zeros.
 ghost use mathlib.Core.Path.{_≡_};
-ghost use Prim.Native.Nat.{ℕ, _≤_, _<_};
+ghost use Prim.Native.Nat.{ℕ, _+_, _≤_, _<_};
 ghost use lib.ListN.{length, getD, replicate};
 ghost use lib.Ieee as Ieee;
 ghost use lib.Ieee.{binary64};
-ghost use Rattle.grouping_marks.specs.Over.{over};
+ghost use Rattle.grouping_marks.specs.Over.{over, put};
 ghost use Rattle.grouping_marks.specs.Scan.{gathered};
 
 pub fn copy(src: &[u16], out: &mut [u16])
@@ -44,16 +44,24 @@ pub fn gather_bytes(table: &[u16], idx: &[u16], out: &mut [u8])
     }
 }
 
+// Stores v in m places from `to` on.
+pub fn store_all(s: &mut [u16], to: usize, m: usize, v: u16)
+    requires { ⌜ to + m ≤ length (now s) ⌝ }
+    ensures { λ r. ⌜ now (s .exit) ≡ put to (replicate m v) (now (s .entry)) ⌝ }
+{
+    let mut i = 0;
+    while i < m {
+        s[to + i] = v;
+        i += 1;
+    }
+}
+
 // Sets the first n places to 0.
 pub fn clear(s: &mut [u16], n: usize)
     requires { ⌜ n ≤ length (now s) ⌝ }
     ensures { λ r. ⌜ now (s .exit) ≡ over (replicate n 0) (now (s .entry)) ⌝ }
 {
-    let mut i = 0;
-    while i < n {
-        s[i] = 0;
-        i += 1;
-    }
+    store_all(s, 0, n, 0);
 }
 
 // Sets the first n places to +0.0.

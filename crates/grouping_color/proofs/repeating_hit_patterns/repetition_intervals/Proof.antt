@@ -1,49 +1,48 @@
--- `repeating_hit_patterns::repetition_intervals` meets its contract. The invariant: h intervals are stored from place `to` on, by what stood in the regions that are read.
-use Prim.Native.Nat.{_-_}
-use Rattle.grouping_marks.specs.Over.{part}
-use Rattle.grouping_marks.proofs.FillLaws.{Fill, fill-end}
-use Rattle.grouping_color.specs.RepeatingHitPatterns.{intervals}
-use Rattle.grouping_color.proofs.HitLaws.{intervals-start, intervals-turn}
+-- The invariant: each hit pattern has the smallest match from k on, or one above the limit.
 use native.Mathlib.Omega.{arith}
-use borrow.Author.Needs.{needs}
+use Rattle.grouping_marks.specs.Over.{part}
+use Rattle.grouping_color.proofs.IntervalLaws.{Searched, emptied-apart, search-start, still-apart, search-turn, search-end}
 use Rattle.grouping_color.proofs.repeating_hit_patterns.repetition_intervals.Statement.{statement}
 use Rattle.grouping_color.proofs.repeating_hit_patterns.repetition_intervals.Tie as tie
 
 abbrev Inv-loop : tie.InvT-loop
-Inv-loop w₀ sizes firsts seconds m limit to h₀ w h = Fill (intervals limit (part sizes m w₀) (part firsts m w₀) (part seconds m w₀)) m to w₀ w h
+Inv-loop w₀ sizes firsts seconds m limit to k₀ w k = Searched limit (part sizes m w₀) (part firsts m w₀) (part seconds m w₀) m to w₀ w k
 
 abbrev μ-loop : tie.MeasureT-loop
-μ-loop w₀ sizes firsts seconds m limit to h₀ w h = m - h
+μ-loop w₀ sizes firsts seconds m limit to k₀ w k = k
+
+add-store-all : tie.Need-add-store-all Inv-loop μ-loop
+add-store-all c = omega arith
+
+store-all-requires : tie.Need-store-all-requires Inv-loop μ-loop
+store-all-requires c κs = omega arith
 
 loop-holds : tie.Need-loop-holds Inv-loop μ-loop
-loop-holds c = intervals-start _ (c .before .pre .0)
+loop-holds c = search-start _ (c .before .before .before .before .before .pre .0) (c .before .before .store-all .ensures) _ _ _ (omega arith)
 
-interval-at-requires : tie.Need-interval-at-requires Inv-loop μ-loop
-interval-at-requires c κs = search needs
+sub-k : tie.Need-sub-k Inv-loop μ-loop
+sub-k c = omega arith
 
-add-w : tie.Need-add-w Inv-loop μ-loop
-add-w c = omega arith
-
-mul-w : tie.Need-mul-w Inv-loop μ-loop
-mul-w c = omega arith
-
-slice-write-w : tie.Need-slice-write-w Inv-loop μ-loop
-slice-write-w c = omega arith
-
-add-h : tie.Need-add-h Inv-loop μ-loop
-add-h c = omega arith
+take-matches-requires : tie.Need-take-matches-requires Inv-loop μ-loop
+take-matches-requires c κs =
+    let l = c .before .before in
+    still-apart (emptied-apart _ (l .before .before .before .before .before .before .pre .0) (l .before .before .before .store-all .ensures)) (l .loop .inv)
 
 loop-less : tie.Need-loop-less Inv-loop μ-loop
 loop-less c = omega arith
 
 loop-again : tie.Need-loop-again Inv-loop μ-loop
-loop-again c = intervals-turn _ (c .before .before .before .before .before .pre .0) (c .before .before .before .loop .inv) (omega arith) (c .interval-at .ensures)
+loop-again c =
+    let l = c .before .before .before .before .before in
+    search-turn (emptied-apart _ (l .before .before .before .before .before .before .pre .0) (l .before .before .before .store-all .ensures)) (l .loop .inv) (omega arith) (omega arith) (c .before .before .take-matches .ensures)
 
 same-length : tie.Need-same-length Inv-loop μ-loop
-same-length c = c .before .loop .inv .long
+same-length c = omega arith
 
 returns : tie.Need-returns Inv-loop μ-loop
-returns c = fill-end (c .before .loop .inv) (c .loop-test .left)
+returns c =
+    let l = c .before in
+    search-end _ (l .before .before .before .before .before .before .pre .0) (l .before .before .before .store-all .ensures) (l .loop .inv) (omega arith)
 
 pub repetition-intervals-spec : {M : Type 1} → statement M
 repetition-intervals-spec =
@@ -51,12 +50,11 @@ repetition-intervals-spec =
     (tie.spec
     Inv-loop
     μ-loop
+    add-store-all
+    store-all-requires
     loop-holds
-    interval-at-requires
-    add-w
-    mul-w
-    slice-write-w
-    add-h
+    sub-k
+    take-matches-requires
     loop-less
     loop-again
     same-length
