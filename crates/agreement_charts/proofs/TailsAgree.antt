@@ -1,7 +1,6 @@
 -- Demand 3, proved: two accepted charts with a common tail agree from every landmark in it on. The colour half and the rhythm half are put together here.
 use mathlib.Core.Path.{_≡_, sym, ap, _∙_}
 use Prim.Native.Nat.{ℕ, _-_}
-use mathlib.Core.Bool.{Bool}
 use mathlib.Core.List.{List}
 use lib.ListN.{length, drop}
 use lib.Ieee.{Float}
@@ -17,11 +16,11 @@ use Rattle.agreement_charts.specs.TailAgreement.{AlikeTails, TailAgreeme
 counted : {A : Type 0} (m : ℕ) (xs : List A) (n : ℕ) → length xs ≡ n → drop (length xs - m) xs ≡ drop (n - m) xs
 counted m xs n e = ap (λ (k : ℕ). drop (k - m) xs) e
 
-pub tails-agree : (limit : ℕ) (tolerance margin : Float) (c c′ : Chart) (short short′ : Bool) (m : ℕ)
-    → verdict c short ≡ Accepted → verdict c′ short′ ≡ Accepted → AlikeTails c c′ m → TailAgreement limit tolerance margin c c′ m
-tails-agree limit tolerance margin c c′ short short′ m accepted accepted′ t =
-    let l = accepted-good c short accepted .lengths in
-    let l′ = accepted-good c′ short′ accepted′ .lengths in
+pub tails-agree : (limit : ℕ) (tolerance margin : Float) (c c′ : Chart) (beside beside′ m : ℕ)
+    → verdict c beside ≡ Accepted → verdict c′ beside′ ≡ Accepted → AlikeTails c c′ m → TailAgreement limit tolerance margin c c′ m
+tails-agree limit tolerance margin c c′ beside beside′ m accepted accepted′ t =
+    let l = accepted-good c beside accepted .lengths in
+    let l′ = accepted-good c′ beside′ accepted′ .lengths in
     record {
       colour = λ position position′ h k. colour-claim limit tolerance (c .kinds) (c .ratios) (c′ .kinds) (c′ .ratios) m position position′
           (record {

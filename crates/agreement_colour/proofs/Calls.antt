@@ -1,7 +1,7 @@
 -- The colour half of demand 3 over the calls: what encode, colour and stretch answer on two accepted charts, from a colour landmark of their common tail on.
 use mathlib.Core.Path.{_≡_, refl, sym, ap, _∙_}
 use mathlib.Core.Logic.{_⊎_, _↔_}
-use mathlib.Core.Bool.{Bool, true, cond, not}
+use mathlib.Core.Bool.{true, cond, not}
 use mathlib.Core.List.{List}
 use Prim.Native.Nat.{ℕ, _-_, _≤_, _<_}
 use native.Mathlib.Omega.{arith}
@@ -21,7 +21,7 @@ use Rattle.grouping_encode.specs.Encode.{searchLimit, encodeOutcome}
 use Rattle.grouping_encode.proofs.EncodeLaws.{done-outcome}
 use Rattle.evaluator_calls.specs.Colour.{isFirst}
 use Rattle.evaluator_calls.specs.Stretch.{meanOf, meanTenths}
-use Rattle.evaluator_calls.specs.Calls.{Memory, Outcome, short, baseTolerance, valuesOf, filled, colourOutcome, stretchVerdict, stretchOutcome}
+use Rattle.evaluator_calls.specs.Calls.{Memory, Outcome, beside, baseTolerance, valuesOf, filled, colourOutcome, stretchVerdict, stretchOutcome}
 use Rattle.evaluator_calls.specs.declared.Stretching.{Stretching}
 use Rattle.evaluator_calls.specs.declared.Stretching.the-variants.{Done}
 use Rattle.evaluator_calls.proofs.LookLaws.{value-of}
@@ -39,14 +39,14 @@ getD-over new old i d h = List·getD-append new (drop (length new) old) d i h
 
 -- ---- one accepted call of colour or stretch
 
-module _ (c : Chart) (lent : Memory) (accepted : verdict c (short (size c) lent) ≡ Accepted) where
+module _ (c : Chart) (lent : Memory) (accepted : verdict c (beside (size c) lent) ≡ Accepted) where
   written : (i : ℕ) → i < size c → getD (colourOutcome c lent .memory .value) i nan ≡ getD (valuesOf c) i nan
   unfolding filled
   written i h =
       ap (λ (o : Outcome _). getD (o .memory .value) i nan) (sym (colour-done c lent (filled c lent) accepted refl))
-      ∙ getD-over (valuesOf c) (lent .value) i nan (omega (arith, length-valuesOf c (short (size c) lent) accepted))
+      ∙ getD-over (valuesOf c) (lent .value) i nan (omega (arith, length-valuesOf c (beside (size c) lent) accepted))
 
-  in-bounds : (a b : ℕ) → a < b → b ≤ size c → stretchVerdict (verdict c (short (size c) lent)) (size c) a b ≡ Accepted
+  in-bounds : (a b : ℕ) → a < b → b ≤ size c → stretchVerdict (verdict c (beside (size c) lent)) (size c) a b ≡ Accepted
   unfolding stretchVerdict
   in-bounds a b h k = rw (accepted, lt-leb b a h, le-ltb (size c) b k)
 
@@ -55,7 +55,7 @@ module _ (c : Chart) (lent : Memory) (accepted : verdict c (short (size c) lent)
 
 -- ---- one accepted call of encode
 
-module _ (c : Chart) (lent : encode.Memory) (accepted : verdict c (encode.short (size c) lent) ≡ Accepted) where
+module _ (c : Chart) (lent : encode.Memory) (accepted : verdict c (encode.beside (size c) lent) ≡ Accepted) where
   encoded : encodeOutcome c lent .memory ≡ encode.filled (c .kinds) lent
   encoded = sym (ap (λ (o : encode.Outcome). o .memory) (done-outcome c lent _ (encode.filled (c .kinds) lent) accepted refl refl))
 
@@ -81,11 +81,11 @@ module _ (c : Chart) (lent : encode.Memory) (accepted : verdict c (encode.short 
 -- ---- the theorems
 
 -- two charts accepted by any calls
-common-tail : (c c′ : Chart) (m : ℕ) (s s′ : Bool) → verdict c s ≡ Accepted → verdict c′ s′ ≡ Accepted → AlikeCharts c c′ m
+common-tail : (c c′ : Chart) (m b b′ : ℕ) → verdict c b ≡ Accepted → verdict c′ b′ ≡ Accepted → AlikeCharts c c′ m
     → CommonTail (c .kinds) (c .ratios) (c′ .kinds) (c′ .ratios) m
-common-tail c c′ m s s′ x x′ t = record {
-  a-ratio-each = accepted-good c s x .lengths .ratio;
-  a-ratio-each′ = accepted-good c′ s′ x′ .lengths .ratio;
+common-tail c c′ m b b′ x x′ t = record {
+  a-ratio-each = accepted-good c b x .lengths .ratio;
+  a-ratio-each′ = accepted-good c′ b′ x′ .lengths .ratio;
   inside = t .inside;
   inside′ = t .inside′;
   kinds-alike = t .kinds-alike;
@@ -95,15 +95,15 @@ common-tail c c′ m s s′ x x′ t = record {
 module _ (c c′ : Chart) (m position position′ : ℕ) (tail : AlikeCharts c c′ m) (far : Counterparts (c .kinds) (c′ .kinds) position position′)
     (landmark : Landmark (c .kinds) m position ⊎ Landmark (c′ .kinds) m position′) where
   -- the claim at the base's limit and tolerance
-  pub base-claim : (s s′ : Bool) → verdict c s ≡ Accepted → verdict c′ s′ ≡ Accepted
+  pub base-claim : (b b′ : ℕ) → verdict c b ≡ Accepted → verdict c′ b′ ≡ Accepted
       → ColourClaim searchLimit baseTolerance (c .kinds) (c .ratios) (c′ .kinds) (c′ .ratios) position position′
-  base-claim s s′ x x′ =
-      colour-claim searchLimit baseTolerance (c .kinds) (c .ratios) (c′ .kinds) (c′ .ratios) m position position′ (common-tail c c′ m s s′ x x′ tail) far landmark
+  base-claim b b′ x x′ =
+      colour-claim searchLimit baseTolerance (c .kinds) (c .ratios) (c′ .kinds) (c′ .ratios) m position position′ (common-tail c c′ m b b′ x x′ tail) far landmark
 
-  pub encode-claim : (lent lent′ : encode.Memory) → verdict c (encode.short (size c) lent) ≡ Accepted → verdict c′ (encode.short (size c′) lent′) ≡ Accepted
+  pub encode-claim : (lent lent′ : encode.Memory) → verdict c (encode.beside (size c) lent) ≡ Accepted → verdict c′ (encode.beside (size c′) lent′) ≡ Accepted
       → EncodeClaim c c′ lent lent′ position position′
   encode-claim lent lent′ x x′ =
-      let k = base-claim (encode.short (size c) lent) (encode.short (size c′) lent′) x x′ in
+      let k = base-claim (encode.beside (size c) lent) (encode.beside (size c′) lent′) x x′ in
       record {
         opens = λ i i′ p l e. first-written c lent x i l ∙ k .opens i i′ p l e ∙ sym (first-written c′ lent′ x′ i′ (omega arith));
         all-after = λ i j p l n e. k .all-after i j p l n (together c lent x i j l n .0 e);
@@ -116,7 +116,7 @@ module _ (c c′ : Chart) (m position position′ : ℕ) (tail : AlikeCharts c c
         interval = λ i i′ s e. interval-written c lent x i (s .there) ∙ k .interval i i′ s e ∙ sym (interval-written c′ lent′ x′ i′ (omega (arith, s .there)));
       }
 
-  pub calls-claim : (lent lent′ : Memory) → verdict c (short (size c) lent) ≡ Accepted → verdict c′ (short (size c′) lent′) ≡ Accepted
+  pub calls-claim : (lent lent′ : Memory) → verdict c (beside (size c) lent) ≡ Accepted → verdict c′ (beside (size c′) lent′) ≡ Accepted
       → CallsClaim c c′ lent lent′ position position′
   unfolding valuesOf
   calls-claim lent lent′ x x′ = record {
@@ -128,7 +128,7 @@ module _ (c c′ : Chart) (m position position′ : ℕ) (tail : AlikeCharts c c
   }
     where
       k : ColourClaim searchLimit baseTolerance (c .kinds) (c .ratios) (c′ .kinds) (c′ .ratios) position position′
-      k = base-claim (short (size c) lent) (short (size c′) lent′) x x′
+      k = base-claim (beside (size c) lent) (beside (size c′) lent′) x x′
 
       value : (i i′ : ℕ) → Settled searchLimit (c .kinds) position i → Counterparts (c .kinds) (c′ .kinds) i i′ → getD (valuesOf c) i nan ≡ getD (valuesOf c′) i′ nan
       value i i′ s e =

@@ -96,9 +96,9 @@ in-range r h = both (le lowest r) (le r highest) h
     both true b h = (tt, h)
     both false b h = absurd h
 
-module _ (c : Chart) (short : Bool) (accepted : verdict c short ≡ Accepted) where
-  good : GoodChart c short
-  good = accepted-good c short accepted
+module _ (c : Chart) (beside : ℕ) (accepted : verdict c beside ≡ Accepted) where
+  good : GoodChart c beside
+  good = accepted-good c beside accepted
 
   value-is : (i : ℕ) → i < size c
       → getD (valuesOf c) i nan ≡ mul binary64 (objectSum (lookedAt searchLimit (c .kinds) i)) (ratioPenalty baseTolerance i (getD (c .ratios) i nan) (getD (c .ratios) (i - 2) nan))

@@ -1,44 +1,31 @@
 -- The outcomes of colour and stretch, case by case, over plain lists: a refusal leaves all as lent, and an accepted call has room in every slice. Assumes nothing.
-use mathlib.Core.Path.{_≡_, refl, sym, ap, _∙_}
-use mathlib.Core.Bool.{Bool, true, false, _||_, cond, true≢false}
+use mathlib.Core.Path.{_≡_, refl, sym, ap, _∙_, subst}
+use mathlib.Core.Bool.{Bool, true, false, _||_, cond}
 use mathlib.Core.List.{List}
-use Prim.Native.Nat.{ℕ, _*_, _≤_, _<_}
+use Prim.Native.Nat.{ℕ, _≤_, _<_}
 use native.Mathlib.Omega.{arith}
 use borrow.Author.Tests.{ltb-false, leb-false}
 use lib.Dec.{ltb, leb}
 use lib.IntN.{ℤ}
 use lib.ListN.{length}
-use lib.Ieee.{Float}
+use lib.Ieee.{Float, binary64, ofBits, round}
 use Rattle.grouping_chart.specs.Chart.{Chart, size}
 use Rattle.grouping_chart.specs.Refusal.{verdict}
+use Rattle.grouping_chart.specs.Room.{shortRefusal}
 use Rattle.grouping_chart.specs.declared.object.ObjectIndex.{ObjectIndex}
 use Rattle.grouping_chart.specs.declared.chart.Verdict.{Verdict}
 use Rattle.grouping_chart.specs.declared.chart.Verdict.the-variants.{Accepted, Refused}
 use Rattle.grouping_chart.proofs.AcceptedLaws.{accepted-good}
+use Rattle.grouping_chart.proofs.RefusalLaws.{verdict-is}
+use Rattle.grouping_chart.proofs.RoomLaws.{roomy, either-false, long-enough, short-last}
+use Rattle.grouping_encode.specs.Encode.{searchLimit}
 use Rattle.evaluator_calls.specs.declared.Colouring.{Colouring}
 use Rattle.evaluator_calls.specs.declared.Colouring.the-variants as colouring
 use Rattle.evaluator_calls.specs.declared.Stretching.{Stretching}
 use Rattle.evaluator_calls.specs.declared.Stretching.the-variants as stretching
 use Rattle.evaluator_calls.specs.Stretch.{meanOf, meanTenths}
-use Rattle.evaluator_calls.specs.Calls.{Memory, Outcome, short, valuesOf, filled, colourBy, colourOutcome, stretchVerdict, stretchBy, stretchOutcome}
+use Rattle.evaluator_calls.specs.Calls.{Memory, Outcome, baseTolerance, beside, valuesOf, filled, colourBy, colourOutcome, stretchVerdict, stretchBy, stretchOutcome}
 use Rattle.evaluator_calls.specs.Passes.{ChartRoom, Coloured}
-
--- ---- no slice is too short
-or-both : (a b : Bool) → (a || b) ≡ false → (a ≡ false) × (b ≡ false)
-or-both true b h = absurd (true≢false h)
-or-both false b h = (refl, h)
-
-pub record Enough (n : ℕ) (m : Memory) : Type 0 where
-  pub value : n ≤ length (m .value)
-  pub work : 8 * n ≤ length (m .work)
-  pub scratch : n ≤ length (m .scratch)
-
-enough : (n : ℕ) (m : Memory) → short n m ≡ false → Enough n m
-unfolding short
-enough n m h =
-    let h1 = or-both _ _ h in
-    let h2 = or-both _ _ (h1 .1) in
-    record { value = ltb-false _ _ (h1 .0); work = ltb-false _ _ (h2 .0); scratch = ltb-false _ _ (h2 .1) }
 
 -- ---- a stretch that is not refused
 pub record Within (v : Verdict) (n a b : ℕ) : Type 0 where
@@ -53,30 +40,47 @@ not-refused false number at e = refl
 pub within-bounds : (v : Verdict) (n a b : ℕ) → stretchVerdict v n a b ≡ Accepted → Within v n a b
 unfolding stretchVerdict
 within-bounds Accepted n a b e =
-    let t = or-both _ _ (not-refused (leb b a || ltb n b) _ _ e) in
+    let t = either-false _ _ (not-refused (leb b a || ltb n b) _ _ e) in
     record { accepted = refl; some = leb-false _ _ (t .0); inside = ltb-false _ _ (t .1) }
 within-bounds (Refused number at) n a b e = absurd (let z : _≡_ {A = ℕ} 0 1 = cc in omega arith)
+
+-- ---- the literal 0.01 is the tolerance of the base
+tolerance-is : ofBits binary64 0x3f84_7ae1_47ae_147b ≡ baseTolerance
+unfolding ofBits round baseTolerance
+tolerance-is = refl
+
+pub at-base : {kinds : List ℕ} {ratios value₀ value : List Float} {work₀ work : List ℕ} {scratch₀ scratch : List Float}
+    → Coloured searchLimit (ofBits binary64 0x3f84_7ae1_47ae_147b) kinds ratios value₀ value work₀ work scratch₀ scratch
+    → Coloured searchLimit baseTolerance kinds ratios value₀ value work₀ work scratch₀ scratch
+at-base {kinds} {ratios} {value₀} {value} {work₀} {work} {scratch₀} {scratch} x =
+    subst (λ (t : Float). Coloured searchLimit t kinds ratios value₀ value work₀ work scratch₀ scratch) tolerance-is x
 
 -- ---- what the tests that were run say of the definition's verdict
 module _ (c : Chart) (m : Memory) where
   abbrev pub judged : Verdict
-  judged = verdict c (short (size c) m)
+  judged = verdict c (beside (size c) m)
 
-  -- the verdict on the call, from what `too_short` and `check` answered
-  pub verdict-is : (s : Bool) (v w : Verdict) → s ≡ short (size c) m → v ≡ verdict c s → v ≡ w → judged ≡ w
-  verdict-is s v w e f g = sym (ap (verdict c) e) ∙ sym f ∙ g
+  -- the verdict on the chart, from what `short_refusal` and `check` answered
+  pub judged-is : (b : ℕ) {v u : Verdict} → b ≡ shortRefusal (ltb (length (m .value)) (size c)) (size c) (length (m .work)) (length (m .scratch)) → v ≡ verdict c b → v ≡ u → judged ≡ u
+  unfolding beside
+  judged-is b e f g = verdict-is c (e ∙ ap (λ (x : Bool). shortRefusal x (size c) (length (m .work)) (length (m .scratch))) (short-last (size c) (length (m .value)))) f g
 
-  has-room : judged ≡ Accepted → Enough (size c) m
-  has-room h = enough (size c) m (accepted-good c (short (size c) m) h .room)
-
-  pub chart-room : judged ≡ Accepted → ChartRoom (size c) (c .ratios) (m .value) (m .work) (m .scratch)
+  pub chart-room : judged ≡ Accepted → ChartRoom (size c) searchLimit (c .ratios) (m .value) (m .work) (m .scratch)
+  unfolding beside
   chart-room h =
-      let g = accepted-good c (short (size c) m) h in
-      let r = has-room h in
-      record { regions = record { few = g .few; room = r .work }; values = record { ratio = g .lengths .ratio; room = r .value }; floats = r .scratch }
+      let g = accepted-good c (beside (size c) m) h in
+      let r = roomy _ (size c) _ _ (g .room) in
+      let v = long-enough (size c) _ _ (r .answered) in
+      record {
+        regions = record { few = g .few; room = r .regions };
+        values = record { ratio = g .lengths .ratio; room = v .0 };
+        floats = r .floats;
+        some = omega arith;
+        small = omega arith;
+      }
 
   -- the memory that the passes leave is the definition's
-  pub filled-is : (value scratch : List Float) (work : List ℕ) → Coloured (c .kinds) (c .ratios) (m .value) value (m .work) work (m .scratch) scratch
+  pub filled-is : (value scratch : List Float) (work : List ℕ) → Coloured searchLimit baseTolerance (c .kinds) (c .ratios) (m .value) value (m .work) work (m .scratch) scratch
       → _≡_ {A = Memory} (record { value = value; work = work; scratch = scratch }) (filled c m)
   unfolding filled valuesOf
   filled-is value scratch work e t = record { value = e .values t; work = e .cleared t; scratch = e .floats t }
@@ -92,8 +96,9 @@ module _ (c : Chart) (m : Memory) where
 
   module _ (a b : ℕ) where
     -- the same, with what `with_bounds` answered
-    pub stretch-is : (s : Bool) (u v w : Verdict) → s ≡ short (size c) m → u ≡ verdict c s → v ≡ stretchVerdict u (size c) a b → v ≡ w → stretchVerdict judged (size c) a b ≡ w
-    stretch-is s u v w e f g h = ap (λ (x : Verdict). stretchVerdict x (size c) a b) (verdict-is s u u e f refl) ∙ sym g ∙ h
+    pub stretch-is : (s : ℕ) {u v w : Verdict} → s ≡ shortRefusal (ltb (length (m .value)) (size c)) (size c) (length (m .work)) (length (m .scratch)) → u ≡ verdict c s
+        → v ≡ stretchVerdict u (size c) a b → v ≡ w → stretchVerdict judged (size c) a b ≡ w
+    stretch-is s e f g h = ap (λ (x : Verdict). stretchVerdict x (size c) a b) (judged-is s e f refl) ∙ sym g ∙ h
 
     pub stretch-refused : (number : ℕ) (place : ObjectIndex) → stretchVerdict judged (size c) a b ≡ Refused number place
         → _≡_ {A = Outcome Stretching} (record { answer = stretching.Refused number place; memory = m }) (stretchOutcome c a b m)

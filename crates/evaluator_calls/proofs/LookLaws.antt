@@ -8,7 +8,6 @@ use lib.Dec.{eqb}
 use lib.ListN.{length, getD}
 use lib.Ieee.{Float, nan}
 use Rattle.grouping_marks.proofs.FillLaws.{length-tabulate, getD-tabulate}
-use Rattle.grouping_encode.specs.Encode.{searchLimit}
 use Rattle.evaluator_color.specs.declared.Looked.{Looked}
 use Rattle.evaluator_calls.specs.Colour.{isFirst, lookedAt, colourAt, colourValues}
 use Rattle.evaluator_calls.specs.Passes.{LookedIs}
@@ -23,7 +22,7 @@ unfolding isFirst
 change-first numbers i x y h p q =
     (λ t. not (eqb (p t) (q t))) ∙ sym (ap (λ (b : Bool). cond b true (not (eqb (getD numbers i 0) (getD numbers (i - 1) 0)))) (ne-eqb i 0 h))
 
-pub looked-is : {kinds : List ℕ} {i : ℕ} {r : Looked} → LookedIs kinds i r → r ≡ lookedAt searchLimit kinds i
+pub looked-is : {limit : ℕ} {kinds : List ℕ} {i : ℕ} {r : Looked} → LookedIs limit kinds i r → r ≡ lookedAt limit kinds i
 unfolding lookedAt
 looked-is e t = record { interval = e .interval t; outer = e .outer t; inner = e .inner t; streak = e .streak t; pattern = e .pattern t; hit = e .hit t }
 

@@ -11,9 +11,10 @@ use Rattle.numeric.specs.Tenths.{InTenthsRange}
 use Rattle.grouping_marks.specs.Over.{over, part}
 use Rattle.grouping_marks.proofs.OverLaws.{length-over, front, length-part, getD-part, lent-part}
 use Rattle.grouping_chart.specs.Chart.{Chart, size}
+use Rattle.grouping_encode.specs.Encode.{searchLimit}
 use Rattle.evaluator_color.specs.Color.{zero}
 use Rattle.evaluator_calls.specs.Stretch.{sumFrom, meanOf}
-use Rattle.evaluator_calls.specs.Calls.{Memory, short, valuesOf}
+use Rattle.evaluator_calls.specs.Calls.{Memory, baseTolerance, beside, valuesOf}
 use Rattle.evaluator_calls.specs.Passes.{Coloured}
 use Rattle.evaluator_calls.proofs.CallsLaws.{Within, judged, chart-room}
 use Rattle.evaluator_calls.proofs.BoundLaws.{length-valuesOf, mean-tenths}
@@ -31,12 +32,12 @@ part-over a n new old h r =
 
 -- ---- an accepted stretch, after the values are filled
 module _ (c : Chart) (m : Memory) (a b : ℕ) (w : Within (judged c m) (size c) a b) (value scratch : List Float) (work : List ℕ)
-    (e : Coloured (c .kinds) (c .ratios) (m .value) value (m .work) work (m .scratch) scratch) where
+    (e : Coloured searchLimit baseTolerance (c .kinds) (c .ratios) (m .value) value (m .work) work (m .scratch) scratch) where
   abbrev values : List Float
   values = valuesOf c
 
   long : length values ≡ size c
-  long = length-valuesOf c (short (size c) m) (w .accepted)
+  long = length-valuesOf c (beside (size c) m) (w .accepted)
 
   filled-value : value ≡ over values (m .value)
   unfolding valuesOf
@@ -65,4 +66,4 @@ module _ (c : Chart) (m : Memory) (a b : ℕ) (w : Within (judged c m) (size c) 
   mean-is mean h = h ∙ (λ t. div binary64 (sumFrom zero (lent-is t)) (ofInt binary64 (pos (lent-length t))))
 
   pub mean-in-range : (mean : Float) → mean ≡ div binary64 (sumFrom zero (take (b - a) (drop a value))) (ofInt binary64 (pos (length (take (b - a) (drop a value))))) → InTenthsRange mean
-  mean-in-range mean h = subst InTenthsRange (sym (mean-is mean h)) (mean-tenths c (short (size c) m) (w .accepted) a b (w .some) (w .inside))
+  mean-in-range mean h = subst InTenthsRange (sym (mean-is mean h)) (mean-tenths c (beside (size c) m) (w .accepted) a b (w .some) (w .inside))

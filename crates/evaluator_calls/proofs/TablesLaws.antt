@@ -10,24 +10,23 @@ use Rattle.grouping_marks.specs.Scan.{gathered}
 use Rattle.grouping_marks.proofs.OverLaws.{getD-part, over-agree}
 use Rattle.grouping_marks.proofs.FillLaws.{getD-gathered}
 use Rattle.grouping_color.specs.MonoStreak.{streakOf}
-use Rattle.grouping_color.specs.Preprocessor.{streakPlaceOf, patternOf, patternPlaceOf, hitOf, intervalOf}
+use Rattle.grouping_color.specs.Preprocessor.{hitIntervals, streakPlaceOf, patternOf, patternPlaceOf, hitOf, intervalOf}
 use Rattle.grouping_color.specs.Passes.{Regions, Tables}
 use Rattle.grouping_color.specs.declared.preprocessor.Counts.{Counts}
 use Rattle.grouping_color.proofs.BoundLaws.{streakPlaceOf-looked, patternOf-looked, patternPlaceOf-looked, hitOf-looked, intervalOf-looked, length-streakOf, length-patternOf, length-hitOf, streak-below, patternOf-below, hitOf-below}
-use Rattle.grouping_encode.specs.Encode.{searchLimit}
 use Rattle.evaluator_calls.specs.Colour.{colourValues}
-use Rattle.evaluator_calls.specs.Calls.{baseTolerance}
 use Rattle.evaluator_calls.specs.Passes.{Tabled, ObjectIn, NumbersAt, Coloured}
 use Rattle.evaluator_calls.specs.declared.tables.Numbers.{Numbers}
 
 -- ---- the encoder's answer says where its tables lie
-pub tabled : {kinds w₀ w : List ℕ} {k : Counts} → Regions (length kinds) w₀ → Tables searchLimit kinds w₀ w k → Tabled kinds w k
-tabled r t = record {
+pub tabled : {limit : ℕ} {kinds w₀ w : List ℕ} {k : Counts} → Regions (length kinds) w₀ → Tables limit kinds w₀ w k → Tabled kinds w k
+tabled {limit} {kinds} r t = record {
   regions = record { few = r .few; room = omega (arith, r .room, t .outside .same) };
   tables = record {
     count-s = t .count-s;
     count-p = t .count-p;
     count-h = t .count-h;
+    searched = refl;
     few-s = t .few-s;
     few-p = t .few-p;
     few-h = t .few-h;
@@ -36,17 +35,17 @@ tabled r t = record {
     streak-place = t .streak-place;
     hit = t .hit;
     pattern-place = t .pattern-place;
-    interval = t .interval;
+    interval = t .interval ∙ ap (λ (l : ℕ). hitIntervals l kinds) (sym (t .searched));
     outside = record { same = refl; beyond = refl };
   };
 }
 
 -- the values written, and the tables cleared
-pub coloured : {kinds w₀ w work : List ℕ} {k : Counts} {ratios value₀ value scratch₀ scratch : List Float} (tolerance : Float) → tolerance ≡ baseTolerance → Tables searchLimit kinds w₀ w k
-    → value ≡ over (colourValues searchLimit tolerance kinds ratios) value₀ → work ≡ over (replicate (8 * length kinds) 0) w
-    → scratch ≡ over (replicate (length kinds) (ofBits binary64 0)) scratch₀ → Coloured kinds ratios value₀ value w₀ work scratch₀ scratch
-coloured {kinds} {w₀} {w} {ratios} {value₀} tolerance e t v z s = record {
-  values = v ∙ ap (λ (x : Float). over (colourValues searchLimit x kinds ratios) value₀) e;
+pub coloured : {kinds w₀ w work : List ℕ} {k : Counts} {limit : ℕ} {ratios value₀ value scratch₀ scratch : List Float} (tolerance : Float) → Tables limit kinds w₀ w k
+    → value ≡ over (colourValues (k .limit) tolerance kinds ratios) value₀ → work ≡ over (replicate (8 * length kinds) 0) w
+    → scratch ≡ over (replicate (length kinds) (ofBits binary64 0)) scratch₀ → Coloured limit tolerance kinds ratios value₀ value w₀ work scratch₀ scratch
+coloured {kinds} {w₀} {w} {ratios} {value₀} tolerance t v z s = record {
+  values = v ∙ ap (λ (l : ℕ). over (colourValues l tolerance kinds ratios) value₀) (t .searched);
   cleared = z ∙ over-agree (replicate (8 * length kinds) 0) w w₀ (8 * length kinds) (length-replicate (8 * length kinds) 0) (t .outside .beyond);
   floats = s;
 }
@@ -88,9 +87,9 @@ module _ {kinds w : List ℕ} {k : Counts} {i : ℕ} (o : ObjectIn kinds w k i) 
   numbers-are = record { streaks = streak-is; patterns = pattern-is; hits = hit-is; in-streaks = streak-in; in-patterns = pattern-in; in-hits = hit-in }
 
   module _ {r : Numbers} (a : NumbersAt kinds k i r) where
-    pub interval-is : getD w (7 * length kinds + r .hit) 0 ≡ getD (intervalOf searchLimit kinds) i 0
+    pub interval-is : getD w (7 * length kinds + r .hit) 0 ≡ getD (intervalOf (k .limit) kinds) i 0
     interval-is =
-        looked w (7 * length kinds) (k .hits) _ (hitOf kinds) _ i (r .hit) (o .tabled .tables .interval) (intervalOf-looked kinds searchLimit)
+        looked w (7 * length kinds) (k .hits) _ (hitOf kinds) _ i (r .hit) (o .tabled .tables .interval) (intervalOf-looked kinds (k .limit))
         (omega (arith, length-hitOf kinds, o .within)) (a .in-hits) (a .hits)
 
     pub outer-is : getD w (2 * length kinds + r .pattern) 0 ≡ getD (patternPlaceOf kinds) i 0

@@ -1,13 +1,14 @@
 -- Document 01, "Calls and what they fill", colour and stretch: what each answers, and what every lent slice holds afterwards. Refusal 9 is tested after 1 to 7.
 use Prim.Native.Nat.{ℕ, _*_}
-use mathlib.Core.Bool.{Bool, false, _||_, cond}
-use mathlib.Core.List.{List}
+use mathlib.Core.Bool.{false, _||_, cond}
+use mathlib.Core.List.{List, [], _∷_}
 use lib.Dec.{ltb, leb}
 use lib.ListN.{length, replicate}
 use lib.Ieee.{Float, binary64, ofBits, round}
 use Rattle.grouping_marks.specs.Over.{over}
 use Rattle.grouping_chart.specs.Chart.{Chart, size}
 use Rattle.grouping_chart.specs.Refusal.{verdict, refused}
+use Rattle.grouping_chart.specs.Room.{anyShort, shortRefusal}
 use Rattle.grouping_chart.specs.declared.chart.Verdict.{Verdict}
 use Rattle.grouping_chart.specs.declared.chart.Verdict.the-variants.{Accepted, Refused}
 use Rattle.grouping_encode.specs.Encode.{searchLimit}
@@ -32,8 +33,9 @@ pub record Outcome (Answer : Type 0) : Type 0 where
 unfoldable pub baseTolerance : Float
 baseTolerance = round binary64 false 1 100
 
-unfoldable pub short : ℕ → Memory → Bool
-short n m = ltb (length (m .value)) n || (ltb (length (m .work)) (8 * n) || ltb (length (m .scratch)) n)
+-- the number of what is refused beside the chart, or 0
+unfoldable pub beside : ℕ → Memory → ℕ
+beside n m = shortRefusal (anyShort n (length (m .value) ∷ [])) n (length (m .work)) (length (m .scratch))
 
 -- the chart's colour values
 unfoldable pub valuesOf : Chart → List Float
@@ -53,7 +55,7 @@ colourBy Accepted c m = record { answer = colouring.Done; memory = filled c m }
 colourBy (Refused number place) c m = record { answer = colouring.Refused number place; memory = m }
 
 unfoldable pub colourOutcome : Chart → Memory → Outcome Colouring
-colourOutcome c m = colourBy (verdict c (short (size c) m)) c m
+colourOutcome c m = colourBy (verdict c (beside (size c) m)) c m
 
 -- "9 stretch with a ≥ b or b > n"
 unfoldable pub stretchVerdict : Verdict → ℕ → ℕ → ℕ → Verdict
@@ -65,4 +67,4 @@ stretchBy Accepted c a b m = record { answer = stretching.Done (meanOf (valuesOf
 stretchBy (Refused number place) c a b m = record { answer = stretching.Refused number place; memory = m }
 
 unfoldable pub stretchOutcome : Chart → ℕ → ℕ → Memory → Outcome Stretching
-stretchOutcome c a b m = stretchBy (stretchVerdict (verdict c (short (size c) m)) (size c) a b) c a b m
+stretchOutcome c a b m = stretchBy (stretchVerdict (verdict c (beside (size c) m)) (size c) a b) c a b m

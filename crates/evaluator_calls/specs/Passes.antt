@@ -10,16 +10,14 @@ use Rattle.grouping_color.specs.MonoStreak.{streakOf}
 use Rattle.grouping_color.specs.Preprocessor.{streakPlaceOf, patternOf, patternPlaceOf, hitOf, intervalOf}
 use Rattle.grouping_color.specs.Passes.{Regions, Tables}
 use Rattle.grouping_color.specs.declared.preprocessor.Counts.{Counts}
-use Rattle.grouping_encode.specs.Encode.{searchLimit}
 use Rattle.evaluator_color.specs.declared.Looked.{Looked}
 use Rattle.evaluator_calls.specs.Colour.{isFirst, colourValues}
-use Rattle.evaluator_calls.specs.Calls.{baseTolerance}
 use Rattle.evaluator_calls.specs.declared.tables.Numbers.{Numbers}
 
 -- the encoder's tables lie in w
 pub record Tabled (kinds w : List ℕ) (k : Counts) : Type 0 where
   pub regions : Regions (length kinds) w
-  pub tables : Tables searchLimit kinds w w k
+  pub tables : Tables (k .limit) kinds w w k
 
 -- an object of the chart, with the encoder's tables
 pub record ObjectIn (kinds w : List ℕ) (k : Counts) (i : ℕ) : Type 0 where
@@ -35,9 +33,9 @@ pub record NumbersAt (kinds : List ℕ) (k : Counts) (i : ℕ) (r : Numbers) : T
   pub in-patterns : r .pattern < k .patterns
   pub in-hits : r .hit < k .hits
 
--- all that the evaluator looks at of the object is as the definition has it
-pub record LookedIs (kinds : List ℕ) (i : ℕ) (r : Looked) : Type 0 where
-  pub interval : r .interval ≡ getD (intervalOf searchLimit kinds) i 0
+-- all that the evaluator looks at of the object is as the definition has it under the search limit
+pub record LookedIs (limit : ℕ) (kinds : List ℕ) (i : ℕ) (r : Looked) : Type 0 where
+  pub interval : r .interval ≡ getD (intervalOf limit kinds) i 0
   pub outer : r .outer ≡ getD (patternPlaceOf kinds) i 0
   pub inner : r .inner ≡ getD (streakPlaceOf kinds) i 0
   pub streak : r .streak ≡ isFirst (streakOf kinds) i
@@ -55,14 +53,16 @@ pub record ValueRoom (n : ℕ) (ratios values : List Float) : Type 0 where
   pub ratio : length ratios ≡ n
   pub room : n ≤ length values
 
--- room for n objects in every slice that is written
-pub record ChartRoom (n : ℕ) (ratios value : List Float) (work : List ℕ) (scratch : List Float) : Type 0 where
+-- room for n objects in every slice that is written, and a search limit
+pub record ChartRoom (n limit : ℕ) (ratios value : List Float) (work : List ℕ) (scratch : List Float) : Type 0 where
   pub regions : Regions n work
   pub values : ValueRoom n ratios value
   pub floats : n ≤ length scratch
+  pub some : 1 ≤ limit
+  pub small : limit < 65535
 
--- what both calls do with an accepted chart
-pub record Coloured (kinds : List ℕ) (ratios value₀ value : List Float) (work₀ work : List ℕ) (scratch₀ scratch : List Float) : Type 0 where
-  pub values : value ≡ over (colourValues searchLimit baseTolerance kinds ratios) value₀
+-- what both calls do with an accepted chart, under a search limit and a tolerance
+pub record Coloured (limit : ℕ) (tolerance : Float) (kinds : List ℕ) (ratios value₀ value : List Float) (work₀ work : List ℕ) (scratch₀ scratch : List Float) : Type 0 where
+  pub values : value ≡ over (colourValues limit tolerance kinds ratios) value₀
   pub cleared : work ≡ over (replicate (8 * length kinds) 0) work₀
   pub floats : scratch ≡ over (replicate (length kinds) (ofBits binary64 0)) scratch₀

@@ -1,12 +1,13 @@
 // The calls colour and stretch: one f64 an object, and the mean of a stretch of them.
 ghost use mathlib.Core.Path.{_≡_};
 ghost use lib.ListN.{length};
-ghost use Rattle.evaluator_calls.specs.Calls.{Outcome, short, colourOutcome, stretchOutcome};
+ghost use Rattle.evaluator_calls.specs.Calls.{Outcome, colourOutcome, stretchOutcome};
 ghost use Rattle.evaluator_calls.specs.Passes.{ChartRoom, Coloured};
 ghost use Rattle.evaluator_calls.specs.declared.Colouring.{Colouring};
 ghost use Rattle.evaluator_calls.specs.declared.Stretching.{Stretching};
 use grouping_chart::chart::Verdict;
 use grouping_chart::object::ObjectIndex;
+use grouping_chart::room::short_refusal;
 use grouping_marks::fill;
 
 pub mod mean;
@@ -24,29 +25,23 @@ pub enum Stretching {
     Refused(u8, ObjectIndex),
 }
 
-// Whether a slice has too few places for n objects.
-fn too_short(n: usize, value: &[f64], work: &[u16], scratch: &[f64]) -> bool
-    ensures { λ r. ⌜ r ≡ short n (record { value = now (value .entry); work = now (work .entry); scratch = now (scratch .entry) }) ⌝ }
-{
-    if value.len() < n {
-        return true;
-    }
-    // work.len() < 8 * n, without a product that could wrap
-    if work.len() / 8 < n {
-        return true;
-    }
-    scratch.len() < n
-}
-
 // What both calls do with an accepted chart: encode, fill the values, and clear the work slices.
-fn fill_chart(kind: &[u8], ratio: &[f64], value: &mut [f64], work: &mut [u16], scratch: &mut [f64])
-    requires { ⌜ ChartRoom (length (now kind)) (now ratio) (now value) (now work) (now scratch) ⌝ }
-    ensures { λ r. ⌜ Coloured (now (kind .entry)) (now (ratio .entry)) (now (value .entry)) (now (value .exit)) (now (work .entry)) (now (work .exit)) (now (scratch .entry)) (now (scratch .exit)) ⌝ }
+fn fill_chart(
+    kind: &[u8],
+    ratio: &[f64],
+    limit: u16,
+    tolerance: f64,
+    value: &mut [f64],
+    work: &mut [u16],
+    scratch: &mut [f64],
+)
+    requires { ⌜ ChartRoom (length (now kind)) limit (now ratio) (now value) (now work) (now scratch) ⌝ }
+    ensures { λ r. ⌜ Coloured limit tolerance (now (kind .entry)) (now (ratio .entry)) (now (value .entry)) (now (value .exit)) (now (work .entry)) (now (work .exit)) (now (scratch .entry)) (now (scratch .exit)) ⌝ }
 {
     let n = kind.len();
-    let k = grouping_color::preprocessor::encode_colors(kind, work, 16);
+    let k = grouping_color::preprocessor::encode_colors(kind, work, limit);
     let table = numeric::logistic::table();
-    tables::fill_values(&table, kind, ratio, work, k, 0.01, value);
+    tables::fill_values(&table, kind, ratio, work, k, tolerance, value);
     fill::clear(work, 8 * n);
     fill::clear_floats(scratch, n);
 }
@@ -66,11 +61,11 @@ pub fn colour(
         (record { value = now (value .entry); work = now (work .entry); scratch = now (scratch .entry) })) ⌝ }
 {
     let n = kind.len();
-    let short = too_short(n, value, work, scratch);
-    match grouping_chart::chart::check(kind, start, delta, ratio, short) {
+    let beside = short_refusal(value.len() < n, n, work.len(), scratch.len());
+    match grouping_chart::chart::check(kind, start, delta, ratio, beside) {
         Verdict::Refused(number, place) => Colouring::Refused(number, place),
         Verdict::Accepted => {
-            fill_chart(kind, ratio, value, work, scratch);
+            fill_chart(kind, ratio, 16, 0.01, value, work, scratch);
             Colouring::Done
         }
     }
@@ -93,16 +88,12 @@ pub fn stretch(
         (record { value = now (value .entry); work = now (work .entry); scratch = now (scratch .entry) })) ⌝ }
 {
     let n = kind.len();
-    let short = too_short(n, value, work, scratch);
-    match mean::with_bounds(
-        grouping_chart::chart::check(kind, start, delta, ratio, short),
-        n,
-        a,
-        b,
-    ) {
+    let beside = short_refusal(value.len() < n, n, work.len(), scratch.len());
+    let verdict = grouping_chart::chart::check(kind, start, delta, ratio, beside);
+    match mean::with_bounds(verdict, n, a, b) {
         Verdict::Refused(number, place) => Stretching::Refused(number, place),
         Verdict::Accepted => {
-            fill_chart(kind, ratio, value, work, scratch);
+            fill_chart(kind, ratio, 16, 0.01, value, work, scratch);
             let mean = mean::mean(&value[a..b]);
             Stretching::Done(mean, numeric::tenths::tenths(mean))
         }

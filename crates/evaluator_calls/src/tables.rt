@@ -4,7 +4,6 @@ ghost use Prim.Native.Nat.{_-_, _<_, _≤_};
 ghost use lib.ListN.{length, getD};
 ghost use lib.Ieee.{nan};
 ghost use Rattle.grouping_marks.specs.Over.{over};
-ghost use Rattle.grouping_encode.specs.Encode.{searchLimit};
 ghost use Rattle.evaluator_calls.specs.Colour.{colourAt, colourValues};
 ghost use Rattle.evaluator_calls.specs.Passes.{ObjectIn, NumbersAt, LookedIs, Lent};
 use evaluator_color::Looked;
@@ -35,7 +34,7 @@ fn numbers_at(kind: &[u8], w: &[u16], k: Counts, i: usize) -> Numbers
 // What the evaluator looks at of object i.
 fn look(kind: &[u8], w: &[u16], k: Counts, i: usize) -> Looked
     requires { ⌜ ObjectIn (now kind) (now w) k i ⌝ }
-    ensures { λ r. ⌜ LookedIs (now (kind .entry)) i r ⌝ }
+    ensures { λ r. ⌜ LookedIs (k .limit) (now (kind .entry)) i r ⌝ }
 {
     let n = kind.len();
     let at = numbers_at(kind, w, k, i);
@@ -87,7 +86,7 @@ fn value_at(
     i: usize,
 ) -> f64
     requires { ⌜ Lent (now table) (now kind) (now ratio) (now w) k ⌝ ∗ ⌜ i < length (now kind) ⌝ }
-    ensures { λ r. ⌜ r ≡ colourAt searchLimit tolerance (now (kind .entry)) (now (ratio .entry)) i ⌝ }
+    ensures { λ r. ⌜ r ≡ colourAt (k .limit) tolerance (now (kind .entry)) (now (ratio .entry)) i ⌝ }
 {
     let sum = evaluator_color::object_sum(table, look(kind, w, k, i));
     let c = ratio[i];
@@ -106,7 +105,7 @@ pub fn fill_values(
     value: &mut [f64],
 )
     requires { ⌜ Lent (now table) (now kind) (now ratio) (now w) k ⌝ ∗ ⌜ length (now kind) ≤ length (now value) ⌝ }
-    ensures { λ r. ⌜ now (value .exit) ≡ over (colourValues searchLimit tolerance (now (kind .entry)) (now (ratio .entry))) (now (value .entry)) ⌝ }
+    ensures { λ r. ⌜ now (value .exit) ≡ over (colourValues (k .limit) tolerance (now (kind .entry)) (now (ratio .entry))) (now (value .entry)) ⌝ }
 {
     let mut i = 0;
     while i < kind.len() {

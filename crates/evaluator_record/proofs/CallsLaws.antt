@@ -1,10 +1,10 @@
 -- The outcomes of record, case by case, over plain lists: a refusal leaves all as lent, and an accepted call has room in both slices and finite deltas. Assumes nothing.
 use mathlib.Core.Path.{_≡_, refl, sym, ap, _∙_}
-use mathlib.Core.Bool.{Bool, true, false, cond, _||_, true≢false}
+use mathlib.Core.Bool.{Bool, true, false, cond}
 use mathlib.Core.List.{List}
-use Prim.Native.Nat.{ℕ, _*_, _≤_, _<_}
+use Prim.Native.Nat.{ℕ, _≤_, _<_}
 use native.Mathlib.Omega.{arith}
-use borrow.Author.Tests.{lt-ltb, le-ltb, ltb-false}
+use borrow.Author.Tests.{lt-ltb, le-ltb}
 use lib.Dec.{T, ltb}
 use lib.IntN.{pos}
 use lib.ListN.{length, getD}
@@ -13,32 +13,20 @@ use lib.Ieee.Scale.{finite}
 use Rattle.numeric.proofs.Values.{finite-between}
 use Rattle.grouping_chart.specs.Chart.{Chart, size}
 use Rattle.grouping_chart.specs.Refusal.{within, timeGood, verdict, refused}
+use Rattle.grouping_chart.specs.Room.{shortRefusal}
 use Rattle.grouping_chart.specs.declared.object.ObjectIndex.{ObjectIndex}
 use Rattle.grouping_chart.specs.declared.chart.Verdict.{Verdict}
 use Rattle.grouping_chart.specs.declared.chart.Verdict.the-variants.{Accepted, Refused}
 use Rattle.grouping_chart.proofs.AcceptedLaws.{accepted-good}
+use Rattle.grouping_chart.proofs.RefusalLaws.{verdict-is}
+use Rattle.grouping_chart.proofs.RoomLaws.{roomy, none-asked}
 use Rattle.grouping_rhythm.specs.Rhythm.{baseMargin, groupsIn}
 use Rattle.evaluator_record.specs.declared.GroupRecord.{GroupRecord}
 use Rattle.evaluator_record.specs.declared.Recording.the-variants.{Done}
 use Rattle.evaluator_record.specs.declared.Recording.the-variants as answer
 use Rattle.evaluator_record.specs.Record.{recordOf}
-use Rattle.evaluator_record.specs.Calls.{Memory, Outcome, baseThreshold, short, windowGood, recordVerdict, cleared, recordBy, recordOutcome}
+use Rattle.evaluator_record.specs.Calls.{Memory, Outcome, baseThreshold, beside, windowGood, recordVerdict, cleared, recordBy, recordOutcome}
 use Rattle.evaluator_record.specs.Passes.{GroupRoom, Recorded}
-
--- ---- no slice is too short
-or-both : (a b : Bool) → (a || b) ≡ false → (a ≡ false) × (b ≡ false)
-or-both true b h = absurd (true≢false h)
-or-both false b h = (refl, h)
-
-record Enough (n : ℕ) (m : Memory) : Type 0 where
-  work : 8 * n ≤ length (m .work)
-  scratch : n ≤ length (m .scratch)
-
-enough : (n : ℕ) (m : Memory) → short n m ≡ false → Enough n m
-unfolding short
-enough n m h =
-    let t = or-both _ _ h in
-    record { work = ltb-false _ _ (t .0); scratch = ltb-false _ _ (t .1) }
 
 -- ---- a time in range is finite
 both-T : (a b : Bool) → T (cond a b false) → T a × T b
@@ -61,28 +49,30 @@ groupsOf c = groupsIn baseMargin (c .kinds) (c .deltas)
 module _ (c : Chart) (m : Memory) where
   -- the verdict on the chart
   abbrev pub judged : Verdict
-  judged = verdict c (short (size c) m)
+  judged = verdict c (beside (size c) m)
 
-  -- from what `too_short` and `check` answered
-  pub verdict-is : (s : Bool) (v w : Verdict) → s ≡ short (size c) m → v ≡ verdict c s → v ≡ w → judged ≡ w
-  verdict-is s v w e f h = sym (ap (verdict c) e) ∙ sym f ∙ h
+  -- from what `short_refusal` and `check` answered
+  pub judged-is : (b : ℕ) {v u : Verdict} → b ≡ shortRefusal false (size c) (length (m .work)) (length (m .scratch)) → v ≡ verdict c b → v ≡ u → judged ≡ u
+  unfolding beside
+  judged-is b e f g = verdict-is c (e ∙ ap (λ (x : Bool). shortRefusal x (size c) (length (m .work)) (length (m .scratch))) (none-asked (size c))) f g
 
   pub lengths-same : judged ≡ Accepted → length (c .deltas) ≡ length (c .kinds)
-  lengths-same h = accepted-good c (short (size c) m) h .lengths .delta
+  lengths-same h = accepted-good c (beside (size c) m) h .lengths .delta
 
   pub group-room : (margin : Float) (g : ℕ) → judged ≡ Accepted → g < groupsOf c → margin ≡ baseMargin
       → GroupRoom margin (c .kinds) (c .starts) (c .deltas) g (m .work) (m .scratch)
+  unfolding beside
   group-room margin g h there b =
-      let good = accepted-good c (short (size c) m) h in
-      let e = enough (size c) m (good .room) in
+      let good = accepted-good c (beside (size c) m) h in
+      let e = roomy _ (size c) _ _ (good .room) in
       record {
         few = good .few;
         started = good .lengths .start;
         whole = good .lengths .delta;
         numbers = λ i k. finite-time (getD (c .deltas) i nan) (good .objects i nan (omega (arith, good .lengths .delta)) .delta);
         there = omega (arith, there, ap (λ (x : Float). groupsIn x (c .kinds) (c .deltas)) b);
-        regions = e .work;
-        floats = e .scratch;
+        regions = e .regions;
+        floats = e .floats;
       }
 
   -- ---- each case leaves its outcome

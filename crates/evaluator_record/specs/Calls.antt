@@ -1,7 +1,7 @@
 -- Document 01, "Calls and what they fill", record: what it answers, and what every lent slice holds afterwards. Refusals 8 and 9 are tested after 1 to 7.
 use Prim.Native.Nat.{ℕ, _*_}
-use mathlib.Core.Bool.{Bool, false, cond, _||_}
-use mathlib.Core.List.{List}
+use mathlib.Core.Bool.{Bool, false, cond}
+use mathlib.Core.List.{List, []}
 use lib.Dec.{ltb}
 use lib.IntN.{pos}
 use lib.ListN.{length, replicate}
@@ -9,6 +9,7 @@ use lib.Ieee.{Float, fin, binary64, ofBits, round}
 use Rattle.grouping_marks.specs.Over.{over}
 use Rattle.grouping_chart.specs.Chart.{Chart, size}
 use Rattle.grouping_chart.specs.Refusal.{within, verdict, refused}
+use Rattle.grouping_chart.specs.Room.{anyShort, shortRefusal}
 use Rattle.grouping_chart.specs.declared.chart.Verdict.{Verdict}
 use Rattle.grouping_chart.specs.declared.chart.Verdict.the-variants.{Accepted, Refused}
 use Rattle.grouping_rhythm.specs.Rhythm.{baseMargin, groupsIn}
@@ -30,8 +31,9 @@ pub record Outcome : Type 0 where
 unfoldable pub baseThreshold : Float
 baseThreshold = round binary64 false 1 10
 
-unfoldable pub short : ℕ → Memory → Bool
-short n m = ltb (length (m .work)) (8 * n) || ltb (length (m .scratch)) n
+-- the number of what is refused beside the chart, or 0; there are no answer slices
+unfoldable pub beside : ℕ → Memory → ℕ
+beside n m = shortRefusal (anyShort n []) n (length (m .work)) (length (m .scratch))
 
 -- from 1.0 to 1,000.0: a NaN is not
 unfoldable pub windowGood : Float → Bool
@@ -57,4 +59,4 @@ recordBy (Refused number place) c g window m = record { answer = answer.Refused 
 
 unfoldable pub recordOutcome : Chart → ℕ → Float → Memory → Outcome
 recordOutcome c g window m =
-    recordBy (recordVerdict (verdict c (short (size c) m)) window g (groupsIn baseMargin (c .kinds) (c .deltas))) c g window m
+    recordBy (recordVerdict (verdict c (beside (size c) m)) window g (groupsIn baseMargin (c .kinds) (c .deltas))) c g window m

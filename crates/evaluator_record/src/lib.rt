@@ -1,10 +1,11 @@
 // The call record: what is said of one rhythm group.
 ghost use mathlib.Core.Path.{_≡_};
-ghost use Rattle.evaluator_record.specs.Calls.{Outcome, short, windowGood, recordOutcome};
+ghost use Rattle.evaluator_record.specs.Calls.{Outcome, windowGood, recordOutcome};
 ghost use Rattle.evaluator_record.specs.Passes.{GroupRoom, Recorded};
 use evaluator_rhythm::repeated_interval_penalty;
 use grouping_chart::chart::Verdict;
 use grouping_chart::object::ObjectIndex;
+use grouping_chart::room::short_refusal;
 use grouping_marks::fill;
 use grouping_same_rhythm::own::Own;
 use numeric::canonical::canonical;
@@ -28,17 +29,6 @@ pub struct GroupRecord {
 pub enum Recording {
     Done(GroupRecord),
     Refused(u8, ObjectIndex),
-}
-
-// Whether a slice has too few places for n objects.
-fn too_short(n: usize, work: &[u16], scratch: &[f64]) -> bool
-    ensures { λ r. ⌜ r ≡ short n (record { work = now (work .entry); scratch = now (scratch .entry) }) ⌝ }
-{
-    // work.len() < 8 * n, without a product that could wrap
-    if work.len() / 8 < n {
-        return true;
-    }
-    scratch.len() < n
 }
 
 fn window_good(window: f64) -> bool
@@ -102,31 +92,18 @@ pub fn record(
         (recordOutcome (record { kinds = now (kind .entry); starts = now (start .entry); deltas = now (delta .entry); ratios = now (ratio .entry) }) g window
         (record { work = now (work .entry); scratch = now (scratch .entry) })) ⌝ }
 {
-    // the margin and the penalty threshold of the base
-    let margin = 5.0;
-    let threshold = 0.1;
-    let n = kind.len();
-    let short = too_short(n, work, scratch);
-    match grouping_chart::chart::check(kind, start, delta, ratio, short) {
+    let beside = short_refusal(false, kind.len(), work.len(), scratch.len());
+    match grouping_chart::chart::check(kind, start, delta, ratio, beside) {
         Verdict::Refused(number, place) => Recording::Refused(number, place),
         Verdict::Accepted => {
             if !window_good(window) {
                 return Recording::Refused(8, ObjectIndex(0));
             }
-            if grouping_notes::count_groups(kind, delta, margin) <= g {
+            // 5.0 and 0.1 are the margin and the penalty threshold of the base
+            if grouping_notes::count_groups(kind, delta, 5.0) <= g {
                 return Recording::Refused(9, ObjectIndex(0));
             }
-            let r = make_record(
-                kind,
-                start,
-                delta,
-                margin,
-                threshold,
-                g,
-                window,
-                work,
-                scratch,
-            );
+            let r = make_record(kind, start, delta, 5.0, 0.1, g, window, work, scratch);
             Recording::Done(r)
         }
     }

@@ -12,7 +12,9 @@ use Rattle.grouping_chart.specs.declared.object.ObjectIndex.{ObjectIndex
 use Rattle.grouping_chart.specs.declared.chart.Verdict.{Verdict}
 use Rattle.grouping_chart.specs.declared.chart.Verdict.the-variants.{Accepted, Refused}
 use Rattle.grouping_chart.specs.Chart.{Chart, SameLengths, even}
-use Rattle.grouping_chart.specs.Refusal.{timeGood, ratioGood, objectRefusal, firstRefused, verdict}
+use Rattle.grouping_chart.specs.Refusal.{within, earliest, latest, least, greatest, timeGood, ratioGood, objectRefusal, firstRefused, verdict}
+use Rattle.grouping_chart.specs.Passes.{kindGood, allGood}
+use Rattle.grouping_chart.proofs.AllLaws.{both-true, all-each}
 use Rattle.grouping_chart.proofs.RefusalLaws.{all-even, verdict-objects}
 
 -- an object that is not refused
@@ -22,10 +24,10 @@ pub record GoodObject (k : ℕ) (s d r : Float) : Type 0 where
   pub delta : T (timeGood d)
   pub ratio : T (ratioGood r)
 
--- a chart that is not refused, in a call whose slices are not short
-pub record GoodChart (c : Chart) (short : Bool) : Type 0 where
+-- a chart that is not refused, in a call of which nothing is refused beside it
+pub record GoodChart (c : Chart) (beside : ℕ) : Type 0 where
   pub few : length (c .kinds) ≤ 16384
-  pub room : short ≡ false
+  pub room : beside ≡ 0
   pub lengths : SameLengths (length (c .kinds)) (c .starts) (c .deltas) (c .ratios)
   pub objects : (i : ℕ) (z : Float) → i < length (c .kinds)
       → GoodObject (getD (c .kinds) i 0) (getD (c .starts) i z) (getD (c .deltas) i z) (getD (c .ratios) i z)
@@ -92,6 +94,21 @@ good-objects j (k ∷ ks) (s ∷ ss) (d ∷ ds) (r ∷ rs) g =
     let later : firstRefused (j + 1) ks ss ds rs ≡ Accepted = good-objects (j + 1) ks ss ds rs (λ i z h. g (suc i) z (omega arith)) in
     rw here later
 
+-- where all lists are good no object is refused
+pub all-good-accepted : (kinds : List ℕ) (starts deltas ratios : List Float) → SameLengths (length kinds) starts deltas ratios → allGood kinds starts deltas ratios ≡ true
+    → Accepted ≡ firstRefused 0 kinds starts deltas ratios
+unfolding allGood timeGood ratioGood
+all-good-accepted kinds starts deltas ratios same e =
+    let k = both-true _ _ e in
+    let s = both-true _ _ (k .1) in
+    let d = both-true _ _ (s .1) in
+    sym (good-objects 0 kinds starts deltas ratios (λ i z h. record {
+      kind = leb-true _ 2 (all-each kindGood kinds (k .0) i 0 h);
+      start = T-of _ (all-each (within earliest latest) starts (s .0) i z (omega (arith, same .start)));
+      delta = T-of _ (all-each (within earliest latest) deltas (d .0) i z (omega (arith, same .delta)));
+      ratio = T-of _ (all-each (within least greatest) ratios (d .1) i z (omega (arith, same .ratio)));
+    }))
+
 -- ---- the chart
 
 all-three : (a b c : Bool) → cond a (cond b c false) false ≡ true → (a ≡ true) × ((b ≡ true) × (c ≡ true))
@@ -105,15 +122,15 @@ even-lengths c e =
     let t = all-three _ _ _ e in
     record { start = eqb-true _ _ (t .0); delta = eqb-true _ _ (t .1 .0); ratio = eqb-true _ _ (t .1 .1) }
 
-pub accepted-good : (c : Chart) (short : Bool) → verdict c short ≡ Accepted → GoodChart c short
+pub accepted-good : (c : Chart) (beside : ℕ) → verdict c beside ≡ Accepted → GoodChart c beside
 unfolding verdict
-accepted-good c short e =
+accepted-good c beside e =
     let few = test-failed _ _ _ _ e in
     let lengths = test-held _ _ _ _ (few .1) in
-    let room = test-failed _ _ _ _ (lengths .1) in
+    let room = test-held _ _ _ _ (lengths .1) in
     let same = even-lengths c (lengths .0) in
-    record { few = ltb-false _ _ (few .0); room = room .0; lengths = same; objects = objects-good 0 _ _ _ _ same (room .1) }
+    record { few = ltb-false _ _ (few .0); room = eqb-true _ 0 (room .0); lengths = same; objects = objects-good 0 _ _ _ _ same (room .1) }
 
-pub good-accepted : {c : Chart} {short : Bool} → GoodChart c short → verdict c short ≡ Accepted
-good-accepted {c} {short} g =
-    verdict-objects c short (g .few) (sym (all-even c (g .lengths))) (g .room) ∙ good-objects 0 _ _ _ _ (g .objects)
+pub good-accepted : {c : Chart} {beside : ℕ} → GoodChart c beside → verdict c beside ≡ Accepted
+good-accepted {c} {beside} g =
+    verdict-objects c beside (g .few) (sym (all-even c (g .lengths))) (g .room) ∙ good-objects 0 _ _ _ _ (g .objects)

@@ -1,6 +1,5 @@
 -- Document 01's boundary charts as one list of input and outcome: `verdict` computes to each outcome.
 use mathlib.Core.Path.{_≡_, refl}
-use mathlib.Core.Bool.{Bool, true, false}
 use mathlib.Core.List.{List, [], _∷_, map}
 use Prim.Native.Nat.{ℕ}
 use lib.Ieee.{Float, binary64, ofBits, le}
@@ -44,17 +43,17 @@ minus-infinite = 0xfff0_0000_0000_0000
 
 record Example : Type 0 where
   chart : Chart
-  short : Bool
+  beside : ℕ
   outcome : Verdict
 
 floats : List ℕ → List Float
 floats = map (ofBits binary64)
 
--- a call on four lists, with room
+-- a call on four lists, of which nothing else is refused
 lists : List ℕ → List ℕ → List ℕ → List ℕ → Verdict → Example
 lists kinds starts deltas ratios outcome = record {
   chart = record { kinds = kinds; starts = floats starts; deltas = floats deltas; ratios = floats ratios };
-  short = false;
+  beside = 0;
   outcome = outcome;
 }
 
@@ -97,10 +96,10 @@ examples =
     ∷ lists (0 ∷ 1 ∷ 2 ∷ []) (0 ∷ 0 ∷ 0 ∷ []) (0 ∷ 0 ∷ 0 ∷ []) (one ∷ one ∷ one ∷ []) Accepted
     ∷ lists (0 ∷ 1 ∷ 3 ∷ []) (0 ∷ 0 ∷ 0 ∷ []) (0 ∷ infinite ∷ 0 ∷ []) (one ∷ one ∷ one ∷ []) (Refused 6 (record { 0 = 1 }))
     ∷ lists (0 ∷ 3 ∷ []) (0 ∷ 0 ∷ []) (0 ∷ 0 ∷ []) (one ∷ []) (refused 2)
-    ∷ record { chart = record { kinds = 3 ∷ []; starts = floats (0 ∷ []); deltas = floats (0 ∷ []); ratios = floats (one ∷ []) }; short = true; outcome = refused 3 }
-    ∷ record { chart = record { kinds = 3 ∷ []; starts = []; deltas = []; ratios = [] }; short = true; outcome = refused 2 }
+    ∷ record { chart = record { kinds = 3 ∷ []; starts = floats (0 ∷ []); deltas = floats (0 ∷ []); ratios = floats (one ∷ []) }; beside = 3; outcome = refused 3 }
+    ∷ record { chart = record { kinds = 3 ∷ []; starts = []; deltas = []; ratios = [] }; beside = 3; outcome = refused 2 }
     ∷ []
 
-shown : map (λ (e : Example). verdict (e .chart) (e .short)) examples ≡ map (λ (e : Example). e .outcome) examples
+shown : map (λ (e : Example). verdict (e .chart) (e .beside)) examples ≡ map (λ (e : Example). e .outcome) examples
 unfolding examples object lists floats ofBits le within timeGood ratioGood objectRefusal firstRefused even verdict
 shown = refl

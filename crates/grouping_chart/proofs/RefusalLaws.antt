@@ -1,7 +1,7 @@
 -- The cases of the definitions of refusals 1 to 7, one law a case: the proofs of this crate's functions and of calls on a chart cite these.
-use mathlib.Core.Path.{_≡_}
+use mathlib.Core.Path.{_≡_, sym, ap, _∙_}
 use mathlib.Core.List.{List}
-use mathlib.Core.Bool.{Bool, true, false}
+use mathlib.Core.Bool.{true, false}
 use Prim.Native.Nat.{ℕ, _+_, _≤_, _<_}
 use native.Mathlib.Numerals.{add-one}
 use native.Mathlib.Omega.{arith}
@@ -9,6 +9,7 @@ use borrow.Author.Tests.{lt-ltb, le-ltb, le-leb, lt-leb, eq-eqb, ne-eqb}
 use lib.ListN.{length, drop, getD, drop-of-length-le}
 use lib.Seq.{drop-cons}
 use lib.Ieee.{Float, le}
+use Rattle.grouping_chart.specs.declared.chart.Verdict.{Verdict}
 use Rattle.grouping_chart.specs.declared.chart.Verdict.the-variants.{Accepted, Refused}
 use Rattle.grouping_chart.specs.Chart.{Chart, SameLengths, even}
 use Rattle.grouping_chart.specs.Refusal.{within, timeGood, ratioGood, objectRefusal, firstRefused, refused, verdict}
@@ -98,20 +99,24 @@ module _ (c : Chart) where
 
 -- ---- a call's verdict
 
-module _ (c : Chart) (short : Bool) where
-  pub verdict-1 : 16384 < length (c .kinds) → verdict c short ≡ refused 1
+module _ (c : Chart) (beside : ℕ) where
+  pub verdict-1 : 16384 < length (c .kinds) → verdict c beside ≡ refused 1
   unfolding verdict
   verdict-1 h = rw (lt-ltb _ _ h)
 
-  pub verdict-2 : length (c .kinds) ≤ 16384 → even c ≡ false → verdict c short ≡ refused 2
+  pub verdict-2 : length (c .kinds) ≤ 16384 → even c ≡ false → verdict c beside ≡ refused 2
   unfolding verdict
   verdict-2 h e = rw (le-ltb _ _ h, e)
 
-  pub verdict-3 : length (c .kinds) ≤ 16384 → even c ≡ true → short ≡ true → verdict c short ≡ refused 3
+  pub verdict-beside : length (c .kinds) ≤ 16384 → even c ≡ true → (beside ≡ 0 → ⊥) → verdict c beside ≡ refused beside
   unfolding verdict
-  verdict-3 h e t = rw (le-ltb _ _ h, e, t)
+  verdict-beside h e n = rw (le-ltb _ _ h, e, ne-eqb _ _ n)
 
-  pub verdict-objects : length (c .kinds) ≤ 16384 → even c ≡ true → short ≡ false
-      → verdict c short ≡ firstRefused 0 (c .kinds) (c .starts) (c .deltas) (c .ratios)
+  pub verdict-objects : length (c .kinds) ≤ 16384 → even c ≡ true → beside ≡ 0
+      → verdict c beside ≡ firstRefused 0 (c .kinds) (c .starts) (c .deltas) (c .ratios)
   unfolding verdict
-  verdict-objects h e t = rw (le-ltb _ _ h, e, t)
+  verdict-objects h e n = rw (le-ltb _ _ h, e, eq-eqb _ _ n)
+
+-- the verdict on a call, from what its tests answered
+pub verdict-is : (c : Chart) {beside b : ℕ} {v u : Verdict} → b ≡ beside → v ≡ verdict c b → v ≡ u → verdict c beside ≡ u
+verdict-is c e f g = sym (ap (verdict c) e) ∙ sym f ∙ g

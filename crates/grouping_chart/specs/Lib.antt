@@ -2,3 +2,5 @@ pub mod Object
 pub mod Notes
 pub mod Chart
 pub mod Refusal
+pub mod Room
+pub mod Passes

@@ -14,13 +14,25 @@ use Rattle.grouping_chart.specs.declared.chart.Verdict.the-variants.{Acc
 unfoldable pub within : Float → Float → Float → Bool
 within lo hi x = cond (le lo x) (le x hi) false
 
--- from −16,777,216 to 16,777,216, which is 2^24: "start not finite or outside ±16,777,216", "delta likewise"
+-- 16,777,216, which is 2^24, and its negative: "start not finite or outside ±16,777,216", "delta likewise"
+abbrev pub latest : Float
+latest = fin false 1 (pos 24)
+
+abbrev pub earliest : Float
+earliest = fin true 1 (pos 24)
+
 unfoldable pub timeGood : Float → Bool
-timeGood x = within (fin true 1 (pos 24)) (fin false 1 (pos 24)) x
+timeGood x = within earliest latest x
 
 -- "ratio below 2^−24, above 2^24, or NaN"
+abbrev pub least : Float
+least = fin false 1 (negsuc 23)
+
+abbrev pub greatest : Float
+greatest = fin false 1 (pos 24)
+
 unfoldable pub ratioGood : Float → Bool
-ratioGood x = within (fin false 1 (negsuc 23)) (fin false 1 (pos 24)) x
+ratioGood x = within least greatest x
 
 -- the number of an object's refusal, or 0
 unfoldable pub objectRefusal : ℕ → Float → Float → Float → ℕ
@@ -38,8 +50,8 @@ firstRefused i (k ∷ kinds) (s ∷ starts) (d ∷ deltas) (r ∷ ratios) =
 abbrev pub refused : ℕ → Verdict
 refused number = Refused number (record { 0 = 0 })
 
--- refusals 1 to 7 of a call on a chart; `short` says that an answer or work slice is too short
-unfoldable pub verdict : Chart → Bool → Verdict
-verdict c short =
+-- refusals 1 to 7 of a call on a chart; `beside` is the number of what is refused straight after 2, before the objects are looked at, or 0
+unfoldable pub verdict : Chart → ℕ → Verdict
+verdict c beside =
     cond (ltb largest (size c)) (refused 1)
-    (cond (even c) (cond short (refused 3) (firstRefused 0 (c .kinds) (c .starts) (c .deltas) (c .ratios))) (refused 2))
+    (cond (even c) (cond (eqb beside 0) (firstRefused 0 (c .kinds) (c .starts) (c .deltas) (c .ratios)) (refused beside)) (refused 2))

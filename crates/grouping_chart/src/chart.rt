@@ -3,6 +3,7 @@ ghost use mathlib.Core.Path.{_≡_};
 ghost use lib.ListN.{length};
 ghost use Rattle.grouping_chart.specs.Chart.{SameLengths, even};
 ghost use Rattle.grouping_chart.specs.Refusal.{timeGood, ratioGood, objectRefusal, firstRefused, verdict};
+use crate::good;
 use crate::object::ObjectIndex;
 
 // Whether a call is accepted; else the first refusal that applies and its place.
@@ -54,7 +55,8 @@ pub fn object_refusal(kind: u8, start: f64, delta: f64, ratio: f64) -> u8
     }
 }
 
-fn check_objects(kind: &[u8], start: &[f64], delta: &[f64], ratio: &[f64]) -> Verdict
+// The first object that is refused.
+fn first_refused(kind: &[u8], start: &[f64], delta: &[f64], ratio: &[f64]) -> Verdict
     requires { ⌜ SameLengths (length (now kind)) (now start) (now delta) (now ratio) ⌝ }
     ensures { λ r. ⌜ r ≡ firstRefused 0 (now (kind .entry)) (now (start .entry)) (now (delta .entry)) (now (ratio .entry)) ⌝ }
 {
@@ -68,6 +70,17 @@ fn check_objects(kind: &[u8], start: &[f64], delta: &[f64], ratio: &[f64]) -> Ve
         at = ObjectIndex(i + 1);
     }
     Verdict::Accepted
+}
+
+// Most charts are good, which is told without a jump for each object.
+fn check_objects(kind: &[u8], start: &[f64], delta: &[f64], ratio: &[f64]) -> Verdict
+    requires { ⌜ SameLengths (length (now kind)) (now start) (now delta) (now ratio) ⌝ }
+    ensures { λ r. ⌜ r ≡ firstRefused 0 (now (kind .entry)) (now (start .entry)) (now (delta .entry)) (now (ratio .entry)) ⌝ }
+{
+    if good::all_good(kind, start, delta, ratio) {
+        return Verdict::Accepted;
+    }
+    first_refused(kind, start, delta, ratio)
 }
 
 fn lengths_even(kind: &[u8], start: &[f64], delta: &[f64], ratio: &[f64]) -> bool
@@ -85,16 +98,16 @@ fn lengths_even(kind: &[u8], start: &[f64], delta: &[f64], ratio: &[f64]) -> boo
     true
 }
 
-// Refusals 1 to 7 of a call on a chart; `short` says that an answer or work slice is too short for it.
-pub fn check(kind: &[u8], start: &[f64], delta: &[f64], ratio: &[f64], short: bool) -> Verdict
-    ensures { λ r. ⌜ r ≡ verdict (record { kinds = now (kind .entry); starts = now (start .entry); deltas = now (delta .entry); ratios = now (ratio .entry) }) short ⌝ }
+// Refusals 1 to 7 of a call on a chart; `beside` is the number of what is refused straight after 2, or 0.
+pub fn check(kind: &[u8], start: &[f64], delta: &[f64], ratio: &[f64], beside: u8) -> Verdict
+    ensures { λ r. ⌜ r ≡ verdict (record { kinds = now (kind .entry); starts = now (start .entry); deltas = now (delta .entry); ratios = now (ratio .entry) }) beside ⌝ }
 {
     if 16384 < kind.len() {
         return Verdict::Refused(1, ObjectIndex(0));
     }
     if lengths_even(kind, start, delta, ratio) {
-        if short {
-            return Verdict::Refused(3, ObjectIndex(0));
+        if beside != 0 {
+            return Verdict::Refused(beside, ObjectIndex(0));
         }
         return check_objects(kind, start, delta, ratio);
     }

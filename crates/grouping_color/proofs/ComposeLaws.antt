@@ -285,7 +285,7 @@ pub tables-made : (limit : ℕ) (kinds w₀ w₁ w₂ w : List ℕ) (s p h : ℕ
     → Patterns (length kinds) s (part (length kinds) s w₁) (part (2 * length kinds) s w₁) w₁ w₂ p
     → Hits limit (length kinds) p (part (length kinds) p w₂)
     (hitMarks (coupled (part (length kinds) p w₂) (part (5 * length kinds) p w₂) (part (2 * length kinds) p w₂))) w₂ w h
-    → Tables limit kinds w₀ w (record { streaks = s; patterns = p; hits = h })
+    → Tables limit kinds w₀ w (record { streaks = s; patterns = p; hits = h; limit = limit })
 unfolding patternsOpen firstLengths streakCounts patternTypes hitsOpen hitCount hitSizes hitFirsts hitSeconds hitIntervals
 tables-made limit kinds w₀ w₁ w₂ w s p h S P H =
     let n : ℕ = length kinds in
@@ -300,6 +300,7 @@ tables-made limit kinds w₀ w₁ w₂ w s p h S P H =
       count-s = S .counted;
       count-p = P .counted ∙ ap groupCount m;
       count-h = H .counted ∙ ap groupCount g;
+      searched = refl;
       few-s = S .few;
       few-p = omega arith;
       few-h = omega arith;

@@ -84,6 +84,7 @@ pub record Tables (limit : ℕ) (kinds w₀ w : List ℕ) (k : Counts) : Type 0 
   pub count-s : k .streaks ≡ groupCount (streakMarks kinds)
   pub count-p : k .patterns ≡ groupCount (patternsOpen kinds)
   pub count-h : k .hits ≡ hitCount kinds
+  pub searched : k .limit ≡ limit
   pub few-s : k .streaks ≤ length kinds
   pub few-p : k .patterns ≤ length kinds
   pub few-h : k .hits ≤ length kinds

@@ -9,10 +9,12 @@ use crate::alternating_mono_pattern;
 use crate::mono_streak;
 use crate::repeating_hit_patterns;
 
+// How many streaks, alternating patterns and hit patterns there are, and the search limit of the intervals.
 pub struct Counts {
     pub streaks: usize,
     pub patterns: usize,
     pub hits: usize,
+    pub limit: u16,
 }
 
 // Streaks: each object's number, their lengths and types; the result is their count.
@@ -78,5 +80,6 @@ pub fn encode_colors(kind: &[u8], w: &mut [u16], limit: u16) -> Counts
         streaks: s,
         patterns: p,
         hits: h,
+        limit,
     }
 }

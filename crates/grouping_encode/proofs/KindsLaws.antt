@@ -2,7 +2,6 @@
 use mathlib.Core.Path.{_≡_, sym, ap, _∙_, subst}
 use mathlib.Core.List.{List}
 use Prim.Native.Nat.{ℕ, _*_, _≤_, _<_}
-use lib.Dec.{lit≤}
 use lib.ListN.{length, take, getD, replicate, length-replicate}
 use Rattle.grouping_marks.specs.Over.{over, part}
 use Rattle.grouping_marks.specs.Scan.{gathered}
@@ -13,11 +12,10 @@ use Rattle.grouping_color.specs.Preprocessor.{patternsOpen, hitsOpen, hitCount,
 use Rattle.grouping_color.specs.Passes.{Tables}
 use Rattle.grouping_color.specs.declared.preprocessor.Counts.{Counts}
 use Rattle.grouping_color.proofs.BoundLaws.{streakPlaceOf-looked, patternOf-looked, patternPlaceOf-looked, hitOf-looked, intervalOf-looked, length-patternOf, streak-below, hit-below, patternOf-below, hit-interval-byte}
-use Rattle.grouping_encode.specs.Encode.{searchLimit}
 use Rattle.grouping_encode.specs.Passes.{Below, PatternsRoom, PatternsSpread, HitsRoom, HitsSpread, AnswerRoom, Encoded}
 use Rattle.grouping_encode.proofs.SpreadLaws.{written-front}
 
-module _ (kinds w₀ w : List ℕ) (k : Counts) (t : Tables searchLimit kinds w₀ w k) where
+module _ (limit : ℕ) (kinds w₀ w : List ℕ) (k : Counts) (t : Tables limit kinds w₀ w k) where
   abbrev n : ℕ
   n = length kinds
 
@@ -32,8 +30,8 @@ module _ (kinds w₀ w : List ℕ) (k : Counts) (t : Tables searchLimit kinds w�
       below-of (k .patterns) (k .hits) (hitCount kinds) (part n (k .patterns) w) (groupNumbers (hitsOpen kinds)) (t .hit) (t .count-h)
       (λ i h. hit-below kinds i (subst (λ (z : ℕ). i < z) (t .count-p) h))
 
-  bytes : (j : ℕ) → getD (part (7 * n) (k .hits) w) j 0 < 256
-  bytes j = subst (λ (zs : List ℕ). getD zs j 0 < 256) (sym (t .interval)) (hit-interval-byte kinds searchLimit (lit≤ tt) j)
+  bytes : limit ≤ 254 → (j : ℕ) → getD (part (7 * n) (k .hits) w) j 0 < 256
+  bytes l j = subst (λ (zs : List ℕ). getD zs j 0 < 256) (sym (t .interval)) (hit-interval-byte kinds limit l j)
 
   -- what was looked up, by the definitions
   streakPlaces : gathered (part (4 * n) (k .streaks) w) (part 0 n w) ≡ streakPlaceOf kinds
@@ -42,7 +40,7 @@ module _ (kinds w₀ w : List ℕ) (k : Counts) (t : Tables searchLimit kinds w�
   patterns : gathered (part (3 * n) (k .streaks) w) (part 0 n w) ≡ patternOf kinds
   patterns = (λ i. gathered (t .pattern i) (t .streak i)) ∙ patternOf-looked kinds
 
-  pub patterns-room : (streak place pattern outer hit interval : List ℕ) → AnswerRoom n streak place pattern outer hit interval w₀ → PatternsRoom n k w streak place pattern
+  pub patterns-room : (streak place pattern outer hit interval : List ℕ) → AnswerRoom n limit streak place pattern outer hit interval w₀ → PatternsRoom n k w streak place pattern
   patterns-room streak place pattern outer hit interval r = record {
     few = r .few;
     streaks = t .few-s;
@@ -61,7 +59,7 @@ module _ (kinds w₀ w : List ℕ) (k : Counts) (t : Tables searchLimit kinds w�
     patterns-below : Below n (take n pattern) (k .patterns)
     patterns-below = below-of n (k .patterns) (groupCount (patternsOpen kinds)) (take n pattern) (patternOf kinds) pattern-front (t .count-p) (patternOf-below kinds)
 
-    pub hits-room : (outer hit interval : List ℕ) → AnswerRoom n streak₀ place₀ pattern₀ outer hit interval w₀ → length pattern ≡ length pattern₀ → HitsRoom n k w pattern outer hit interval
+    pub hits-room : (outer hit interval : List ℕ) → AnswerRoom n limit streak₀ place₀ pattern₀ outer hit interval w₀ → length pattern ≡ length pattern₀ → HitsRoom n k w pattern outer hit interval
     hits-room outer hit interval r e = record {
       few = r .few;
       patterns = t .few-p;
@@ -73,7 +71,7 @@ module _ (kinds w₀ w : List ℕ) (k : Counts) (t : Tables searchLimit kinds w�
       interval-room = r .interval-room;
       in-patterns = patterns-below;
       in-hits = hits-below;
-      bytes = bytes;
+      bytes = bytes (r .bytes);
     }
 
     module _ (outer₀ outer hit₀ hit interval₀ interval work : List ℕ) (h : HitsSpread n k w pattern outer₀ outer hit₀ hit interval₀ interval) (z : work ≡ over (replicate (8 * n) 0) w) where
@@ -83,10 +81,10 @@ module _ (kinds w₀ w : List ℕ) (k : Counts) (t : Tables searchLimit kinds w�
       found : gathered (part n (k .patterns) w) (take n pattern) ≡ hitOf kinds
       found = (λ i. gathered (t .hit i) (pattern-front i)) ∙ hitOf-looked kinds
 
-      intervals : gathered (part (7 * n) (k .hits) w) (gathered (part n (k .patterns) w) (take n pattern)) ≡ intervalOf searchLimit kinds
-      intervals = (λ i. gathered (t .interval i) (found i)) ∙ intervalOf-looked kinds searchLimit
+      intervals : gathered (part (7 * n) (k .hits) w) (gathered (part n (k .patterns) w) (take n pattern)) ≡ intervalOf limit kinds
+      intervals = (λ i. gathered (t .interval i) (found i)) ∙ intervalOf-looked kinds limit
 
-      pub encoded : Encoded kinds streak₀ streak place₀ place pattern₀ pattern outer₀ outer hit₀ hit interval₀ interval w₀ work (k .hits)
+      pub encoded : Encoded limit kinds streak₀ streak place₀ place pattern₀ pattern outer₀ outer hit₀ hit interval₀ interval w₀ work (k .hits)
       encoded = record {
         counted = t .count-h;
         streaks = p .streaks ∙ ap (λ (xs : List ℕ). over xs streak₀) (t .streak);

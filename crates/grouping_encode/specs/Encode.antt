@@ -1,13 +1,12 @@
 -- Document 01, "Calls and what they fill", encode: what it answers, and what every lent slice holds afterwards.
 use Prim.Native.Nat.{ℕ, _*_}
-use mathlib.Core.Bool.{Bool, _||_}
-use mathlib.Core.List.{List}
-use lib.Dec.{ltb}
+use mathlib.Core.List.{List, [], _∷_}
 use lib.ListN.{length, replicate}
 use lib.Ieee.{Float, binary64, ofBits}
 use Rattle.grouping_marks.specs.Over.{over}
 use Rattle.grouping_chart.specs.Chart.{Chart, size}
 use Rattle.grouping_chart.specs.Refusal.{verdict}
+use Rattle.grouping_chart.specs.Room.{anyShort, shortRefusal}
 use Rattle.grouping_chart.specs.declared.chart.Verdict.{Verdict}
 use Rattle.grouping_chart.specs.declared.chart.Verdict.the-variants.{Accepted, Refused}
 use Rattle.grouping_color.specs.MonoStreak.{streakOf}
@@ -35,11 +34,13 @@ pub record Outcome : Type 0 where
 abbrev pub searchLimit : ℕ
 searchLimit = 16
 
--- an answer slice has a place for each of n objects, the work slices 8 n and n
-unfoldable pub short : ℕ → Memory → Bool
-short n m =
-    ltb (length (m .streak)) n || (ltb (length (m .streakPlace)) n || (ltb (length (m .pattern)) n || (ltb (length (m .patternPlace)) n
-    || (ltb (length (m .hit)) n || (ltb (length (m .interval)) n || (ltb (length (m .work)) (8 * n) || ltb (length (m .scratch)) n))))))
+-- how many places the answer slices have
+abbrev pub places : Memory → List ℕ
+places m = length (m .streak) ∷ length (m .streakPlace) ∷ length (m .pattern) ∷ length (m .patternPlace) ∷ length (m .hit) ∷ length (m .interval) ∷ []
+
+-- the number of what is refused beside the chart, or 0
+unfoldable pub beside : ℕ → Memory → ℕ
+beside n m = shortRefusal (anyShort n (places m)) n (length (m .work)) (length (m .scratch))
 
 -- the memory after an accepted call: the answers in the first n places, the first 8 n and n places of the work slices 0 and +0.0, old contents elsewhere
 unfoldable pub filled : List ℕ → Memory → Memory
@@ -60,4 +61,4 @@ outcomeBy Accepted kinds m = record { answer = Done (hitCount kinds); memory = f
 outcomeBy (Refused number place) kinds m = record { answer = answer.Refused number place; memory = m }
 
 unfoldable pub encodeOutcome : Chart → Memory → Outcome
-encodeOutcome c m = outcomeBy (verdict c (short (size c) m)) (c .kinds) m
+encodeOutcome c m = outcomeBy (verdict c (beside (size c) m)) (c .kinds) m

@@ -8,7 +8,6 @@ use Rattle.grouping_marks.specs.Scan.{gathered}
 use Rattle.grouping_color.specs.MonoStreak.{streakOf}
 use Rattle.grouping_color.specs.Preprocessor.{streakPlaceOf, patternOf, patternPlaceOf, hitOf, intervalOf, hitCount}
 use Rattle.grouping_color.specs.declared.preprocessor.Counts.{Counts}
-use Rattle.grouping_encode.specs.Encode.{searchLimit}
 
 -- every one of the first n numbers is below k
 pub record Below (n : ℕ) (numbers : List ℕ) (k : ℕ) : Type 0 where
@@ -48,8 +47,8 @@ pub record HitsSpread (n : ℕ) (k : Counts) (work pattern place₀ place hit₀
   pub hits : hit ≡ over (gathered (part n (k .patterns) work) (take n pattern)) hit₀
   pub intervals : interval ≡ over (gathered (part (7 * n) (k .hits) work) (gathered (part n (k .patterns) work) (take n pattern))) interval₀
 
--- room for n objects in each answer slice and in the work slice
-pub record AnswerRoom (n : ℕ) (streak streakPlace pattern patternPlace hit interval work : List ℕ) : Type 0 where
+-- room for n objects in each answer slice and in the work slice, and a search limit whose intervals are bytes
+pub record AnswerRoom (n limit : ℕ) (streak streakPlace pattern patternPlace hit interval work : List ℕ) : Type 0 where
   pub few : n ≤ 16384
   pub streak-room : n ≤ length streak
   pub streak-place-room : n ≤ length streakPlace
@@ -58,13 +57,16 @@ pub record AnswerRoom (n : ℕ) (streak streakPlace pattern patternPlace hit int
   pub hit-room : n ≤ length hit
   pub interval-room : n ≤ length interval
   pub tables : 8 * n ≤ length work
+  pub some : 1 ≤ limit
+  pub bytes : limit ≤ 254
 
-pub record Encoded (kinds streak₀ streak streakPlace₀ streakPlace pattern₀ pattern patternPlace₀ patternPlace hit₀ hit interval₀ interval work₀ work : List ℕ) (count : ℕ) : Type 0 where
+-- what encode does with an accepted chart, under a search limit
+pub record Encoded (limit : ℕ) (kinds streak₀ streak streakPlace₀ streakPlace pattern₀ pattern patternPlace₀ patternPlace hit₀ hit interval₀ interval work₀ work : List ℕ) (count : ℕ) : Type 0 where
   pub counted : count ≡ hitCount kinds
   pub streaks : streak ≡ over (streakOf kinds) streak₀
   pub streak-places : streakPlace ≡ over (streakPlaceOf kinds) streakPlace₀
   pub patterns : pattern ≡ over (patternOf kinds) pattern₀
   pub pattern-places : patternPlace ≡ over (patternPlaceOf kinds) patternPlace₀
   pub hits : hit ≡ over (hitOf kinds) hit₀
-  pub intervals : interval ≡ over (intervalOf searchLimit kinds) interval₀
+  pub intervals : interval ≡ over (intervalOf limit kinds) interval₀
   pub cleared : work ≡ over (replicate (8 * length kinds) 0) work₀

@@ -1,58 +1,46 @@
 -- The outcome of rhythm, case by case, over plain lists: a refusal leaves all as lent, and an accepted call has room in every slice.
-use mathlib.Core.Path.{_≡_, refl, sym, ap, _∙_, subst}
-use mathlib.Core.Bool.{Bool, true, false, _||_, true≢false}
-use mathlib.Core.List.{List}
-use Prim.Native.Nat.{ℕ, _*_, _≤_}
+use mathlib.Core.Path.{_≡_, sym, ap, _∙_, subst}
+use mathlib.Core.Bool.{Bool}
+use mathlib.Core.List.{List, [], _∷_}
+use Prim.Native.Nat.{ℕ}
 use lib.ListN.{length}
 use lib.Ieee.{Float}
-use borrow.Author.Tests.{ltb-false}
 use Rattle.grouping_chart.specs.Chart.{Chart, size}
 use Rattle.grouping_chart.specs.Refusal.{verdict}
+use Rattle.grouping_chart.specs.Room.{anyShort, shortRefusal}
 use Rattle.grouping_chart.specs.declared.object.ObjectIndex.{ObjectIndex}
 use Rattle.grouping_chart.specs.declared.chart.Verdict.{Verdict}
 use Rattle.grouping_chart.specs.declared.chart.Verdict.the-variants.{Accepted, Refused}
 use Rattle.grouping_chart.proofs.AcceptedLaws.{accepted-good}
+use Rattle.grouping_chart.proofs.RefusalLaws.{verdict-is}
+use Rattle.grouping_chart.proofs.RoomLaws.{roomy, long-enough}
 use Rattle.grouping_rhythm.specs.declared.Grouping.the-variants as answer
 use Rattle.grouping_rhythm.specs.declared.tables.Counts.{Counts}
-use Rattle.grouping_rhythm.specs.Rhythm.{baseMargin, Memory, Outcome, short, filled, outcomeBy, rhythmOutcome}
+use Rattle.grouping_rhythm.specs.Rhythm.{baseMargin, Memory, Outcome, beside, filled, outcomeBy, rhythmOutcome}
 use Rattle.grouping_rhythm.specs.Passes.{AnswerRoom, Grouped}
-
--- ---- no slice is too short
-or-both : (a b : Bool) → (a || b) ≡ false → (a ≡ false) × (b ≡ false)
-or-both true b h = absurd (true≢false h)
-or-both false b h = (refl, h)
-
-record Enough (n : ℕ) (m : Memory) : Type 0 where
-  group : n ≤ length (m .group)
-  pattern : n ≤ length (m .pattern)
-  work : 8 * n ≤ length (m .work)
-  scratch : n ≤ length (m .scratch)
-
-enough : (n : ℕ) (m : Memory) → short n m ≡ false → Enough n m
-unfolding short
-enough n m h =
-    let h1 = or-both _ _ h in
-    let h2 = or-both _ _ (h1 .1) in
-    let h3 = or-both _ _ (h2 .1) in
-    record { group = ltb-false _ _ (h1 .0); pattern = ltb-false _ _ (h2 .0); work = ltb-false _ _ (h3 .0); scratch = ltb-false _ _ (h3 .1) }
 
 -- ---- what the tests that were run say of the definition's verdict
 module _ (c : Chart) (m : Memory) where
   abbrev pub judged : Verdict
-  judged = verdict c (short (size c) m)
+  judged = verdict c (beside (size c) m)
 
-  -- the verdict on the call, from what `too_short` and `check` answered
-  pub verdict-is : (s : Bool) (v w : Verdict) → s ≡ short (size c) m → v ≡ verdict c s → v ≡ w → judged ≡ w
-  verdict-is s v w e f g = sym (ap (verdict c) e) ∙ sym f ∙ g
+  -- from what `too_short`, `short_refusal` and `check` answered
+  pub judged-is : (s : Bool) (b : ℕ) {v u : Verdict} → s ≡ anyShort (size c) (length (m .group) ∷ length (m .pattern) ∷ [])
+      → b ≡ shortRefusal s (size c) (length (m .work)) (length (m .scratch)) → v ≡ verdict c b → v ≡ u → judged ≡ u
+  unfolding beside
+  judged-is s b e f g h = verdict-is c (f ∙ ap (λ (x : Bool). shortRefusal x (size c) (length (m .work)) (length (m .scratch))) e) g h
 
   pub answer-room : judged ≡ Accepted → AnswerRoom (c .kinds) (c .starts) (c .deltas) (m .group) (m .pattern) (m .work) (m .scratch)
+  unfolding beside
   answer-room h =
-      let g = accepted-good c (short (size c) m) h in
-      let r = enough (size c) m (g .room) in
+      let g = accepted-good c (beside (size c) m) h in
+      let r = roomy _ (size c) _ _ (g .room) in
+      let first = long-enough (size c) _ _ (r .answered) in
+      let second = long-enough (size c) _ _ (first .1) in
       record {
-        tables = record { few = g .few; started = g .lengths .start; whole = g .lengths .delta; regions = r .work; floats = r .scratch };
-        group-room = r .group;
-        pattern-room = r .pattern;
+        tables = record { few = g .few; started = g .lengths .start; whole = g .lengths .delta; regions = r .regions; floats = r .floats };
+        group-room = first .0;
+        pattern-room = second .0;
       }
 
   pub rhythm-refused : (number : ℕ) (place : ObjectIndex) → judged ≡ Refused number place

@@ -1,8 +1,7 @@
 -- Document 01, "Calls and what they fill", rhythm: "per object group and pattern-group number, 65535 for a NonHit"; "rhythm [returns] the numbers of groups and of pattern groups".
 use Prim.Native.Nat.{ℕ, _*_}
-use mathlib.Core.Bool.{Bool, false, cond, _||_}
-use mathlib.Core.List.{List}
-use lib.Dec.{ltb}
+use mathlib.Core.Bool.{false, cond}
+use mathlib.Core.List.{List, [], _∷_}
 use lib.IntN.{pos}
 use lib.ListN.{length, getD, replicate}
 use lib.Ieee.{Float, fin, binary64, ofBits}
@@ -12,6 +11,7 @@ use Rattle.grouping_marks.specs.Marks.{groupCount, groupNumbers}
 use Rattle.grouping_chart.specs.Object.{isNote, noteIdx}
 use Rattle.grouping_chart.specs.Chart.{Chart, size}
 use Rattle.grouping_chart.specs.Refusal.{verdict}
+use Rattle.grouping_chart.specs.Room.{anyShort, shortRefusal}
 use Rattle.grouping_chart.specs.declared.chart.Verdict.{Verdict}
 use Rattle.grouping_chart.specs.declared.chart.Verdict.the-variants.{Accepted, Refused}
 use Rattle.grouping_interval.specs.IntervalGrouping.{intervalMarks}
@@ -58,9 +58,9 @@ groupsIn margin kinds deltas = groupCount (rhythmMarks margin kinds deltas)
 unfoldable pub patternGroupsIn : Float → List ℕ → List Float → List Float → ℕ
 patternGroupsIn margin kinds starts deltas = groupCount (intervalMarks margin (groupIntervals margin kinds starts deltas))
 
--- an answer slice has a place for each of n objects, the work slices 8 n and n
-unfoldable pub short : ℕ → Memory → Bool
-short n m = ltb (length (m .group)) n || (ltb (length (m .pattern)) n || (ltb (length (m .work)) (8 * n) || ltb (length (m .scratch)) n))
+-- the number of what is refused beside the chart, or 0
+unfoldable pub beside : ℕ → Memory → ℕ
+beside n m = shortRefusal (anyShort n (length (m .group) ∷ length (m .pattern) ∷ [])) n (length (m .work)) (length (m .scratch))
 
 -- the memory after an accepted call
 unfoldable pub filled : Chart → Memory → Memory
@@ -77,4 +77,4 @@ outcomeBy Accepted c m = record { answer = Done (groupsIn baseMargin (c .kinds) 
 outcomeBy (Refused number place) c m = record { answer = answer.Refused number place; memory = m }
 
 unfoldable pub rhythmOutcome : Chart → Memory → Outcome
-rhythmOutcome c m = outcomeBy (verdict c (short (size c) m)) c m
+rhythmOutcome c m = outcomeBy (verdict c (beside (size c) m)) c m

@@ -1,10 +1,14 @@
 // The call rhythm: per object the number of its rhythm group and of its pattern group.
 ghost use mathlib.Core.Path.{_≡_};
-ghost use Rattle.grouping_rhythm.specs.Rhythm.{Outcome, short, rhythmOutcome};
+ghost use mathlib.Core.List.{[], _∷_};
+ghost use lib.ListN.{length};
+ghost use Rattle.grouping_chart.specs.Room.{anyShort};
+ghost use Rattle.grouping_rhythm.specs.Rhythm.{Outcome, rhythmOutcome};
 ghost use Rattle.grouping_rhythm.specs.Passes.{AnswerRoom, Grouped};
 use crate::tables::Counts;
 use grouping_chart::chart::Verdict;
 use grouping_chart::object::ObjectIndex;
+use grouping_chart::room::short_refusal;
 use grouping_marks::fill;
 
 pub mod spread;
@@ -16,21 +20,14 @@ pub enum Grouping {
     Refused(u8, ObjectIndex),
 }
 
-// Whether a slice has too few places for n objects.
-fn too_short(n: usize, group: &[u16], pattern: &[u16], work: &[u16], scratch: &[f64]) -> bool
-    ensures { λ r. ⌜ r ≡ short n (record { group = now (group .entry); pattern = now (pattern .entry); work = now (work .entry); scratch = now (scratch .entry) }) ⌝ }
+// Whether an answer slice has too few places for n objects.
+fn too_short(n: usize, group: &[u16], pattern: &[u16]) -> bool
+    ensures { λ r. ⌜ r ≡ anyShort n (length (now (group .entry)) ∷ length (now (pattern .entry)) ∷ []) ⌝ }
 {
     if group.len() < n {
         return true;
     }
-    if pattern.len() < n {
-        return true;
-    }
-    // work.len() < 8 * n, without a product that could wrap
-    if work.len() / 8 < n {
-        return true;
-    }
-    scratch.len() < n
+    pattern.len() < n
 }
 
 // What the call does with an accepted chart: group, fill the answers, and clear the work slices.
@@ -70,14 +67,14 @@ pub fn rhythm(
         (rhythmOutcome (record { kinds = now (kind .entry); starts = now (start .entry); deltas = now (delta .entry); ratios = now (ratio .entry) })
         (record { group = now (group .entry); pattern = now (pattern .entry); work = now (work .entry); scratch = now (scratch .entry) })) ⌝ }
 {
-    // the margin of the base
-    let margin = 5.0;
     let n = kind.len();
-    let short = too_short(n, group, pattern, work, scratch);
-    match grouping_chart::chart::check(kind, start, delta, ratio, short) {
+    let short = too_short(n, group, pattern);
+    let beside = short_refusal(short, n, work.len(), scratch.len());
+    match grouping_chart::chart::check(kind, start, delta, ratio, beside) {
         Verdict::Refused(number, place) => Grouping::Refused(number, place),
         Verdict::Accepted => {
-            let k = fill_groups(kind, start, delta, margin, group, pattern, work, scratch);
+            // 5.0 is the margin of the base
+            let k = fill_groups(kind, start, delta, 5.0, group, pattern, work, scratch);
             Grouping::Done(k.groups, k.patterns)
         }
     }

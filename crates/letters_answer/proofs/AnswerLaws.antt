@@ -48,7 +48,7 @@ lent kinds streak pattern hit interval = record {
 }
 
 module _ {kinds streak₀ streak streakPlace₀ streakPlace pattern₀ pattern patternPlace₀ patternPlace hit₀ hit interval₀ interval work₀ work : List ℕ} {count : ℕ}
-    (x : Encoded kinds streak₀ streak streakPlace₀ streakPlace pattern₀ pattern patternPlace₀ patternPlace hit₀ hit interval₀ interval work₀ work count) where
+    (x : Encoded searchLimit kinds streak₀ streak streakPlace₀ streakPlace pattern₀ pattern patternPlace₀ patternPlace hit₀ hit interval₀ interval work₀ work count) where
   lent-columns : columns kinds ≡ lent kinds streak pattern hit interval
   unfolding columns
   lent-columns =

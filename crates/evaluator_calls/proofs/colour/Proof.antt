@@ -3,7 +3,7 @@ use mathlib.Core.Path.{_≡_}
 use Rattle.grouping_chart.specs.Chart.{Chart}
 use Rattle.grouping_chart.specs.declared.chart.Verdict.the-variants.{Accepted}
 use Rattle.evaluator_calls.specs.Calls.{Memory}
-use Rattle.evaluator_calls.proofs.CallsLaws.{judged, verdict-is, chart-room, filled-is, colour-refused, colour-done}
+use Rattle.evaluator_calls.proofs.CallsLaws.{at-base, judged, judged-is, chart-room, filled-is, colour-refused, colour-done}
 use borrow.Author.Needs.{needs}
 use Rattle.evaluator_calls.proofs.colour.Statement.{statement}
 use Rattle.evaluator_calls.proofs.colour.Tie as tie
@@ -17,13 +17,13 @@ memoryOf c = record { value = c .args .value .now; work = c .args .work .now; sc
 
 -- ---- once the call is known to be accepted
 abbrev start : tie.After-enum-told → tie.Start
-start c = c .before .before .before .before .before .before .before .before .before .before .before .before .before .before
+start c = c .before .before .before .before .before .before .before .before .before .before .before
 
 accepted : (c : tie.After-enum-told) → judged (chartOf (start c)) (memoryOf (start c)) ≡ Accepted
-accepted c = verdict-is (chartOf (start c)) (memoryOf (start c)) _ _ _ (c .before .before .before .too-short .ensures) (c .before .before .check .ensures) (c .enum-told .given .1)
+accepted c = judged-is (chartOf (start c)) (memoryOf (start c)) _ (c .before .before .before .short-refusal .ensures) (c .before .before .check .ensures) (c .enum-told .given .1)
 
-too-short-requires : tie.Need-too-short-requires
-too-short-requires c κs = search needs
+short-refusal-requires : tie.Need-short-refusal-requires
+short-refusal-requires c κs = search needs
 
 check-requires : tie.Need-check-requires
 check-requires c κs = search needs
@@ -50,38 +50,26 @@ same-length-3 c = search needs
 
 returns : tie.Need-returns
 returns c =
-    let s = c .before .before .before .before .before .before .before .before .before .before .before .before .before .before .before in
-    colour-refused (chartOf s) (memoryOf s) _ _ (verdict-is (chartOf s) (memoryOf s) _ _ _ (c .before .before .before .before .too-short .ensures) (c .before .before .before .check .ensures) (c .before .number .given .1))
-
-same-length-4 : tie.Need-same-length-4
-same-length-4 c = search needs
-
-same-length-5 : tie.Need-same-length-5
-same-length-5 c = search needs
-
-same-length-6 : tie.Need-same-length-6
-same-length-6 c = search needs
+    let s = c .before .before .before .before .before .before .before .before .before .before .before .before in
+    colour-refused (chartOf s) (memoryOf s) _ _ (judged-is (chartOf s) (memoryOf s) _ (c .before .before .before .before .short-refusal .ensures) (c .before .before .before .check .ensures) (c .before .number .given .1))
 
 returns-2 : tie.Need-returns-2
 returns-2 c =
     let t = c .before .before .before .before .before .before .before .before .before .before in
     let s = start t in
-    colour-done (chartOf s) (memoryOf s) _ (accepted t) (filled-is (chartOf s) (memoryOf s) _ _ _ (c .before .before .before .before .before .before .fill-chart .ensures))
+    colour-done (chartOf s) (memoryOf s) _ (accepted t) (filled-is (chartOf s) (memoryOf s) _ _ _ (at-base (c .before .before .before .before .before .before .fill-chart .ensures)))
 
 pub colour-spec : {M : Type 1} → statement M
 colour-spec =
     tie.close
     (tie.spec
-    too-short-requires
+    short-refusal-requires
     check-requires
     enum-known-number
     enum-told
     fill-chart-requires
+    returns
     same-length
     same-length-2
     same-length-3
-    returns
-    same-length-4
-    same-length-5
-    same-length-6
     returns-2)

@@ -8,7 +8,7 @@ use Rattle.grouping_chart.specs.declared.chart.Verdict.the-variants.{Accepted}
 use Rattle.grouping_same_rhythm.specs.SameRhythm.{rhythmMarks}
 use Rattle.grouping_rhythm.specs.Rhythm.{baseMargin, groupsIn}
 use Rattle.evaluator_record.specs.Calls.{Memory, baseThreshold, windowGood}
-use Rattle.evaluator_record.proofs.CallsLaws.{groupsOf, judged, verdict-is, lengths-same, group-room, chart-refused, window-refused, group-refused, record-done}
+use Rattle.evaluator_record.proofs.CallsLaws.{groupsOf, judged, judged-is, lengths-same, group-room, chart-refused, window-refused, group-refused, record-done}
 use borrow.Author.Needs.{needs}
 use Rattle.evaluator_record.proofs.record.Statement.{statement}
 use Rattle.evaluator_record.proofs.record.Tie as tie
@@ -39,10 +39,10 @@ memoryOf c = record { work = c .args .work .now; scratch = c .args .scratch .now
 
 -- ---- once the chart is known to be accepted
 abbrev start : tie.After-enum-told → tie.Start
-start c = c .before .before .before .before .before .before .before .before .before .before .before .before
+start c = c .before .before .before .before .before .before .before .before .before .before
 
 accepted : (c : tie.After-enum-told) → judged (chartOf (start c)) (memoryOf (start c)) ≡ Accepted
-accepted c = verdict-is (chartOf (start c)) (memoryOf (start c)) _ _ _ (c .before .before .before .too-short .ensures) (c .before .before .check .ensures) (c .enum-told .given .1)
+accepted c = judged-is (chartOf (start c)) (memoryOf (start c)) _ (c .before .before .before .short-refusal .ensures) (c .before .before .check .ensures) (c .enum-told .given .1)
 
 -- ---- once the window is known to be good
 window : (c : tie.Else1) → windowGood (start (c .before .before) .args .window) ≡ true
@@ -58,8 +58,8 @@ counted c =
     let s = start (told c) in
     c .count-groups .ensures ∙ ap (λ (x : Float). groupsIn x (s .args .kind .now) (s .args .delta .now)) margin-is
 
-too-short-requires : tie.Need-too-short-requires
-too-short-requires c κs = search needs
+short-refusal-requires : tie.Need-short-refusal-requires
+short-refusal-requires c κs = search needs
 
 check-requires : tie.Need-check-requires
 check-requires c κs = search needs
@@ -89,12 +89,6 @@ count-groups-requires c κs =
     let t = c .before .before in
     lengths-same (chartOf (start t)) (memoryOf (start t)) (accepted t)
 
-same-length-3 : tie.Need-same-length-3
-same-length-3 c = search needs
-
-same-length-4 : tie.Need-same-length-4
-same-length-4 c = search needs
-
 returns-2 : tie.Need-returns-2
 returns-2 c =
     let k = c .before in
@@ -107,24 +101,12 @@ make-record-requires c κs =
     let t = told k in
     group-room (chartOf (start t)) (memoryOf (start t)) _ (start t .args .g) (accepted t) (omega (arith, counted k, c .before .before .if2 .left)) margin-is
 
-same-length-5 : tie.Need-same-length-5
-same-length-5 c = search needs
-
-same-length-6 : tie.Need-same-length-6
-same-length-6 c = search needs
-
 returns-3 : tie.Need-returns-3
 returns-3 c =
     let v = c .before .before .before in
-    let s = v .before .before .before .before .before .before .before .before .before .before in
+    let s = v .before .before .before .before .before .before .before .before in
     chart-refused (chartOf s) (memoryOf s) (s .args .g) (s .args .window) _ _
-    (verdict-is (chartOf s) (memoryOf s) _ _ _ (v .before .too-short .ensures) (v .check .ensures) (c .before .number .given .1))
-
-same-length-7 : tie.Need-same-length-7
-same-length-7 c = search needs
-
-same-length-8 : tie.Need-same-length-8
-same-length-8 c = search needs
+    (judged-is (chartOf s) (memoryOf s) _ (v .before .short-refusal .ensures) (v .check .ensures) (c .before .number .given .1))
 
 returns-4 : tie.Need-returns-4
 returns-4 c =
@@ -138,22 +120,16 @@ pub record-spec : {M : Type 1} → statement M
 record-spec =
     tie.close
     (tie.spec
-    too-short-requires
+    short-refusal-requires
     check-requires
     enum-known-number
     enum-told
     window-good-requires
-    same-length
-    same-length-2
     returns
     count-groups-requires
-    same-length-3
-    same-length-4
     returns-2
     make-record-requires
-    same-length-5
-    same-length-6
     returns-3
-    same-length-7
-    same-length-8
+    same-length
+    same-length-2
     returns-4)

@@ -1,13 +1,42 @@
--- `encode` meets its contract: the verdict of the definition is the one that the tests gave, and each case leaves its outcome. Assumes nothing.
-use Rattle.grouping_chart.specs.Chart.{Chart}
-use Rattle.grouping_encode.specs.Encode.{Memory}
-use Rattle.grouping_encode.proofs.EncodeLaws.{verdict-is, refused-outcome, done-outcome, has-room, answer-room, filled-is}
+-- The verdict of the definition is the one that the tests gave, and each case leaves its outcome.
+use mathlib.Core.Path.{_≡_}
+use Rattle.grouping_chart.specs.Chart.{Chart, size}
+use Rattle.grouping_chart.specs.Refusal.{verdict}
+use Rattle.grouping_chart.specs.declared.chart.Verdict.the-variants.{Accepted}
+use Rattle.grouping_encode.specs.Encode.{Memory, beside}
+use Rattle.grouping_encode.proofs.EncodeLaws.{judged, refused-outcome, done-outcome, has-room, answer-room, filled-is}
 use borrow.Author.Needs.{needs}
 use Rattle.grouping_encode.proofs.encode.Statement.{statement}
 use Rattle.grouping_encode.proofs.encode.Tie as tie
 
+-- the chart and the memory as lent
+abbrev chartOf : tie.Start → Chart
+chartOf c = record { kinds = c .args .kind .now; starts = c .args .start .now; deltas = c .args .delta .now; ratios = c .args .ratio .now }
+
+abbrev memoryOf : tie.Start → Memory
+memoryOf c = record {
+  streak = c .args .streak .now;
+  streakPlace = c .args .inner .now;
+  pattern = c .args .pattern .now;
+  patternPlace = c .args .outer .now;
+  hit = c .args .hit .now;
+  interval = c .args .interval .now;
+  work = c .args .work .now;
+  scratch = c .args .scratch .now;
+}
+
+-- ---- once the call is known to be accepted
+abbrev start : tie.After-enum-told → tie.Start
+start c = c .before .before .before .before .before .before .before .before .before .before .before .before .before .before .before .before .before .before .before .before .before .before .before
+
+accepted : (c : tie.After-enum-told) → verdict (chartOf (start c)) (beside (size (chartOf (start c))) (memoryOf (start c))) ≡ Accepted
+accepted c = judged (chartOf (start c)) (memoryOf (start c)) _ _ (c .before .before .before .before .too-short .ensures) (c .before .before .before .short-refusal .ensures) (c .before .before .check .ensures) (c .enum-told .given .1)
+
 too-short-requires : tie.Need-too-short-requires
 too-short-requires c κs = search needs
+
+short-refusal-requires : tie.Need-short-refusal-requires
+short-refusal-requires c κs = search needs
 
 check-requires : tie.Need-check-requires
 check-requires c κs = search needs
@@ -20,19 +49,13 @@ enum-told c = search needs
 
 encode-kinds-requires : tie.Need-encode-kinds-requires
 encode-kinds-requires c κs =
-    let a = c .before .before .before .before .before .before .before .before .before .before .before .before .before .before .before .before .before .before .before .before .before .before .before .before .before .before .before .before .before .before .before .args in
-    let ch : Chart = record { kinds = a .kind .now; starts = a .start .now; deltas = a .delta .now; ratios = a .ratio .now } in
-    let m : Memory = record { streak = a .streak .now; streakPlace = a .streak-place .now; pattern = a .pattern .now; patternPlace = a .pattern-place .now; hit = a .hit .now; interval = a .interval .now; work = a .work .now; scratch = a .scratch .now } in
-    let v = verdict-is ch m _ _ _ (c .before .before .before .before .before .before .before .before .before .before .too-short .ensures) (c .before .before .before .before .before .before .before .before .before .check .ensures) (c .before .before .before .before .before .before .before .enum-told .given .1) in
-    answer-room ch m v
+    let t = c .before .before .before .before .before .before .before in
+    answer-room (chartOf (start t)) (memoryOf (start t)) (accepted t)
 
 clear-floats-requires : tie.Need-clear-floats-requires
 clear-floats-requires c κs =
-    let a = c .before .before .before .before .before .before .before .before .before .before .before .before .before .before .before .before .before .before .before .before .before .before .before .before .before .before .before .before .before .before .before .before .before .before .before .before .before .before .before .before .before .before .before .before .before .before .before .args in
-    let ch : Chart = record { kinds = a .kind .now; starts = a .start .now; deltas = a .delta .now; ratios = a .ratio .now } in
-    let m : Memory = record { streak = a .streak .now; streakPlace = a .streak-place .now; pattern = a .pattern .now; patternPlace = a .pattern-place .now; hit = a .hit .now; interval = a .interval .now; work = a .work .now; scratch = a .scratch .now } in
-    let v = verdict-is ch m _ _ _ (c .before .before .before .before .before .before .before .before .before .before .before .before .before .before .before .before .before .before .before .before .before .before .before .before .before .before .too-short .ensures) (c .before .before .before .before .before .before .before .before .before .before .before .before .before .before .before .before .before .before .before .before .before .before .before .before .before .check .ensures) (c .before .before .before .before .before .before .before .before .before .before .before .before .before .before .before .before .before .before .before .before .before .before .before .enum-told .given .1) in
-    has-room ch m v .scratch
+    let t = c .before .before .before .before .before .before .before .before .before .before .before .before .before .before .before .before .before .before .before .before .before .before .before in
+    has-room (chartOf (start t)) (memoryOf (start t)) (accepted t) .scratch
 
 same-length : tie.Need-same-length
 same-length c = search needs
@@ -52,19 +75,16 @@ same-length-5 c = search needs
 same-length-6 : tie.Need-same-length-6
 same-length-6 c = search needs
 
+returns : tie.Need-returns
+returns c =
+    let s = c .before .before .before .before .before .before .before .before .before .before .before .before .before .before .before .before .before .before .before .before .before .before .before .before in
+    refused-outcome (chartOf s) (memoryOf s) _ _ (judged (chartOf s) (memoryOf s) _ _ (c .before .before .before .before .before .too-short .ensures) (c .before .before .before .before .short-refusal .ensures) (c .before .before .before .check .ensures) (c .before .number .given .1))
+
 same-length-7 : tie.Need-same-length-7
 same-length-7 c = search needs
 
 same-length-8 : tie.Need-same-length-8
 same-length-8 c = search needs
-
-returns : tie.Need-returns
-returns c =
-    let a = c .before .before .before .before .before .before .before .before .before .before .before .before .before .before .before .before .before .before .before .before .before .before .before .before .before .args in
-    let ch : Chart = record { kinds = a .kind .now; starts = a .start .now; deltas = a .delta .now; ratios = a .ratio .now } in
-    let m : Memory = record { streak = a .streak .now; streakPlace = a .streak-place .now; pattern = a .pattern .now; patternPlace = a .pattern-place .now; hit = a .hit .now; interval = a .interval .now; work = a .work .now; scratch = a .scratch .now } in
-    let v = verdict-is ch m _ _ _ (c .before .before .before .before .too-short .ensures) (c .before .before .before .check .ensures) (c .before .number .given .1) in
-    refused-outcome ch m _ _ v
 
 same-length-9 : tie.Need-same-length-9
 same-length-9 c = search needs
@@ -84,25 +104,19 @@ same-length-13 c = search needs
 same-length-14 : tie.Need-same-length-14
 same-length-14 c = search needs
 
-same-length-15 : tie.Need-same-length-15
-same-length-15 c = search needs
-
-same-length-16 : tie.Need-same-length-16
-same-length-16 c = search needs
-
 returns-2 : tie.Need-returns-2
 returns-2 c =
-    let a = c .before .before .before .before .before .before .before .before .before .before .before .before .before .before .before .before .before .before .before .before .before .before .before .before .before .before .before .before .before .before .before .before .before .before .before .before .before .before .before .before .before .before .before .before .before .before .before .before .before .before .args in
-    let ch : Chart = record { kinds = a .kind .now; starts = a .start .now; deltas = a .delta .now; ratios = a .ratio .now } in
-    let m : Memory = record { streak = a .streak .now; streakPlace = a .streak-place .now; pattern = a .pattern .now; patternPlace = a .pattern-place .now; hit = a .hit .now; interval = a .interval .now; work = a .work .now; scratch = a .scratch .now } in
-    let v = verdict-is ch m _ _ _ (c .before .before .before .before .before .before .before .before .before .before .before .before .before .before .before .before .before .before .before .before .before .before .before .before .before .before .before .before .before .too-short .ensures) (c .before .before .before .before .before .before .before .before .before .before .before .before .before .before .before .before .before .before .before .before .before .before .before .before .before .before .before .before .check .ensures) (c .before .before .before .before .before .before .before .before .before .before .before .before .before .before .before .before .before .before .before .before .before .before .before .before .before .before .enum-told .given .1) in
-    done-outcome ch m _ _ v (c .before .before .before .before .before .before .before .before .before .before .before .before .before .before .before .before .before .before .encode-kinds .ensures .counted) (filled-is (a .kind .now) m _ _ _ _ _ _ _ _ _ (c .before .before .before .before .before .before .before .before .before .before .before .before .before .before .before .before .before .before .encode-kinds .ensures) (c .before .before .clear-floats .ensures))
+    let t = c .before .before .before .before .before .before .before .before .before .before .before .before .before .before .before .before .before .before .before .before .before .before .before .before .before .before in
+    let s = start t in
+    let e = c .before .before .before .before .before .before .before .before .before .before .before .before .before .before .before .before .before .before .encode-kinds .ensures in
+    done-outcome (chartOf s) (memoryOf s) _ _ (accepted t) (e .counted) (filled-is (chartOf s .kinds) (memoryOf s) _ _ _ _ _ _ _ _ _ e (c .before .before .clear-floats .ensures))
 
 pub encode-spec : {M : Type 1} → statement M
 encode-spec =
     tie.close
     (tie.spec
     too-short-requires
+    short-refusal-requires
     check-requires
     enum-known-number
     enum-told
@@ -114,15 +128,13 @@ encode-spec =
     same-length-4
     same-length-5
     same-length-6
+    returns
     same-length-7
     same-length-8
-    returns
     same-length-9
     same-length-10
     same-length-11
     same-length-12
     same-length-13
     same-length-14
-    same-length-15
-    same-length-16
     returns-2)

@@ -1,64 +1,26 @@
--- `too_short` meets its contract: a slice that has too few places, and all before it enough, settle the test. Assumes nothing.
-use mathlib.Core.Path.{_≡_, refl, _∙_}
-use mathlib.Core.Bool.{Bool, true, false, _||_, true≢false}
-use Prim.Native.Nat.{ℕ, _*_, _/_, _≤_, _<_}
-use native.Mathlib.Omega.{arith}
-use borrow.Author.Tests.{lt-ltb, le-ltb}
-use Rattle.grouping_encode.specs.Encode.{short}
+-- The slices are tested one after another: those before the one that is too short are long enough.
+use mathlib.Core.Path.{_∙_}
+use Rattle.grouping_chart.proofs.RoomLaws.{short-here, short-later, short-last}
 use Rattle.grouping_encode.proofs.too_short.Statement.{statement}
 use Rattle.grouping_encode.proofs.too_short.Tie as tie
 
-or-skip : (a b : Bool) → a ≡ false → b ≡ (a || b)
-or-skip true b p = absurd (true≢false p)
-or-skip false b p = refl
-
--- the work slice, without a product that could wrap
-wide-short : (l n : ℕ) → l / 8 < n → l < 8 * n
-wide-short l n h = omega arith
-
-wide-enough : (l n : ℕ) → n ≤ l / 8 → 8 * n ≤ l
-wide-enough l n h = omega arith
-
 returns : tie.Need-returns
-unfolding short
-returns c = simp (lt-ltb _ _ (c .if1 .taken))
+returns c = short-here _ _ _ (c .if1 .taken)
 
 returns-2 : tie.Need-returns-2
-unfolding short
-returns-2 c = simp (le-ltb _ _ (c .before .if1 .left), lt-ltb _ _ (c .if2 .taken))
+returns-2 c = short-here _ _ _ (c .if2 .taken) ∙ short-later _ _ _ (c .before .if1 .left)
 
 returns-3 : tie.Need-returns-3
-unfolding short
-returns-3 c = simp (le-ltb _ _ (c .before .before .if1 .left), le-ltb _ _ (c .before .if2 .left), lt-ltb _ _ (c .if3 .taken))
+returns-3 c = short-here _ _ _ (c .if3 .taken) ∙ short-later _ _ _ (c .before .if2 .left) ∙ short-later _ _ _ (c .before .before .if1 .left)
 
 returns-4 : tie.Need-returns-4
-unfolding short
-returns-4 c = simp (le-ltb _ _ (c .before .before .before .if1 .left), le-ltb _ _ (c .before .before .if2 .left), le-ltb _ _ (c .before .if3 .left), lt-ltb _ _ (c .if4 .taken))
+returns-4 c = short-here _ _ _ (c .if4 .taken) ∙ short-later _ _ _ (c .before .if3 .left) ∙ short-later _ _ _ (c .before .before .if2 .left) ∙ short-later _ _ _ (c .before .before .before .if1 .left)
 
 returns-5 : tie.Need-returns-5
-unfolding short
-returns-5 c = simp (le-ltb _ _ (c .before .before .before .before .if1 .left), le-ltb _ _ (c .before .before .before .if2 .left), le-ltb _ _ (c .before .before .if3 .left), le-ltb _ _ (c .before .if4 .left), lt-ltb _ _ (c .if5 .taken))
+returns-5 c = short-here _ _ _ (c .if5 .taken) ∙ short-later _ _ _ (c .before .if4 .left) ∙ short-later _ _ _ (c .before .before .if3 .left) ∙ short-later _ _ _ (c .before .before .before .if2 .left) ∙ short-later _ _ _ (c .before .before .before .before .if1 .left)
 
 returns-6 : tie.Need-returns-6
-unfolding short
-returns-6 c = simp (le-ltb _ _ (c .before .before .before .before .before .if1 .left), le-ltb _ _ (c .before .before .before .before .if2 .left), le-ltb _ _ (c .before .before .before .if3 .left), le-ltb _ _ (c .before .before .if4 .left), le-ltb _ _ (c .before .if5 .left), lt-ltb _ _ (c .if6 .taken))
-
-returns-7 : tie.Need-returns-7
-unfolding short
-returns-7 c = simp (le-ltb _ _ (c .before .before .before .before .before .before .if1 .left), le-ltb _ _ (c .before .before .before .before .before .if2 .left), le-ltb _ _ (c .before .before .before .before .if3 .left), le-ltb _ _ (c .before .before .before .if4 .left), le-ltb _ _ (c .before .before .if5 .left), le-ltb _ _ (c .before .if6 .left), lt-ltb _ _ (wide-short _ _ (c .if7 .taken)))
-
-returns-8 : tie.Need-returns-8
-unfolding short
-returns-8 c =
-    or-skip _ _ (le-ltb _ _ (wide-enough _ _ (c .if7 .left)))
-    ∙ or-skip _ _ (le-ltb _ _ (c .before .if6 .left))
-    ∙ or-skip _ _ (le-ltb _ _ (c .before .before .if5 .left))
-    ∙ or-skip _ _ (le-ltb _ _ (c .before .before .before .if4 .left))
-    ∙ or-skip _ _ (le-ltb _ _ (c .before .before .before .before .if3 .left))
-    ∙ or-skip _ _ (le-ltb _ _ (c .before .before .before .before .before .if2 .left))
-    ∙ or-skip _ _ (le-ltb _ _ (c .before .before .before .before .before .before .if1 .left))
+returns-6 c = short-last _ _ ∙ short-later _ _ _ (c .if5 .left) ∙ short-later _ _ _ (c .before .if4 .left) ∙ short-later _ _ _ (c .before .before .if3 .left) ∙ short-later _ _ _ (c .before .before .before .if2 .left) ∙ short-later _ _ _ (c .before .before .before .before .if1 .left)
 
 pub too-short-spec : {M : Type 1} → statement M
-too-short-spec =
-    tie.close
-    (tie.spec returns returns-2 returns-3 returns-4 returns-5 returns-6 returns-7 returns-8)
+too-short-spec = tie.close (tie.spec returns returns-2 returns-3 returns-4 returns-5 returns-6)

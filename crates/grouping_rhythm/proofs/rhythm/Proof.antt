@@ -4,7 +4,7 @@ use lib.Ieee.{binary64, ofBits}
 use Rattle.grouping_chart.specs.Chart.{Chart}
 use Rattle.grouping_chart.specs.declared.chart.Verdict.the-variants.{Accepted}
 use Rattle.grouping_rhythm.specs.Rhythm.{Memory, baseMargin}
-use Rattle.grouping_rhythm.proofs.RhythmLaws.{judged, verdict-is, answer-room, rhythm-refused, rhythm-done}
+use Rattle.grouping_rhythm.proofs.RhythmLaws.{judged, judged-is, answer-room, rhythm-refused, rhythm-done}
 use borrow.Author.Needs.{needs}
 use Rattle.grouping_rhythm.proofs.rhythm.Statement.{statement}
 use Rattle.grouping_rhythm.proofs.rhythm.Tie as tie
@@ -23,13 +23,16 @@ memoryOf c = record { group = c .args .group .now; pattern = c .args .pattern .n
 
 -- ---- once the call is known to be accepted
 abbrev start : tie.After-enum-told → tie.Start
-start c = c .before .before .before .before .before .before .before .before .before .before .before .before .before .before .before .before
+start c = c .before .before .before .before .before .before .before .before .before .before .before .before .before .before .before
 
 accepted : (c : tie.After-enum-told) → judged (chartOf (start c)) (memoryOf (start c)) ≡ Accepted
-accepted c = verdict-is (chartOf (start c)) (memoryOf (start c)) _ _ _ (c .before .before .before .too-short .ensures) (c .before .before .check .ensures) (c .enum-told .given .1)
+accepted c = judged-is (chartOf (start c)) (memoryOf (start c)) _ _ (c .before .before .before .before .too-short .ensures) (c .before .before .before .short-refusal .ensures) (c .before .before .check .ensures) (c .enum-told .given .1)
 
 too-short-requires : tie.Need-too-short-requires
 too-short-requires c κs = search needs
+
+short-refusal-requires : tie.Need-short-refusal-requires
+short-refusal-requires c κs = search needs
 
 check-requires : tie.Need-check-requires
 check-requires c κs = search needs
@@ -51,28 +54,22 @@ same-length c = search needs
 same-length-2 : tie.Need-same-length-2
 same-length-2 c = search needs
 
+returns : tie.Need-returns
+returns c =
+    let s = c .before .before .before .before .before .before .before .before .before .before .before .before .before .before .before .before in
+    rhythm-refused (chartOf s) (memoryOf s) _ _ (judged-is (chartOf s) (memoryOf s) _ _ (c .before .before .before .before .before .too-short .ensures) (c .before .before .before .before .short-refusal .ensures) (c .before .before .before .check .ensures) (c .before .number .given .1))
+
 same-length-3 : tie.Need-same-length-3
 same-length-3 c = search needs
 
 same-length-4 : tie.Need-same-length-4
 same-length-4 c = search needs
 
-returns : tie.Need-returns
-returns c =
-    let s = c .before .before .before .before .before .before .before .before .before .before .before .before .before .before .before .before .before in
-    rhythm-refused (chartOf s) (memoryOf s) _ _ (verdict-is (chartOf s) (memoryOf s) _ _ _ (c .before .before .before .before .too-short .ensures) (c .before .before .before .check .ensures) (c .before .number .given .1))
-
 same-length-5 : tie.Need-same-length-5
 same-length-5 c = search needs
 
 same-length-6 : tie.Need-same-length-6
 same-length-6 c = search needs
-
-same-length-7 : tie.Need-same-length-7
-same-length-7 c = search needs
-
-same-length-8 : tie.Need-same-length-8
-same-length-8 c = search needs
 
 returns-2 : tie.Need-returns-2
 returns-2 c =
@@ -84,17 +81,16 @@ rhythm-spec =
     tie.close
     (tie.spec
     too-short-requires
+    short-refusal-requires
     check-requires
     enum-known-number
     enum-told
     fill-groups-requires
     same-length
     same-length-2
+    returns
     same-length-3
     same-length-4
-    returns
     same-length-5
     same-length-6
-    same-length-7
-    same-length-8
     returns-2)

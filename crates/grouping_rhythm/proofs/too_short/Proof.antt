@@ -1,39 +1,14 @@
--- A slice that has too few places, and all before it enough, settle the test.
-use mathlib.Core.Path.{_≡_, refl, _∙_}
-use mathlib.Core.Bool.{Bool, true, false, _||_, true≢false}
-use Prim.Native.Nat.{ℕ, _*_, _/_, _≤_, _<_}
-use native.Mathlib.Omega.{arith}
-use borrow.Author.Tests.{lt-ltb, le-ltb}
-use Rattle.grouping_rhythm.specs.Rhythm.{short}
+-- The slices are tested one after another.
+use mathlib.Core.Path.{_∙_}
+use Rattle.grouping_chart.proofs.RoomLaws.{short-here, short-later, short-last}
 use Rattle.grouping_rhythm.proofs.too_short.Statement.{statement}
 use Rattle.grouping_rhythm.proofs.too_short.Tie as tie
 
-or-skip : (a b : Bool) → a ≡ false → b ≡ (a || b)
-or-skip true b p = absurd (true≢false p)
-or-skip false b p = refl
-
--- the work slice, without a product that could wrap
-wide-short : (l n : ℕ) → l / 8 < n → l < 8 * n
-wide-short l n h = omega arith
-
-wide-enough : (l n : ℕ) → n ≤ l / 8 → 8 * n ≤ l
-wide-enough l n h = omega arith
-
 returns : tie.Need-returns
-unfolding short
-returns c = simp (lt-ltb _ _ (c .if1 .taken))
+returns c = short-here _ _ _ (c .if1 .taken)
 
 returns-2 : tie.Need-returns-2
-unfolding short
-returns-2 c = simp (le-ltb _ _ (c .before .if1 .left), lt-ltb _ _ (c .if2 .taken))
-
-returns-3 : tie.Need-returns-3
-unfolding short
-returns-3 c = simp (le-ltb _ _ (c .before .before .if1 .left), le-ltb _ _ (c .before .if2 .left), lt-ltb _ _ (wide-short _ _ (c .if3 .taken)))
-
-returns-4 : tie.Need-returns-4
-unfolding short
-returns-4 c = or-skip _ _ (le-ltb _ _ (wide-enough _ _ (c .if3 .left))) ∙ or-skip _ _ (le-ltb _ _ (c .before .if2 .left)) ∙ or-skip _ _ (le-ltb _ _ (c .before .before .if1 .left))
+returns-2 c = short-last _ _ ∙ short-later _ _ _ (c .if1 .left)
 
 pub too-short-spec : {M : Type 1} → statement M
-too-short-spec = tie.close (tie.spec returns returns-2 returns-3 returns-4)
+too-short-spec = tie.close (tie.spec returns returns-2)

@@ -1,6 +1,6 @@
 -- Each return is one case of the definition, in the order 1, 2, 3, then object by object.
 use mathlib.Core.Path.{sym, _∙_}
-use Rattle.grouping_chart.proofs.RefusalLaws.{verdict-1, verdict-2, verdict-3, verdict-objects}
+use Rattle.grouping_chart.proofs.RefusalLaws.{verdict-1, verdict-2, verdict-beside, verdict-objects}
 use Rattle.grouping_chart.proofs.AcceptedLaws.{even-lengths}
 use Rattle.grouping_chart.proofs.chart.check.Statement.{statement}
 use Rattle.grouping_chart.proofs.chart.check.Tie as tie
@@ -14,7 +14,7 @@ lengths-even-requires c κs = tt
 returns-2 : tie.Need-returns-2
 returns-2 c =
     let even-true = sym (c .before .before .lengths-even .ensures) ∙ c .before .if2 .taken in
-    sym (verdict-3 _ _ (c .before .before .before .if1 .left) even-true (c .if3 .taken))
+    sym (verdict-beside _ _ (c .before .before .before .if1 .left) even-true (c .if3 .taken))
 
 check-objects-requires : tie.Need-check-objects-requires
 check-objects-requires c κs = even-lengths _ (sym (c .before .before .lengths-even .ensures) ∙ c .before .if2 .taken)

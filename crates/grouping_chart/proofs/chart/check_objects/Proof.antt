@@ -1,94 +1,22 @@
--- The invariant: the first refused object from `at` on is the first of all, so none before `at` is refused.
-use Prim.Native.Nat.{ℕ, _≤_, _-_}
-use mathlib.Core.Path.{_≡_, refl, sym, _∙_}
-use mathlib.Core.List.{List}
-use native.Mathlib.Omega.{arith}
-use lib.ListN.{length, drop}
-use lib.Ieee.{Float}
-use Rattle.grouping_chart.specs.Refusal.{firstRefused}
-use Rattle.grouping_chart.proofs.RefusalLaws.{first-here, first-later, first-none}
+-- Where all is good no object is refused; else the first that is refused is looked for.
+use mathlib.Core.Path.{sym, _∙_}
+use Rattle.grouping_chart.proofs.AcceptedLaws.{all-good-accepted}
+use borrow.Author.Needs.{needs}
 use Rattle.grouping_chart.proofs.chart.check_objects.Statement.{statement}
 use Rattle.grouping_chart.proofs.chart.check_objects.Tie as tie
 
--- no object before `at` is refused: the first refused one from `at` on is the first of all
-record Passed (kind : List ℕ) (start delta ratio : List Float) (at : ℕ) : Type 0 where
-  within : at ≤ length kind
-  same : firstRefused at (drop at kind) (drop at start) (drop at delta) (drop at ratio) ≡ firstRefused 0 kind start delta ratio
+all-good-requires : tie.Need-all-good-requires
+all-good-requires c κs = search needs
 
-abbrev Inv-loop : tie.InvT-loop
-Inv-loop kind start delta ratio at₀ at = Passed kind start delta ratio (at .0)
+returns : tie.Need-returns
+returns c = all-good-accepted _ _ _ _ (c .before .before .before .before .before .before .pre) (sym (c .before .all-good .ensures) ∙ c .if1 .taken)
 
-abbrev μ-loop : tie.MeasureT-loop
-μ-loop kind start delta ratio at₀ at = length kind - at .0
+first-refused-requires : tie.Need-first-refused-requires
+first-refused-requires c κs = search needs
 
-loop-holds : tie.Need-loop-holds Inv-loop μ-loop
-loop-holds c = record { within = omega arith; same = refl }
-
-shared-slice-read-object-refusal : tie.Need-shared-slice-read-object-refusal Inv-loop μ-loop
-shared-slice-read-object-refusal c = omega arith
-
-mul-object-refusal : tie.Need-mul-object-refusal Inv-loop μ-loop
-mul-object-refusal c = omega arith
-
-shared-slice-read-object-refusal-2 : tie.Need-shared-slice-read-object-refusal-2 Inv-loop μ-loop
-shared-slice-read-object-refusal-2 c = omega arith
-
-mul-object-refusal-2 : tie.Need-mul-object-refusal-2 Inv-loop μ-loop
-mul-object-refusal-2 c = omega arith
-
-shared-slice-read-object-refusal-3 : tie.Need-shared-slice-read-object-refusal-3 Inv-loop μ-loop
-shared-slice-read-object-refusal-3 c = omega arith
-
-mul-object-refusal-3 : tie.Need-mul-object-refusal-3 Inv-loop μ-loop
-mul-object-refusal-3 c = omega arith
-
-shared-slice-read-object-refusal-4 : tie.Need-shared-slice-read-object-refusal-4 Inv-loop μ-loop
-shared-slice-read-object-refusal-4 c = omega arith
-
-object-refusal-requires : tie.Need-object-refusal-requires Inv-loop μ-loop
-object-refusal-requires c κs = tt
-
-returns : tie.Need-returns Inv-loop μ-loop
-returns c =
-    let at-loop = c .before .before .before .before .before .before .before .before in
-    first-here _ _ _ _ (at-loop .loop .at .0) _ (at-loop .before .before .before .before .before .pre) _ (omega arith) (c .before .object-refusal .ensures) (c .if2 .taken)
-    ∙ at-loop .loop .inv .same
-
-add-t8 : tie.Need-add-t8 Inv-loop μ-loop
-add-t8 c = omega arith
-
-loop-less : tie.Need-loop-less Inv-loop μ-loop
-loop-less c = omega arith
-
-loop-again : tie.Need-loop-again Inv-loop μ-loop
-loop-again c =
-    let at-loop = c .before .before .before .before .before .before .before .before in
-    record {
-      within = omega arith;
-      same = sym (first-later _ _ _ _ (at-loop .loop .at .0) _ (at-loop .before .before .before .before .before .pre) _ (omega arith) (c .before .object-refusal .ensures) (c .if2 .left))
-          ∙ at-loop .loop .inv .same;
-    }
-
-returns-2 : tie.Need-returns-2 Inv-loop μ-loop
-returns-2 c = first-none _ _ _ _ (c .before .before .loop .at .0) (omega arith) ∙ c .before .before .loop .inv .same
+returns-2 : tie.Need-returns-2
+returns-2 c = search needs
 
 pub check-objects-spec : {M : Type 1} → statement M
 check-objects-spec =
-    tie.close
-    (tie.spec
-    Inv-loop
-    μ-loop
-    loop-holds
-    shared-slice-read-object-refusal
-    mul-object-refusal
-    shared-slice-read-object-refusal-2
-    mul-object-refusal-2
-    shared-slice-read-object-refusal-3
-    mul-object-refusal-3
-    shared-slice-read-object-refusal-4
-    object-refusal-requires
-    returns
-    add-t8
-    loop-less
-    loop-again
-    returns-2)
+    tie.close (tie.spec all-good-requires returns first-refused-requires returns-2)

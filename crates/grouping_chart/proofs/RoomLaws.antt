@@ -1,0 +1,77 @@
+-- The cases of refusal 3, and what is known where no slice is too short. A call on a chart cites these.
+use mathlib.Core.Path.{_≡_, refl}
+use mathlib.Core.Bool.{Bool, true, false, cond, _||_, true≢false}
+use mathlib.Core.List.{List, [], _∷_}
+use Prim.Native.Nat.{ℕ, _*_, _/_, _≤_, _<_}
+use native.Mathlib.Omega.{arith}
+use borrow.Author.Tests.{lt-ltb, le-ltb, ltb-false}
+use lib.Dec.{ltb}
+use Rattle.grouping_chart.specs.Room.{anyShort, shortRefusal}
+
+-- no slice is too short for n objects, by how many places the work slices have
+pub record Roomy (answers : Bool) (n work scratch : ℕ) : Type 0 where
+  pub answered : answers ≡ false
+  pub regions : 8 * n ≤ work
+  pub floats : n ≤ scratch
+
+pub either-false : (a b : Bool) → (a || b) ≡ false → (a ≡ false) × (b ≡ false)
+either-false true b e = absurd (true≢false e)
+either-false false b e = (refl, e)
+
+not-refused : (b : Bool) → _≡_ {A = ℕ} (cond b 3 0) 0 → b ≡ false
+not-refused true e = absurd (omega arith)
+not-refused false e = refl
+
+pub roomy : (answers : Bool) (n work scratch : ℕ) → shortRefusal answers n work scratch ≡ 0 → Roomy answers n work scratch
+unfolding shortRefusal
+roomy answers n work scratch e =
+    let a = either-false _ _ (not-refused (answers || (ltb work (8 * n) || ltb scratch n)) e) in
+    let b = either-false _ _ (a .1) in
+    record { answered = a .0; regions = ltb-false _ _ (b .0); floats = ltb-false _ _ (b .1) }
+
+-- ---- the answer slices, one after another
+
+module _ (n l : ℕ) (ls : List ℕ) where
+  pub short-here : l < n → true ≡ anyShort n (l ∷ ls)
+  unfolding anyShort
+  short-here h = rw (lt-ltb l n h)
+
+  pub short-later : n ≤ l → anyShort n ls ≡ anyShort n (l ∷ ls)
+  unfolding anyShort
+  short-later h = rw (le-ltb l n h)
+
+  pub long-enough : anyShort n (l ∷ ls) ≡ false → (n ≤ l) × (anyShort n ls ≡ false)
+  unfolding anyShort
+  long-enough e = let t = either-false _ _ e in (ltb-false l n (t .0), t .1)
+
+pub short-last : (n l : ℕ) → ltb l n ≡ anyShort n (l ∷ [])
+unfolding anyShort
+short-last n l = by (ltb l n)
+  where
+    by : (b : Bool) → b ≡ (b || false)
+    by true = refl
+    by false = refl
+
+pub none-asked : (n : ℕ) → false ≡ anyShort n []
+unfolding anyShort
+none-asked n = refl
+
+-- ---- the cases
+
+module _ (answers : Bool) (n work scratch : ℕ) where
+  pub answers-short : answers ≡ true → 3 ≡ shortRefusal answers n work scratch
+  unfolding shortRefusal
+  answers-short a = rw a
+
+  -- by eighths, as the code tests it
+  pub regions-short : answers ≡ false → work / 8 < n → 3 ≡ shortRefusal answers n work scratch
+  unfolding shortRefusal
+  regions-short a w = rw (a, lt-ltb work (8 * n) (omega arith))
+
+  pub floats-short : answers ≡ false → n ≤ work / 8 → scratch < n → 3 ≡ shortRefusal answers n work scratch
+  unfolding shortRefusal
+  floats-short a w s = rw (a, le-ltb work (8 * n) (omega arith), lt-ltb scratch n s)
+
+  pub none-short : answers ≡ false → n ≤ work / 8 → n ≤ scratch → 0 ≡ shortRefusal answers n work scratch
+  unfolding shortRefusal
+  none-short a w s = rw (a, le-ltb work (8 * n) (omega arith), le-ltb scratch n s)

@@ -1,0 +1,94 @@
+-- The invariant: the first refused object from `at` on is the first of all, so none before `at` is refused.
+use Prim.Native.Nat.{ℕ, _≤_, _-_}
+use mathlib.Core.Path.{_≡_, refl, sym, _∙_}
+use mathlib.Core.List.{List}
+use native.Mathlib.Omega.{arith}
+use lib.ListN.{length, drop}
+use lib.Ieee.{Float}
+use Rattle.grouping_chart.specs.Refusal.{firstRefused}
+use Rattle.grouping_chart.proofs.RefusalLaws.{first-here, first-later, first-none}
+use Rattle.grouping_chart.proofs.chart.first_refused.Statement.{statement}
+use Rattle.grouping_chart.proofs.chart.first_refused.Tie as tie
+
+-- no object before `at` is refused: the first refused one from `at` on is the first of all
+record Passed (kind : List ℕ) (start delta ratio : List Float) (at : ℕ) : Type 0 where
+  within : at ≤ length kind
+  same : firstRefused at (drop at kind) (drop at start) (drop at delta) (drop at ratio) ≡ firstRefused 0 kind start delta ratio
+
+abbrev Inv-loop : tie.InvT-loop
+Inv-loop kind start delta ratio at₀ at = Passed kind start delta ratio (at .0)
+
+abbrev μ-loop : tie.MeasureT-loop
+μ-loop kind start delta ratio at₀ at = length kind - at .0
+
+loop-holds : tie.Need-loop-holds Inv-loop μ-loop
+loop-holds c = record { within = omega arith; same = refl }
+
+shared-slice-read-object-refusal : tie.Need-shared-slice-read-object-refusal Inv-loop μ-loop
+shared-slice-read-object-refusal c = omega arith
+
+mul-object-refusal : tie.Need-mul-object-refusal Inv-loop μ-loop
+mul-object-refusal c = omega arith
+
+shared-slice-read-object-refusal-2 : tie.Need-shared-slice-read-object-refusal-2 Inv-loop μ-loop
+shared-slice-read-object-refusal-2 c = omega arith
+
+mul-object-refusal-2 : tie.Need-mul-object-refusal-2 Inv-loop μ-loop
+mul-object-refusal-2 c = omega arith
+
+shared-slice-read-object-refusal-3 : tie.Need-shared-slice-read-object-refusal-3 Inv-loop μ-loop
+shared-slice-read-object-refusal-3 c = omega arith
+
+mul-object-refusal-3 : tie.Need-mul-object-refusal-3 Inv-loop μ-loop
+mul-object-refusal-3 c = omega arith
+
+shared-slice-read-object-refusal-4 : tie.Need-shared-slice-read-object-refusal-4 Inv-loop μ-loop
+shared-slice-read-object-refusal-4 c = omega arith
+
+object-refusal-requires : tie.Need-object-refusal-requires Inv-loop μ-loop
+object-refusal-requires c κs = tt
+
+returns : tie.Need-returns Inv-loop μ-loop
+returns c =
+    let at-loop = c .before .before .before .before .before .before .before .before in
+    first-here _ _ _ _ (at-loop .loop .at .0) _ (at-loop .before .before .before .before .before .pre) _ (omega arith) (c .before .object-refusal .ensures) (c .if2 .taken)
+    ∙ at-loop .loop .inv .same
+
+add-t8 : tie.Need-add-t8 Inv-loop μ-loop
+add-t8 c = omega arith
+
+loop-less : tie.Need-loop-less Inv-loop μ-loop
+loop-less c = omega arith
+
+loop-again : tie.Need-loop-again Inv-loop μ-loop
+loop-again c =
+    let at-loop = c .before .before .before .before .before .before .before .before in
+    record {
+      within = omega arith;
+      same = sym (first-later _ _ _ _ (at-loop .loop .at .0) _ (at-loop .before .before .before .before .before .pre) _ (omega arith) (c .before .object-refusal .ensures) (c .if2 .left))
+          ∙ at-loop .loop .inv .same;
+    }
+
+returns-2 : tie.Need-returns-2 Inv-loop μ-loop
+returns-2 c = first-none _ _ _ _ (c .before .before .loop .at .0) (omega arith) ∙ c .before .before .loop .inv .same
+
+pub first-refused-spec : {M : Type 1} → statement M
+first-refused-spec =
+    tie.close
+    (tie.spec
+    Inv-loop
+    μ-loop
+    loop-holds
+    shared-slice-read-object-refusal
+    mul-object-refusal
+    shared-slice-read-object-refusal-2
+    mul-object-refusal-2
+    shared-slice-read-object-refusal-3
+    mul-object-refusal-3
+    shared-slice-read-object-refusal-4
+    object-refusal-requires
+    returns
+    add-t8
+    loop-less
+    loop-again
+    returns-2)

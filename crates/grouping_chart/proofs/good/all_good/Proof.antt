@@ -1,0 +1,33 @@
+-- The four answers, joined as the definition joins them; the literals are the definition's limits by computation.
+use mathlib.Core.Bool.{_&&_}
+use lib.Ieee.{ofBits, neg}
+use Rattle.grouping_chart.specs.Passes.{allGood}
+use borrow.Author.Needs.{needs}
+use Rattle.grouping_chart.proofs.good.all_good.Statement.{statement}
+use Rattle.grouping_chart.proofs.good.all_good.Tie as tie
+
+kinds-good-requires : tie.Need-kinds-good-requires
+kinds-good-requires c κs = search needs
+
+all-within-requires : tie.Need-all-within-requires
+all-within-requires c κs = search needs
+
+all-within-requires-2 : tie.Need-all-within-requires-2
+all-within-requires-2 c κs = search needs
+
+all-within-requires-3 : tie.Need-all-within-requires-3
+all-within-requires-3 c κs = search needs
+
+returns : tie.Need-returns
+unfolding allGood ofBits neg
+returns c = λ t. c .before .before .before .kinds-good .ensures t && (c .before .before .all-within .ensures t && (c .before .all-within2 .ensures t && c .all-within3 .ensures t))
+
+pub all-good-spec : {M : Type 1} → statement M
+all-good-spec =
+    tie.close
+    (tie.spec
+    kinds-good-requires
+    all-within-requires
+    all-within-requires-2
+    all-within-requires-3
+    returns)

@@ -1,0 +1,49 @@
+-- The invariant: what is found so far, with the test of all values that are left, is the test of all.
+use Prim.Native.Nat.{_-_}
+use lib.ListN.{length}
+use Rattle.grouping_chart.specs.Refusal.{within}
+use Rattle.grouping_chart.proofs.AllLaws.{Tested, tested-none, tested-next, tested-all, within-both}
+use native.Mathlib.Omega.{arith}
+use Rattle.grouping_chart.proofs.good.all_within.Statement.{statement}
+use Rattle.grouping_chart.proofs.good.all_within.Tie as tie
+
+abbrev Inv-loop : tie.InvT-loop
+Inv-loop lo hi values good₀ i₀ good i = Tested (within lo hi) values good i
+
+abbrev μ-loop : tie.MeasureT-loop
+μ-loop lo hi values good₀ i₀ good i = length values - i
+
+loop-holds : tie.Need-loop-holds Inv-loop μ-loop
+loop-holds c = tested-none _ _
+
+mul-x : tie.Need-mul-x Inv-loop μ-loop
+mul-x c = omega arith
+
+shared-slice-read-x : tie.Need-shared-slice-read-x Inv-loop μ-loop
+shared-slice-read-x c = omega arith
+
+add-i : tie.Need-add-i Inv-loop μ-loop
+add-i c = omega arith
+
+loop-less : tie.Need-loop-less Inv-loop μ-loop
+loop-less c = omega arith
+
+loop-again : tie.Need-loop-again Inv-loop μ-loop
+loop-again c = tested-next _ (c .before .before .loop .inv) (omega arith) (within-both _ _ _)
+
+returns : tie.Need-returns Inv-loop μ-loop
+returns c = tested-all (c .before .loop .inv) (omega arith)
+
+pub all-within-spec : {M : Type 1} → statement M
+all-within-spec =
+    tie.close
+    (tie.spec
+    Inv-loop
+    μ-loop
+    loop-holds
+    mul-x
+    shared-slice-read-x
+    add-i
+    loop-less
+    loop-again
+    returns)

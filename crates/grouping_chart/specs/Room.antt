@@ -1,0 +1,15 @@
+-- Document 01, "Refused by number": "3 an answer or work slice too short". An answer slice has a place for each object, and every call on a chart takes
+-- "two work slices: u16 of at least 8n places and f64 of at least n".
+use Prim.Native.Nat.{ℕ, _*_}
+use mathlib.Core.Bool.{Bool, false, _||_, cond}
+use mathlib.Core.List.{List, [], _∷_}
+use lib.Dec.{ltb}
+
+-- whether one of some slices has too few places for n objects, by how many places each has
+unfoldable pub anyShort : ℕ → List ℕ → Bool
+anyShort n [] = false
+anyShort n (l ∷ ls) = ltb l n || anyShort n ls
+
+-- 3, or 0 where no slice is too short; `answers` says that an answer slice is, `work` and `scratch` are how many places the work slices have
+unfoldable pub shortRefusal : Bool → ℕ → ℕ → ℕ → ℕ
+shortRefusal answers n work scratch = cond (answers || (ltb work (8 * n) || ltb scratch n)) 3 0

@@ -1,0 +1,42 @@
+// Whether all of a chart's objects are good, list by list. No loop here jumps by what it reads, so that several values are tested at a time.
+ghost use mathlib.Core.Path.{_≡_};
+ghost use Rattle.grouping_chart.specs.Refusal.{within};
+ghost use Rattle.grouping_chart.specs.Passes.{all, kindGood, allGood};
+
+fn kinds_good(kind: &[u8]) -> bool
+    ensures { λ r. ⌜ r ≡ all kindGood (now (kind .entry)) ⌝ }
+{
+    let mut good = true;
+    let mut i = 0;
+    while i < kind.len() {
+        let here = kind[i] <= 2;
+        good = good & here;
+        i += 1;
+    }
+    good
+}
+
+fn all_within(lo: f64, hi: f64, values: &[f64]) -> bool
+    ensures { λ r. ⌜ r ≡ all (within lo hi) (now (values .entry)) ⌝ }
+{
+    let mut good = true;
+    let mut i = 0;
+    while i < values.len() {
+        let x = values[i];
+        let reached = lo <= x;
+        let kept = x <= hi;
+        good = good & (reached & kept);
+        i += 1;
+    }
+    good
+}
+
+pub fn all_good(kind: &[u8], start: &[f64], delta: &[f64], ratio: &[f64]) -> bool
+    ensures { λ r. ⌜ r ≡ allGood (now (kind .entry)) (now (start .entry)) (now (delta .entry)) (now (ratio .entry)) ⌝ }
+{
+    let kinds = kinds_good(kind);
+    let starts = all_within(-16777216.0, 16777216.0, start);
+    let deltas = all_within(-16777216.0, 16777216.0, delta);
+    let ratios = all_within(0.000000059604644775390625, 16777216.0, ratio);
+    kinds & (starts & (deltas & ratios))
+}
