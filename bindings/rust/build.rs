@@ -7,15 +7,8 @@ use std::process::Command;
 
 const FOLDER_VARIABLE: &str = "DRESSERDUCK_STATICLIB";
 const ARCHIVE: &str = "libdresserduck.a";
-
-fn chosen(folder: PathBuf) -> PathBuf {
-    assert!(
-        folder.join(ARCHIVE).is_file(),
-        "{FOLDER_VARIABLE} is {}, where there is no {ARCHIVE}",
-        folder.display()
-    );
-    folder
-}
+/// What `rt` builds for.
+const ARCHITECTURE: &str = "x86_64";
 
 fn build(root: &Path) {
     let run = Command::new("rt")
@@ -44,13 +37,28 @@ fn found_or_built() -> PathBuf {
     folder
 }
 
+fn check_architecture() {
+    let target = env::var("CARGO_CFG_TARGET_ARCH").unwrap_or_default();
+    assert!(
+        target == ARCHITECTURE,
+        "{ARCHIVE} is for {ARCHITECTURE}, and this build is for {target}"
+    );
+}
+
 fn main() {
     println!("cargo:rerun-if-env-changed={FOLDER_VARIABLE}");
+    check_architecture();
     let folder = match env::var_os(FOLDER_VARIABLE) {
-        Some(folder) => chosen(PathBuf::from(folder)),
+        Some(folder) => PathBuf::from(folder),
         None => found_or_built(),
     };
-    println!("cargo:rerun-if-changed={}", folder.join(ARCHIVE).display());
+    let archive = folder.join(ARCHIVE);
+    assert!(
+        archive.is_file(),
+        "there is no {ARCHIVE} in {}: `rt staticlib dresserduck` writes it to target/staticlib, or {FOLDER_VARIABLE} names its folder",
+        folder.display()
+    );
+    println!("cargo:rerun-if-changed={}", archive.display());
     println!("cargo:rustc-link-search=native={}", folder.display());
     println!("cargo:rustc-link-lib=static=dresserduck");
 }

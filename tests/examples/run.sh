@@ -8,20 +8,23 @@ archive="${DRESSERDUCK_STATICLIB:-$root/target/staticlib}/libdresserduck.a"
 
 made=$(mktemp -d)
 trap 'rm -rf "$made"' EXIT
-gcc -std=c11 -Wall -Wextra -Wpedantic -Werror -I "$root/include" "$root/examples/marks.c" "$archive" -o "$made/marks"
+gcc -std=c99 -Wall -Wextra -Wpedantic -Werror -I "$root/include" "$root/examples/marks.c" "$archive" -o "$made/marks"
 rust() { (cd "$root/bindings/rust" && cargo run --release --offline --quiet --example marks -- "$@"); }
 
 "$made/marks" 2.5 < "$here/chart.txt" | diff "$here/expected.txt" -
 rust 2.5 < "$here/chart.txt" | diff "$here/expected.txt" -
 
-if echo "x 0 100 1" | "$made/marks" 2.5 > "$made/refused"; then
-    echo "the C example took a bad chart" >&2
-    exit 1
-fi
-echo "refused 4 at 0" | diff - "$made/refused"
-if echo "x 0 100 1" | rust 2.5 2> "$made/refused"; then
-    echo "the Rust example took a bad chart" >&2
-    exit 1
-fi
-grep -q "Object 0 of the chart is of an unknown kind." "$made/refused"
+# refused CHART C_TEXT RUST_TEXT: neither takes the chart, and each says so
+refused() {
+    if printf %b "$1" | "$made/marks" 2.5 > "$made/c" 2>&1 || printf %b "$1" | rust 2.5 > "$made/rust" 2>&1; then
+        echo "an example took a bad chart" >&2
+        exit 1
+    fi
+    grep -qF "$2" "$made/c"
+    grep -qF "$3" "$made/rust"
+}
+refused 'x 0 100 1\n' "refused 4 at 0" "Object 0 of the chart, counted from 0, is neither a Center, a Rim nor a NonHit."
+refused 'd 0 100 1\nk 100 nan 1\n' "refused 6 at 1" "Object 1 of the chart, counted from 0, has a delta"
+refused 'd 0 100 1\nk 100\n' "an object is no letter and three numbers" "object 1 is no letter and three numbers"
+refused "$(yes 'd 0 100 1' | head -n 16385)" "refused 1 at 0" "The chart has more than 16,384 objects."
 echo "examples: ok"

@@ -6,7 +6,7 @@ use std::env;
 use std::error::Error;
 use std::io;
 
-use dresserduck::{Chart, Refusal, Workspace};
+use dresserduck::{Chart, Refusal, Workspace, CENTER, NON_HIT, RIM};
 
 #[derive(Default)]
 struct Lists {
@@ -19,25 +19,35 @@ struct Lists {
 /// A letter that is no kind becomes one that the library refuses.
 fn kind_of(letter: &str) -> u8 {
     match letter {
-        "d" => 0,
-        "k" => 1,
-        "n" => 2,
-        _ => 255,
+        "d" => CENTER,
+        "k" => RIM,
+        "n" => NON_HIT,
+        _ => u8::MAX,
     }
+}
+
+/// Kind, start, delta and ratio of a line; none if it is not a letter and three numbers.
+fn object_of(line: &str) -> Option<(u8, [f64; 3])> {
+    let mut words = line.split_whitespace();
+    let kind = kind_of(words.next()?);
+    let mut number = || words.next()?.parse().ok();
+    let numbers = [number()?, number()?, number()?];
+    words.next().is_none().then_some((kind, numbers))
 }
 
 fn read_chart() -> Result<Lists, Box<dyn Error>> {
     let mut lists = Lists::default();
     for line in io::stdin().lines() {
         let line = line?;
-        let words: Vec<&str> = line.split_whitespace().collect();
-        let [letter, start, delta, ratio] = words[..] else {
-            return Err(format!("{line:?} is no object").into());
-        };
-        lists.kind.push(kind_of(letter));
-        lists.start.push(start.parse()?);
-        lists.delta.push(delta.parse()?);
-        lists.ratio.push(ratio.parse()?);
+        let object = object_of(&line);
+        let (kind, [start, delta, ratio]) = object.ok_or_else(|| {
+            let place = lists.kind.len();
+            format!("object {place} is no letter and three numbers")
+        })?;
+        lists.kind.push(kind);
+        lists.start.push(start);
+        lists.delta.push(delta);
+        lists.ratio.push(ratio);
     }
     Ok(lists)
 }
@@ -57,8 +67,9 @@ fn print_marks(chart: &Chart, limit: f64) -> Result<(), Refusal> {
 }
 
 fn main() -> Result<(), Box<dyn Error>> {
-    let limit = env::args().nth(1).ok_or("usage: marks LIMIT < chart")?;
+    let limit = env::args().nth(1).and_then(|word| word.parse().ok());
+    let limit = limit.ok_or("usage: marks LIMIT < chart")?;
     let lists = read_chart()?;
     let chart = Chart::new(&lists.kind, &lists.start, &lists.delta, &lists.ratio);
-    print_marks(&chart, limit.parse()?).map_err(|refusal| refusal.to_string().into())
+    print_marks(&chart, limit).map_err(|refusal| refusal.to_string().into())
 }

@@ -3,12 +3,13 @@
 //!
 //! A [`Chart`] borrows four slices. A [`Workspace`] has the memory that the calls work in; it grows as needed and can be
 //! used again and again. Every call answers every chart: with its result, or with the first [`Refusal`] that applies.
+//! A host that lends memory of its own finds the same calls in [`calls`].
 //!
 //! ```
-//! use dresserduck::{Chart, Workspace};
+//! use dresserduck::{Chart, Workspace, CENTER, RIM};
 //!
 //! // d kk dd k, an eighth apart
-//! let kind = [0, 1, 1, 0, 0, 1];
+//! let kind = [CENTER, RIM, RIM, CENTER, CENTER, RIM];
 //! let start = [0.0, 125.0, 250.0, 375.0, 500.0, 625.0];
 //! let chart = Chart::new(&kind, &start, &[125.0; 6], &[1.0; 6]);
 //!
@@ -18,17 +19,17 @@
 //! assert_eq!(encoding.interval, [17, 17, 17, 17, 17, 2]);
 //!
 //! let stretch = workspace.stretch(&chart, 1..5)?;
-//! println!("the middle has a mean of {} tenths", stretch.tenths);
+//! assert_eq!(stretch.tenths, 13);
 //! # Ok::<(), dresserduck::Refusal>(())
 //! ```
 
+pub mod calls;
 mod chart;
-mod ffi;
 mod refusal;
 mod result;
 mod workspace;
 
-pub use chart::{Chart, LARGEST_CHART};
+pub use chart::{Chart, CENTER, LARGEST_CHART, NON_HIT, RIM};
 pub use refusal::Refusal;
-pub use result::{Encoding, GroupRecord, Rhythm, Stretch};
+pub use result::{Encoding, GroupRecord, Rhythm, Stretch, NO_GROUP};
 pub use workspace::Workspace;

@@ -1,10 +1,19 @@
-//! Why a call was refused.
+//! Why a call was refused: by its number, its object, and a sentence.
 
 use std::error::Error;
 use std::fmt;
 
 /// The first refusal that applies. The first three are the host programmer's, the next four the chart writer's, the last
 /// two the player's settings'.
+///
+/// ```
+/// use dresserduck::{Chart, Workspace};
+///
+/// let chart = Chart::new(&[0], &[0.0], &[f64::NAN], &[1.0]);
+/// let refusal = Workspace::new().encode(&chart).unwrap_err();
+/// assert_eq!((refusal.number(), refusal.object()), (6, Some(0)));
+/// println!("{refusal}");
+/// ```
 #[derive(Clone, Copy, Debug, PartialEq, Eq, Hash)]
 #[non_exhaustive]
 pub enum Refusal {
@@ -55,7 +64,7 @@ impl Refusal {
         }
     }
 
-    /// The refusal with this number, none for 0.
+    /// The refusal with this number and place; none for 0.
     pub(crate) fn of(number: u64, place: u64) -> Option<Self> {
         let object = place as usize;
         match number {
@@ -74,43 +83,35 @@ impl Refusal {
     }
 }
 
+/// A sentence for whoever looks into it: it names the chart, the program or the settings, whichever is at fault.
 impl fmt::Display for Refusal {
     fn fmt(&self, out: &mut fmt::Formatter<'_>) -> fmt::Result {
-        match self {
-            Refusal::TooManyObjects => {
-                write!(out, "The chart has more than 16,384 objects.")
-            }
-            Refusal::LengthsDiffer => write!(
-                out,
-                "The program gave a kind, a start, a delta or a ratio for some objects only."
-            ),
-            Refusal::SliceTooShort => {
-                write!(out, "The program gave too little memory for this chart.")
-            }
-            Refusal::BadKind { object } => {
-                write!(out, "Object {object} of the chart is of an unknown kind.")
-            }
-            Refusal::BadStart { object } => write!(
-                out,
-                "Object {object} of the chart starts too far from the chart's zero, or at no time at all."
-            ),
-            Refusal::BadDelta { object } => write!(
-                out,
-                "Object {object} of the chart is too far from the one before, or at no distance at all."
-            ),
-            Refusal::BadRatio { object } => write!(
-                out,
-                "Object {object} of the chart has a rhythm ratio that is too small, too large, or none."
-            ),
-            Refusal::BadWindow => write!(
-                out,
-                "The hit window in the settings is not from 1 to 1,000 milliseconds."
-            ),
-            Refusal::OutsideChart => write!(
-                out,
-                "The passage or rhythm group that was asked for is not in the chart."
-            ),
+        if let Some(object) = self.object() {
+            write!(out, "Object {object} of the chart, counted from 0, ")?;
         }
+        out.write_str(match self {
+            Refusal::TooManyObjects => "The chart has more than 16,384 objects.",
+            Refusal::LengthsDiffer => {
+                "The program gave a kind, a start, a delta or a ratio for some objects only."
+            }
+            Refusal::SliceTooShort => "The program gave too little memory for this chart.",
+            Refusal::BadKind { .. } => "is neither a Center, a Rim nor a NonHit.",
+            Refusal::BadStart { .. } => {
+                "has a start that is not from -16,777,216 to 16,777,216 milliseconds."
+            }
+            Refusal::BadDelta { .. } => {
+                "has a delta, the time since the object before, that is not from -16,777,216 to 16,777,216 milliseconds."
+            }
+            Refusal::BadRatio { .. } => {
+                "has a rhythm ratio that is not from 1/16,777,216 to 16,777,216."
+            }
+            Refusal::BadWindow => {
+                "The hit window in the settings is not from 1 to 1,000 milliseconds."
+            }
+            Refusal::OutsideChart => {
+                "The passage or rhythm group that was asked for is not in the chart."
+            }
+        })
     }
 }
 

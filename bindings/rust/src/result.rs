@@ -62,7 +62,8 @@ pub struct Rhythm {
     pub(crate) pattern_group: Vec<u16>,
 }
 
-const NO_GROUP: u16 = 65_535;
+/// The number that stands for the group of a NonHit, which has none.
+pub const NO_GROUP: u16 = 65_535;
 
 fn number_at(numbers: &[u16], object: usize) -> Option<usize> {
     let number = *numbers.get(object)?;
@@ -92,12 +93,12 @@ pub struct GroupRecord {
     pub own_interval: Option<f64>,
     /// own interval over that of the group before; 1.0 where either is absent. Two zeros give a NaN.
     pub ratio: f64,
-    /// from the start of the group before; infinity for the first group
+    /// from the start of the group before; 0.0 within 5 ms, infinity for the first group
     pub interval: f64,
-    /// for an interval that was there a few groups before
+    /// a factor: smaller where an own interval came a few groups before, and for a long group; finite
     pub penalty: f64,
     /// the number of its pattern group
     pub pattern_group: usize,
-    /// that one's interval over that of the pattern group before; 1.0 for the first
+    /// that one's interval over that of the pattern group before; 1.0 for the first. Two zeros give a NaN.
     pub pattern_ratio: f64,
 }

@@ -2,34 +2,26 @@
 
 use std::ops::Range;
 
+use crate::calls;
 use crate::chart::{Chart, LARGEST_CHART};
-use crate::ffi;
 use crate::refusal::Refusal;
 use crate::result::{Encoding, GroupRecord, Rhythm, Stretch};
 
-/// Calls an export on a chart, with the arguments that follow it and the slices that are lent.
-// SAFETY: each pointer and count is that of one slice, so it is aligned, not null and valid for its count; the lent slices
-// are borrowed mutably and so lie apart from all others. The library reads and writes inside its slices only, which is proved.
-macro_rules! call {
-    ($name:ident($chart:expr $(, $argument:expr)*) => $($slice:expr),*) => {
-        unsafe {
-            ffi::$name(
-                $chart.kind.as_ptr(),
-                $chart.kind.len(),
-                $chart.start.as_ptr(),
-                $chart.start.len(),
-                $chart.delta.as_ptr(),
-                $chart.delta.len(),
-                $chart.ratio.as_ptr(),
-                $chart.ratio.len(),
-                $($argument,)*
-                $($slice.as_mut_ptr(), $slice.len()),*
-            )
-        }
-    };
-}
-
-/// The two work slices. They grow to the largest chart that was asked about, and are kept for the next call.
+/// The two work slices, and room for the colour values of a stretch. They grow to the largest chart that was asked
+/// about, and are kept for the next call.
+///
+/// ```
+/// use dresserduck::{Chart, Refusal, Workspace};
+///
+/// let mut workspace = Workspace::new();
+/// let mut values = Vec::new(); // its memory too is used again
+/// for kind in [&[0, 1][..], &[1; 300], &[]] {
+///     let (times, ratio) = (vec![125.0; kind.len()], vec![1.0; kind.len()]);
+///     workspace.colour_into(&Chart::new(kind, &times, &times, &ratio), &mut values)?;
+///     assert_eq!(values.len(), kind.len());
+/// }
+/// # Ok::<(), Refusal>(())
+/// ```
 #[derive(Clone, Debug, Default)]
 pub struct Workspace {
     work: Vec<u16>,
@@ -84,8 +76,17 @@ impl Workspace {
             room(numbers, n);
         }
         room(&mut out.interval, n);
-        let answer = call!(dresserduck_encode(chart) => out.streak, out.streak_place, out.pattern, out.pattern_place,
-            out.hit, out.interval, self.work, self.scratch);
+        let answer = calls::encode(
+            chart,
+            &mut out.streak,
+            &mut out.streak_place,
+            &mut out.pattern,
+            &mut out.pattern_place,
+            &mut out.hit,
+            &mut out.interval,
+            &mut self.work,
+            &mut self.scratch,
+        );
         accepted(answer.refusal, answer.place)?;
         out.hit_patterns = answer.hit_patterns as usize;
         Ok(())
@@ -102,7 +103,7 @@ impl Workspace {
     pub fn colour_into(&mut self, chart: &Chart, values: &mut Vec<f64>) -> Result<(), Refusal> {
         self.grow(chart.len());
         room(values, chart.len());
-        let answer = call!(dresserduck_colour(chart) => values, self.work, self.scratch);
+        let answer = calls::colour(chart, values, &mut self.work, &mut self.scratch);
         accepted(answer.refusal, answer.place)
     }
 
@@ -122,8 +123,14 @@ impl Workspace {
         self.grow(chart.len());
         room(&mut self.values, chart.len());
         let Range { start, end } = objects;
-        let answer =
-            call!(dresserduck_stretch(chart, start, end) => self.values, self.work, self.scratch);
+        let answer = calls::stretch(
+            chart,
+            start,
+            end,
+            &mut self.values,
+            &mut self.work,
+            &mut self.scratch,
+        );
         accepted(answer.refusal, answer.place)?;
         Ok(Stretch {
             mean: answer.mean,
@@ -155,7 +162,13 @@ impl Workspace {
         self.grow(chart.len());
         room(&mut out.group, chart.len());
         room(&mut out.pattern_group, chart.len());
-        let answer = call!(dresserduck_rhythm(chart) => out.group, out.pattern_group, self.work, self.scratch);
+        let answer = calls::rhythm(
+            chart,
+            &mut out.group,
+            &mut out.pattern_group,
+            &mut self.work,
+            &mut self.scratch,
+        );
         accepted(answer.refusal, answer.place)?;
         out.groups = answer.groups as usize;
         out.pattern_groups = answer.pattern_groups as usize;
@@ -180,7 +193,7 @@ impl Workspace {
         window: f64,
     ) -> Result<GroupRecord, Refusal> {
         self.grow(chart.len());
-        let answer = call!(dresserduck_record(chart, group, window) => self.work, self.scratch);
+        let answer = calls::record(chart, group, window, &mut self.work, &mut self.scratch);
         accepted(answer.refusal, answer.place)?;
         Ok(GroupRecord {
             first_note: answer.first_note as usize,
