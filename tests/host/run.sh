@@ -1,5 +1,5 @@
 #!/usr/bin/env bash
-# Compiles and runs the C programs as C11 and as C++ against libdresserduck.a, then runs the Rust tests.
+# Compiles and runs the C programs as C99 and as C++17 against libdresserduck.a, then runs the Rust tests.
 # The archive is that of `rt staticlib dresserduck`, or the one in the folder DRESSERDUCK_STATICLIB.
 set -eu
 root=$(cd "$(dirname "$0")/../.." && pwd)
@@ -26,10 +26,10 @@ else
 fi
 
 for program in "$root"/tests/host/c/*.c; do
-    gcc -std=c11 "${strict[@]}" "$program" "$archive" -o "$made/as_c"
+    gcc -std=c99 "${strict[@]}" "$program" "$archive" -o "$made/as_c"
     "${watched[@]}" "$made/as_c"
     if command -v g++ > /dev/null; then
-        g++ -std=c++17 "${strict[@]}" -x c++ "$program" -x none "$archive" -o "$made/as_cpp"
+        g++ -std=c++17 "${strict[@]}" -O2 -DNDEBUG -x c++ "$program" -x none "$archive" -o "$made/as_cpp"
         "$made/as_cpp"
     else
         echo "no g++ here: the header is not tried as C++"

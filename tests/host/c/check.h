@@ -1,4 +1,4 @@
-/* What the C programs share: facts that are checked, sentinels, and the answer of `main`. */
+/* What the C programs share: facts that are checked, and the answer of `main`. */
 #include <stdio.h>
 #include <string.h>
 
@@ -12,15 +12,6 @@ static inline void check(int holds, const char *fact, const char *file, int line
         printf("%s:%d: %s\n", file, line, fact);
         failures += 1;
     }
-}
-
-/* Whether every byte is 0xA5. */
-static inline int all_sentinels(const void *memory, size_t bytes)
-{
-    const unsigned char *at = (const unsigned char *)memory;
-    size_t i;
-    for (i = 0; i < bytes && at[i] == 0xA5; i++) {}
-    return i == bytes;
 }
 
 static inline int finish(void)

@@ -1,0 +1,72 @@
+/* colour and stretch from C and from C++: values by document 01's formulas, a mean below zero, and its tenths.
+ * Prints `ok`, or each line that fails. */
+#include "dresserduck.h"
+
+#define N 3
+#include "lent.h"
+
+/* Start, delta and ratio are lent in this order, and the ratio alone tells: 4.0 makes the last object's penalty 1.0 - 4.0 / 2.0 * 0.8. */
+static const uint8_t kind[N] = {DRESSERDUCK_CENTER, DRESSERDUCK_CENTER, DRESSERDUCK_RIM};
+static const double start[N] = {0.0, 100.0, 200.0};
+static const double delta[N] = {100.0, 100.0, 100.0};
+static const double ratio[N] = {4.0, 1.0, 4.0};
+
+/* of an object that opens all three groups, by T(0) and T(17) */
+static double opening_value(void)
+{
+    double t0 = dresserduck_double(0x3FEFDC7BB58F155Bu), t17 = dresserduck_double(0x3C4210F50A27FC81u);
+    double hit = 2.0 * (1.0 - t17), alt = t0 * hit, mono = t0 * alt * 0.5;
+    return mono + alt + hit;
+}
+
+static void check_values(void)
+{
+    double value = opening_value();
+    double want[N] = {0.0, 0.0, 0.0};
+    want[0] = value;
+    want[2] = value * (1.0 - 4.0 / 2.0 * 0.8);
+    CHECK(FILLED(lent.value, want));
+    CHECK(cleared());
+}
+
+static void coloured(void)
+{
+    lend();
+    dresserduck_coloured got =
+        dresserduck_colour(kind, N, start, N, delta, N, ratio, N, lent.value, PLACES, lent.work, WORK_PLACES, lent.scratch, PLACES);
+    CHECK(got.refusal == DRESSERDUCK_ACCEPTED && got.place == 0);
+    check_values();
+}
+
+static dresserduck_stretched stretch(size_t a, size_t b)
+{
+    lend();
+    return dresserduck_stretch(
+        kind, N, start, N, delta, N, ratio, N, a, b, lent.value, PLACES, lent.work, WORK_PLACES, lent.scratch, PLACES);
+}
+
+static void stretched(void)
+{
+    dresserduck_stretched got = stretch(1, 3);
+    CHECK(got.refusal == DRESSERDUCK_ACCEPTED && got.place == 0);
+    CHECK(got.mean == opening_value() * (1.0 - 4.0 / 2.0 * 0.8) / 2.0);
+    CHECK(got.mean > -1.5 && got.mean < -1.4 && got.tenths == -15);
+    check_values();
+    got = stretch(0, 1);
+    CHECK(got.mean == opening_value() && got.tenths == 49);
+}
+
+static void refused(void)
+{
+    dresserduck_stretched got = stretch(0, 4);
+    CHECK(got.refusal == DRESSERDUCK_BAD_STRETCH && got.place == 0 && got.mean == 0.0 && got.tenths == 0);
+    CHECK(untouched());
+}
+
+int main(void)
+{
+    coloured();
+    stretched();
+    refused();
+    return finish();
+}
