@@ -62,6 +62,11 @@ impl Chart {
         Self::of_kinds((0..n).map(|i| [0, 1, 1, 0, 0, 2, 1][i % 7]).collect())
     }
 
+    /// As the calls take it.
+    pub fn lent(&self) -> dresserduck::Chart<'_> {
+        dresserduck::Chart::new(&self.kind, &self.start, &self.delta, &self.ratio)
+    }
+
     /// How many objects, counted on the kinds.
     pub fn size(&self) -> usize {
         self.kind.len()

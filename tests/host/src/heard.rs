@@ -48,7 +48,7 @@ pub fn heard(chart: &Chart, tail: usize) -> Heard {
             .map(|i| members[usize::from(hit[i])].clone())
             .collect(),
         interval: lent.interval.lent()[before..].to_vec(),
-        value: coloured.value[before..]
+        value: coloured.value.lent()[before..]
             .iter()
             .map(|x| x.to_bits())
             .collect(),

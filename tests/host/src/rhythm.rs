@@ -1,125 +1,62 @@
 //! The calls rhythm and record over a chart and lent memory.
 
 use crate::chart::Chart;
+use crate::lent::{Room, Work};
+use dresserduck::calls;
 
-#[repr(C)]
-#[derive(Clone, Copy, Debug, PartialEq, Eq)]
-pub struct Grouped {
-    pub refusal: u64,
-    pub place: u64,
-    pub groups: u64,
-    pub pattern_groups: u64,
-}
+pub use dresserduck::calls::{Grouped, Recorded};
 
-/// Floats as their bits.
-#[repr(C)]
-#[derive(Clone, Copy, Debug, Default, PartialEq, Eq)]
-pub struct Recorded {
-    pub refusal: u64,
-    pub place: u64,
-    pub first_note: u64,
-    pub note_count: u64,
-    pub has_own: u64,
-    pub own_bits: u64,
-    pub ratio_bits: u64,
-    pub interval_bits: u64,
-    pub penalty_bits: u64,
-    pub pattern_group: u64,
-    pub pattern_ratio_bits: u64,
-}
-
-// As in include/dresserduck.h.
-mod host {
-    extern "C" {
-        pub fn dresserduck_rhythm(
-            kind: *const u8,
-            kind_count: usize,
-            start: *const f64,
-            start_count: usize,
-            delta: *const f64,
-            delta_count: usize,
-            ratio: *const f64,
-            ratio_count: usize,
-            group: *mut u16,
-            group_count: usize,
-            pattern: *mut u16,
-            pattern_count: usize,
-            work: *mut u16,
-            work_count: usize,
-            scratch: *mut f64,
-            scratch_count: usize,
-        ) -> super::Grouped;
-        pub fn dresserduck_record(
-            kind: *const u8,
-            kind_count: usize,
-            start: *const f64,
-            start_count: usize,
-            delta: *const f64,
-            delta_count: usize,
-            ratio: *const f64,
-            ratio_count: usize,
-            group: usize,
-            window: f64,
-            work: *mut u16,
-            work_count: usize,
-            scratch: *mut f64,
-            scratch_count: usize,
-        ) -> super::Recorded;
-    }
-}
-
-/// The slices that are lent to be written, with a sentinel in every place. The last two are what record is lent.
-#[derive(Clone, Debug)]
+/// The four slices that are lent; record is lent the last two.
+#[derive(Clone)]
 pub struct Memory {
-    pub group: Vec<u16>,
-    pub pattern: Vec<u16>,
-    pub work: Vec<u16>,
-    pub scratch: Vec<f64>,
+    pub group: Room<u16>,
+    pub pattern: Room<u16>,
+    working: Work,
 }
-
-pub const NUMBER_SENTINEL: u16 = 0xABCD;
-pub const SCRATCH_SENTINEL: f64 = 3.5;
 
 impl Memory {
-    /// Slices of these counts.
+    /// Slices of these counts: groups, pattern groups, work, scratch.
     pub fn of_sizes([group, pattern, work, scratch]: [usize; 4]) -> Self {
         Memory {
-            group: vec![NUMBER_SENTINEL; group],
-            pattern: vec![NUMBER_SENTINEL; pattern],
-            work: vec![NUMBER_SENTINEL; work],
-            scratch: vec![SCRATCH_SENTINEL; scratch],
+            group: Room::new(0, group, 0),
+            pattern: Room::new(1, pattern, 0),
+            working: Work::new([work, scratch], 0),
         }
     }
 
-    /// What every place holds, f64s by their bits.
-    pub fn bits(&self) -> ([Vec<u16>; 3], Vec<u64>) {
-        let scratch = self.scratch.iter().map(|x| x.to_bits()).collect();
-        let numbers = [&self.group, &self.pattern, &self.work];
-        (numbers.map(Vec::clone), scratch)
+    /// What every place holds.
+    pub fn bits(&self) -> [Vec<u64>; 4] {
+        let [work, scratch] = self.working.bits();
+        [self.group.bits(), self.pattern.bits(), work, scratch]
     }
 
-    /// With the work slices as an accepted call on n objects leaves them.
+    /// The memory after an accepted call of record on n objects.
     pub fn cleared(&self, n: usize) -> Self {
         let mut after = self.clone();
-        after.work[..8 * n].fill(0);
-        after.scratch[..n].fill(0.0);
+        after.working.clear(n);
         after
     }
 
     /// The memory after an accepted call of rhythm.
     pub fn filled(&self, group: &[u16], pattern: &[u16]) -> Self {
-        let n = group.len();
-        let mut after = self.cleared(n);
-        after.group[..n].copy_from_slice(group);
-        after.pattern[..n].copy_from_slice(pattern);
+        let mut after = self.cleared(group.len());
+        after.group.put(group);
+        after.pattern.put(pattern);
         after
     }
 }
 
 pub fn rhythm(chart: &Chart, memory: &mut Memory) -> Grouped {
-    call!(dresserduck_rhythm(chart) => memory.group, memory.pattern, memory.work, memory.scratch)
+    calls::rhythm(
+        &chart.lent(),
+        memory.group.lend(),
+        memory.pattern.lend(),
+        memory.working.work.lend(),
+        memory.working.scratch.lend(),
+    )
 }
 
 pub fn record(chart: &Chart, group: usize, window: f64, memory: &mut Memory) -> Recorded {
-    call!(dresserduck_record(chart, group, window) => memory.work, memory.scratch)
+    let Work { work, scratch } = &mut memory.working;
+    calls::record(&chart.lent(), group, window, work.lend(), scratch.lend())
 }

@@ -1,44 +1,8 @@
-//! Charts to try, from a generator that repeats itself from run to run.
+//! Charts to try, drawn from a seed.
 
 use crate::chart::Chart;
 
-/// Marsaglia's xorshift with 64 bits and the shifts 13, 7, 17.
-pub struct Xorshift(u64);
-
-impl Xorshift {
-    /// A generator; different seeds other than 0 give different values.
-    pub fn new(seed: u64) -> Self {
-        assert!(seed != 0, "xorshift never leaves the seed 0");
-        Xorshift(seed)
-    }
-
-    fn bits(&mut self) -> u64 {
-        self.0 ^= self.0 << 13;
-        self.0 ^= self.0 >> 7;
-        self.0 ^= self.0 << 17;
-        self.0
-    }
-
-    /// A whole number from 0 to limit - 1.
-    pub fn below(&mut self, limit: usize) -> usize {
-        ((self.bits() >> 11) % limit as u64) as usize
-    }
-
-    /// A whole number from least to most.
-    pub fn between(&mut self, least: usize, most: usize) -> usize {
-        least + self.below(most - least + 1)
-    }
-
-    /// Whether a thing happens that does so once in `times`.
-    pub fn once_in(&mut self, times: usize) -> bool {
-        self.below(times) == 0
-    }
-
-    /// One of the choices.
-    pub fn pick<T: Copy>(&mut self, choices: &[T]) -> T {
-        choices[self.below(choices.len())]
-    }
-}
+pub use crate::xorshift::Xorshift;
 
 /// Notes that change colour from streak to streak, with NonHits at the seams now and then.
 struct Writer<'a> {
@@ -149,8 +113,7 @@ pub fn ratios(random: &mut Xorshift, n: usize) -> Vec<f64> {
         2f64.powi(-24),
         2f64.powi(24),
     ];
-    let pick = |random: &mut Xorshift| common[random.below(common.len())];
-    (0..n).map(|_| pick(random)).collect()
+    (0..n).map(|_| random.pick(&common)).collect()
 }
 
 /// Deltas around the margin, about zero, or off a beat.

@@ -1,7 +1,8 @@
 //! colour and stretch over the static library: document 01's example, a plain reimplementation, memory, and refusals 1 to 9.
 
 use host_tests::chart::Chart;
-use host_tests::colour::{colour, plain_tenths, plain_values, stretch, Coloured, Memory};
+use host_tests::colour::{colour, stretch, Coloured, Memory};
+use host_tests::plain_colour;
 use host_tests::samples::{biased_chart, ratios, Xorshift};
 
 /// The table T by the definition's own list of bit patterns.
@@ -34,12 +35,12 @@ const DONE: Coloured = Coloured {
 fn one_object_has_the_value_of_document_01() {
     let mut memory = exact(1);
     assert_eq!(colour(&Chart::of_text("d"), &mut memory), DONE);
-    assert_eq!(memory.value[0].to_bits(), 0x4013_ee42_c838_4268);
+    assert_eq!(memory.value.lent()[0].to_bits(), 0x4013_ee42_c838_4268);
 }
 
 #[track_caller]
 fn check_values(chart: &Chart, table: &dyn Fn(usize) -> f64) -> Vec<f64> {
-    let values = plain_values(chart, table);
+    let values = plain_colour::values(chart, table);
     let n = values.len();
     for lent in [exact(n), roomy(n)] {
         let mut memory = lent.clone();
@@ -68,13 +69,17 @@ fn values_and_stretches_follow_document_01() {
         } else {
             a + 1 + rng.below(n - a)
         };
-        let mean = values[a..b].iter().fold(0.0, |sum, x| sum + x) / (b - a) as f64;
+        let mean = plain_colour::mean(&values[a..b]);
         let lent = roomy(n);
         let mut memory = lent.clone();
         let got = stretch(&chart, a, b, &mut memory);
         assert_eq!((got.refusal, got.place), (0, 0), "{a}..{b} of {chart}");
         assert_eq!(got.mean.to_bits(), mean.to_bits(), "{a}..{b} of {chart}");
-        assert_eq!(got.tenths, plain_tenths(mean), "{a}..{b} of {chart}");
+        assert_eq!(
+            got.tenths,
+            plain_colour::tenths(mean),
+            "{a}..{b} of {chart}"
+        );
         assert_eq!(memory.bits(), lent.filled(&values).bits(), "{chart}");
         stretches += 1;
         negative += usize::from(mean < 0.0);

@@ -68,7 +68,7 @@ fn groups_of_document_01s_examples() {
     for (deltas, want) in cases {
         let mut memory = exact(deltas.len());
         rhythm(&notes(deltas), &mut memory);
-        assert_eq!(memory.group, want, "{deltas:?}");
+        assert_eq!(memory.group.lent(), want, "{deltas:?}");
     }
 }
 
@@ -130,8 +130,8 @@ fn a_chart_without_notes_has_no_groups() {
     let mut memory = exact(2);
     let got = rhythm(&chart, &mut memory);
     assert_eq!((got.refusal, got.groups, got.pattern_groups), (0, 0, 0));
-    assert_eq!(memory.group, [NO_GROUP; 2]);
-    assert_eq!(memory.pattern, [NO_GROUP; 2]);
+    assert_eq!(memory.group.lent(), [NO_GROUP; 2]);
+    assert_eq!(memory.pattern.lent(), [NO_GROUP; 2]);
     let empty = Chart::of_text("");
     assert_eq!(rhythm(&empty, &mut exact(0)).refusal, 0);
     refused(&chart, Some((0, 50.0)), roomy(2), 9, 0);

@@ -36,7 +36,7 @@ fn groups_from(pair: &Pair, chart: usize, from: usize) -> Vec<Vec<usize>> {
     let got = rhythm(chart, &mut memory);
     assert_eq!((got.refusal, got.place), (0, 0), "{chart}");
     let members = |number: u64| {
-        let of = |&i: &usize| u64::from(memory.group[i]) == number;
+        let of = |&i: &usize| u64::from(memory.group.lent()[i]) == number;
         (0..n).filter(of).collect::<Vec<usize>>()
     };
     let late = (0..got.groups)

@@ -158,7 +158,7 @@ fn no_objects() {
             got,
             want,
             "no objects, {} streak places",
-            lent.numbers[0].count()
+            lent.numbers[0].lent().len()
         );
         let faults = lent.differences(&before);
         assert!(faults.is_empty(), "no objects wrote {faults:?}");

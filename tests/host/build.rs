@@ -1,7 +1,0 @@
-//! Links libdresserduck.a.
-
-include!("../archive.rs");
-
-fn main() {
-    link("dresserduck");
-}

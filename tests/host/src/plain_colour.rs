@@ -1,0 +1,60 @@
+//! Document 01's words for colour and stretch. It knows nothing of the library.
+
+use crate::chart::Chart;
+use crate::plain;
+
+fn penalty(idx: usize, ratio: &[f64]) -> f64 {
+    if idx < 2 {
+        return 1.0;
+    }
+    let (c, p) = (ratio[idx], ratio[idx - 2]);
+    if (1.0 - c / p).abs() <= 0.01 {
+        return 1.0 - c / 2.0 * 0.8;
+    }
+    if idx < 4 {
+        return 1.0;
+    }
+    1.0 - p / 2.0 * 0.8
+}
+
+/// The colour values, with `table` for T.
+pub fn values(chart: &Chart, table: &dyn Fn(usize) -> f64) -> Vec<f64> {
+    let answers = plain::encode(&chart.kind);
+    let [streak, streak_place, pattern, pattern_place, hit] = &answers.numbers;
+    let first = |numbers: &[u16], i: usize| i == 0 || numbers[i] != numbers[i - 1];
+    let value = |i: usize| {
+        let whole = 2.0 * (1.0 - table(usize::from(answers.interval[i])));
+        let alt = table(usize::from(pattern_place[i])) * whole;
+        let mono = table(usize::from(streak_place[i])) * alt * 0.5;
+        let mut sum = 0.0;
+        for (is_first, part) in [
+            (first(streak, i), mono),
+            (first(pattern, i), alt),
+            (first(hit, i), whole),
+        ] {
+            if is_first {
+                sum += part;
+            }
+        }
+        sum * penalty(i, &chart.ratio)
+    };
+    (0..chart.kind.len()).map(value).collect()
+}
+
+/// The mean of some values, summed from left to right.
+pub fn mean(values: &[f64]) -> f64 {
+    values.iter().fold(0.0, |sum, x| sum + x) / values.len() as f64
+}
+
+/// The largest whole number not above ten times x, by 128-bit integers.
+pub fn tenths(x: f64) -> i64 {
+    let bits = x.to_bits();
+    let (field, rest) = ((bits >> 52) & 2047, (bits & ((1 << 52) - 1)) as i128);
+    let (digits, shift) = match field {
+        0 => (rest, 1074),
+        _ => (rest | 1 << 52, 1075 - field),
+    };
+    let ten = if x < 0.0 { -10 * digits } else { 10 * digits };
+    // ten times the digits is below 2^57, so from 120 on only the sign is left
+    (ten >> shift.min(120)) as i64
+}
