@@ -2,6 +2,8 @@
 
 pub mod plain;
 pub mod samples;
+#[path = "../../xorshift.rs"]
+mod xorshift;
 
 /// The most values that may be grouped.
 pub const MOST_VALUES: usize = 16_384;

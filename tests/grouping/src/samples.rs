@@ -1,32 +1,6 @@
-//! Lists of values around a margin, from a generator that repeats itself from run to run.
+//! Lists of values around a margin, drawn from a seed.
 
-/// Marsaglia's xorshift with 64 bits and the shifts 13, 7, 17.
-pub struct Xorshift(u64);
-
-impl Xorshift {
-    /// A generator; different seeds other than 0 give different values.
-    pub fn new(seed: u64) -> Self {
-        assert!(seed != 0, "xorshift never leaves the seed 0");
-        Xorshift(seed)
-    }
-
-    fn bits(&mut self) -> u64 {
-        self.0 ^= self.0 << 13;
-        self.0 ^= self.0 >> 7;
-        self.0 ^= self.0 << 17;
-        self.0
-    }
-
-    /// A whole number from 0 to limit - 1.
-    pub fn below(&mut self, limit: usize) -> usize {
-        ((self.bits() >> 11) % limit as u64) as usize
-    }
-
-    /// One of the choices.
-    pub fn pick(&mut self, choices: &[f64]) -> f64 {
-        choices[self.below(choices.len())]
-    }
-}
+pub use crate::xorshift::Xorshift;
 
 /// The value as it is or with its sign turned.
 fn turned(random: &mut Xorshift, x: f64) -> f64 {

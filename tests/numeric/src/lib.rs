@@ -1,6 +1,8 @@
 //! The exports of libnumeric_host.a as safe functions, and the values that the tests try.
 
 pub mod samples;
+#[path = "../../xorshift.rs"]
+mod xorshift;
 
 /// 2^53: below it in size, `tenths` may be called.
 pub const TENTHS_LIMIT: f64 = 9_007_199_254_740_992.0;

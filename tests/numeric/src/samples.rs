@@ -1,4 +1,6 @@
-//! Values to try: the special ones, and a generator that repeats itself from run to run.
+//! Values to try: the special ones, and others drawn from a seed.
+
+pub use crate::xorshift::Xorshift;
 
 /// The smallest positive subnormal.
 const LEAST: f64 = f64::from_bits(1);
@@ -19,24 +21,7 @@ pub const SPECIAL: [f64; 12] = [
     f64::NEG_INFINITY,
 ];
 
-/// Marsaglia's xorshift with 64 bits and the shifts 13, 7, 17.
-pub struct Xorshift(u64);
-
 impl Xorshift {
-    /// A generator; different seeds other than 0 give different values.
-    pub fn new(seed: u64) -> Self {
-        assert!(seed != 0, "xorshift never leaves the seed 0");
-        Xorshift(seed)
-    }
-
-    /// 64 bits.
-    pub fn bits(&mut self) -> u64 {
-        self.0 ^= self.0 << 13;
-        self.0 ^= self.0 >> 7;
-        self.0 ^= self.0 << 17;
-        self.0
-    }
-
     /// A whole number of exactly `size` binary digits; 0 for the size 0.
     pub fn of_size(&mut self, size: u32) -> u64 {
         match size {
