@@ -1,4 +1,4 @@
-// Links the static library of a crate, which `rt staticlib CRATE` writes. The build.rs of each test package includes this file.
+// Links the static library of a crate, which `rt staticlib CRATE` writes: for the build.rs of tests/numeric and tests/grouping.
 
 use std::env;
 use std::path::{Path, PathBuf};

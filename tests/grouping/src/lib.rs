@@ -26,7 +26,7 @@ mod host {
 pub fn group_by_interval(values: &[f64], margin: f64, group: &mut [u16]) -> usize {
     let (n, room) = (values.len(), group.len());
     assert!(n <= MOST_VALUES && n <= room, "{n} values, {room} places");
-    // Both slices are lists' own memory and lie apart.
+    // SAFETY: both pointers and counts are those of slices, the second one borrowed mutably; and there is a place for each value.
     unsafe {
         host::grouping_group_by_interval(
             values.as_ptr(),
@@ -41,6 +41,6 @@ pub fn group_by_interval(values: &[f64], margin: f64, group: &mut [u16]) -> usiz
 /// What x counts as among the deltas, which are put in order, the distinct ones in front.
 pub fn normal_of(deltas: &mut [f64], margin: f64, x: f64) -> f64 {
     assert!(deltas.iter().all(|x| x.is_finite()), "{deltas:?}");
-    // The slice is a list's own memory.
+    // SAFETY: pointer and count are those of a slice that is borrowed mutably, and its values are finite.
     unsafe { host::grouping_normal_of(deltas.as_mut_ptr(), deltas.len(), margin, x) }
 }

@@ -1,4 +1,5 @@
-/* All five calls on heap memory of exactly the size that they need, for a tool that watches the heap's bounds. Prints `ok`, or each line that fails. */
+/* All five calls on heap memory of exactly the size that they need, for a tool that watches the heap's bounds.
+ * Prints `ok`, or each line that fails. */
 #include "dresserduck.h"
 
 #include "check.h"
@@ -49,8 +50,8 @@ static void encode_exactly(const struct chart *c, uint16_t *work, double *scratc
     for (size_t i = 0; i < 5; i++) {
         numbers[i] = (uint16_t *)block(c->n, sizeof *numbers[i]);
     }
-    CHECK(dresserduck_encode(CHART, numbers[0], c->n, numbers[1], c->n, numbers[2], c->n, numbers[3], c->n, numbers[4], c->n, interval, c->n,
-              work, 8 * c->n, scratch, c->n).refusal == DRESSERDUCK_ACCEPTED);
+    CHECK(dresserduck_encode(CHART, numbers[0], c->n, numbers[1], c->n, numbers[2], c->n, numbers[3], c->n, numbers[4], c->n,
+              interval, c->n, work, 8 * c->n, scratch, c->n).refusal == DRESSERDUCK_ACCEPTED);
     for (size_t i = 0; i < 5; i++) {
         free(numbers[i]);
     }

@@ -1,4 +1,4 @@
-//! One call with known memory, and a look at everything that it may have written.
+//! One call of encode with known memory, and a look at everything that it may have written; and charts that every call refuses.
 
 use crate::chart::Chart;
 use crate::lent::{exact_sizes, Lent, Sizes};
@@ -51,4 +51,25 @@ pub fn refused(chart: &Chart, sizes: Sizes, refusal: u64, place: usize) {
         hit_patterns: 0,
     };
     called(chart, sizes, want, None);
+}
+
+type Change = fn(&mut Chart);
+
+/// Charts of five objects that are refused, with the refusal's number and place.
+pub fn bad_charts() -> impl Iterator<Item = (u64, u64, Chart)> {
+    let changes: [(u64, Change); 7] = [
+        (2, |chart| chart.start.truncate(4)),
+        (2, |chart| chart.delta.push(1.0)),
+        (2, |chart| chart.ratio.truncate(4)),
+        (4, |chart| chart.kind[3] = 3),
+        (5, |chart| chart.start[3] = f64::NAN),
+        (6, |chart| chart.delta[3] = 16_777_217.0),
+        (7, |chart| chart.ratio[3] = 0.0),
+    ];
+    changes.into_iter().map(|(number, change)| {
+        let mut chart = Chart::of_size(5);
+        change(&mut chart);
+        let place = if number > 3 { 3 } else { 0 };
+        (number, place, chart)
+    })
 }

@@ -1,9 +1,11 @@
 //! colour and stretch over the static library: document 01's example, a plain reimplementation, memory, and refusals 1 to 9.
 
 use host_tests::chart::Chart;
+use host_tests::check::bad_charts;
 use host_tests::colour::{colour, stretch, Coloured, Memory};
 use host_tests::plain_colour;
 use host_tests::samples::{biased_chart, ratios, Xorshift};
+use host_tests::LARGEST_CHART;
 
 /// The table T by the definition's own list of bit patterns.
 fn table() -> impl Fn(usize) -> f64 {
@@ -50,6 +52,21 @@ fn check_values(chart: &Chart, table: &dyn Fn(usize) -> f64) -> Vec<f64> {
     values
 }
 
+/// Checks the stretch from a to b, whose colour values are known, and gives its mean.
+#[track_caller]
+fn check_stretch(chart: &Chart, values: &[f64], a: usize, b: usize) -> f64 {
+    let mean = plain_colour::mean(&values[a..b]);
+    let lent = roomy(values.len());
+    let mut memory = lent.clone();
+    let got = stretch(chart, a, b, &mut memory);
+    assert_eq!((got.refusal, got.place), (0, 0), "{a}..{b} of {chart}");
+    assert_eq!(got.mean.to_bits(), mean.to_bits(), "{a}..{b} of {chart}");
+    let tenths = plain_colour::tenths(mean);
+    assert_eq!(got.tenths, tenths, "{a}..{b} of {chart}");
+    assert_eq!(memory.bits(), lent.filled(values).bits(), "{chart}");
+    mean
+}
+
 #[test]
 fn values_and_stretches_follow_document_01() {
     let table = table();
@@ -64,23 +81,11 @@ fn values_and_stretches_follow_document_01() {
             continue;
         }
         let a = rng.below(n);
-        let b = if round % 4 == 0 {
-            n
-        } else {
-            a + 1 + rng.below(n - a)
+        let b = match round % 4 {
+            0 => n,
+            _ => rng.between(a + 1, n),
         };
-        let mean = plain_colour::mean(&values[a..b]);
-        let lent = roomy(n);
-        let mut memory = lent.clone();
-        let got = stretch(&chart, a, b, &mut memory);
-        assert_eq!((got.refusal, got.place), (0, 0), "{a}..{b} of {chart}");
-        assert_eq!(got.mean.to_bits(), mean.to_bits(), "{a}..{b} of {chart}");
-        assert_eq!(
-            got.tenths,
-            plain_colour::tenths(mean),
-            "{a}..{b} of {chart}"
-        );
-        assert_eq!(memory.bits(), lent.filled(&values).bits(), "{chart}");
+        let mean = check_stretch(&chart, &values, a, b);
         stretches += 1;
         negative += usize::from(mean < 0.0);
     }
@@ -141,36 +146,21 @@ fn stretches_that_are_none_are_refused_9() {
 
 #[test]
 fn earlier_refusals_come_before_9() {
-    let good = Chart::of_text("ddkkd");
-    let changed = |change: &dyn Fn(&mut Chart)| {
-        let mut chart = good.clone();
-        change(&mut chart);
-        chart
-    };
-    let faults: [(u64, Chart, [usize; 3]); 8] = [
-        (2, changed(&|c| c.ratio.truncate(4)), [5, 40, 5]),
-        (3, good.clone(), [4, 40, 5]),
-        (3, good.clone(), [5, 39, 5]),
-        (3, good.clone(), [5, 40, 4]),
-        (4, changed(&|c| c.kind[3] = 3), [5, 40, 5]),
-        (5, changed(&|c| c.start[3] = f64::NAN), [5, 40, 5]),
-        (6, changed(&|c| c.delta[3] = 16_777_217.0), [5, 40, 5]),
-        (7, changed(&|c| c.ratio[3] = 0.0), [5, 40, 5]),
-    ];
-    for (number, chart, sizes) in &faults {
-        let place = if *number > 3 { 3 } else { 0 };
-        for bounds in [None, Some((1, 4)), Some((4, 1))] {
-            refused(chart, bounds, Memory::of_sizes(*sizes), *number, place);
+    let (good, huge) = (Chart::of_size(5), Chart::of_size(LARGEST_CHART + 1));
+    for bounds in [None, Some((1, 4)), Some((4, 1))] {
+        refused(&huge, bounds, exact(LARGEST_CHART + 1), 1, 0);
+        for sizes in [[4, 40, 5], [5, 39, 5], [5, 40, 4]] {
+            refused(&good, bounds, Memory::of_sizes(sizes), 3, 0);
+        }
+        for (number, place, chart) in bad_charts() {
+            refused(&chart, bounds, exact(5), number, place);
         }
     }
-    let huge = Chart::of_kinds(vec![0; 16_385]);
-    refused(&huge, None, exact(16_385), 1, 0);
-    refused(&huge, Some((1, 0)), exact(16_385), 1, 0);
 }
 
 #[test]
 fn the_largest_chart_is_accepted() {
     let mut rng = Xorshift::new(7);
-    let values = check_values(&biased_chart(&mut rng, 16_384), &table());
-    assert_eq!(values.len(), 16_384);
+    let values = check_values(&biased_chart(&mut rng, LARGEST_CHART), &table());
+    assert_eq!(values.len(), LARGEST_CHART);
 }

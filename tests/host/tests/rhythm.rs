@@ -1,9 +1,11 @@
 //! rhythm and record over the static library: document 01's examples, a plain reimplementation, memory, and refusals 1 to 9.
 
 use host_tests::chart::Chart;
+use host_tests::check::bad_charts;
 use host_tests::plain_rhythm::{Groups, NO_GROUP};
 use host_tests::rhythm::{record, rhythm, Grouped, Memory, Recorded};
 use host_tests::samples::{rhythmic_chart, Xorshift};
+use host_tests::LARGEST_CHART;
 
 fn exact(n: usize) -> Memory {
     Memory::of_sizes([n, n, 8 * n, n])
@@ -111,11 +113,11 @@ fn groups_and_records_follow_document_01() {
 
 #[test]
 fn the_largest_charts_are_accepted() {
-    let falling: Vec<f64> = (0..16_384).map(|i| f64::from(16_384 - i)).collect();
+    let falling: Vec<f64> = (1..=LARGEST_CHART).rev().map(|x| x as f64).collect();
     let mut one_group = notes(&falling);
     one_group.start.fill(0.0);
     let mut rng = Xorshift::new(11);
-    for chart in [one_group, rhythmic_chart(&mut rng, 16_384)] {
+    for chart in [one_group, rhythmic_chart(&mut rng, LARGEST_CHART)] {
         let groups = Groups::of(&chart);
         check_rhythm(&chart, &groups);
         for group in [0, groups.objects.len() - 1] {
@@ -184,7 +186,7 @@ fn windows_out_of_range_are_refused_8_and_groups_that_are_none_9() {
     for window in [1.0, 1000.0] {
         let groups = Groups::of(&chart);
         check_record(&chart, &groups, 1, window);
-        for group in [2, 3, 16_384, usize::MAX] {
+        for group in [2, 3, LARGEST_CHART, usize::MAX] {
             refused(&chart, Some((group, window)), roomy(3), 9, 0);
         }
     }
@@ -192,38 +194,18 @@ fn windows_out_of_range_are_refused_8_and_groups_that_are_none_9() {
 
 #[test]
 fn earlier_refusals_come_before_8_and_9() {
-    let good = Chart::of_text("ddkkd");
-    let changed = |change: &dyn Fn(&mut Chart)| {
-        let mut chart = good.clone();
-        change(&mut chart);
-        chart
-    };
-    let faults: [(u64, Chart, [usize; 4]); 9] = [
-        (2, changed(&|c| c.start.truncate(4)), [5, 5, 40, 5]),
-        (2, changed(&|c| c.delta.push(1.0)), [5, 5, 40, 5]),
-        (2, changed(&|c| c.ratio.truncate(4)), [5, 5, 40, 5]),
-        (3, good.clone(), [5, 5, 39, 5]),
-        (3, good.clone(), [5, 5, 40, 4]),
-        (4, changed(&|c| c.kind[3] = 3), [5, 5, 40, 5]),
-        (5, changed(&|c| c.start[3] = f64::NAN), [5, 5, 40, 5]),
-        (6, changed(&|c| c.delta[3] = 16_777_217.0), [5, 5, 40, 5]),
-        (7, changed(&|c| c.ratio[3] = 0.0), [5, 5, 40, 5]),
-    ];
-    for (number, chart, sizes) in &faults {
-        let place = if *number > 3 { 3 } else { 0 };
-        for of in [
-            None,
-            Some((0, 50.0)),
-            Some((0, f64::NAN)),
-            Some((9, f64::NAN)),
-        ] {
-            refused(chart, of, Memory::of_sizes(*sizes), *number, place);
+    let (good, huge) = (Chart::of_size(5), Chart::of_size(LARGEST_CHART + 1));
+    let nan = f64::NAN;
+    for of in [None, Some((0, 50.0)), Some((0, nan)), Some((9, nan))] {
+        refused(&huge, of, exact(LARGEST_CHART + 1), 1, 0);
+        for sizes in [[5, 5, 39, 5], [5, 5, 40, 4]] {
+            refused(&good, of, Memory::of_sizes(sizes), 3, 0);
+        }
+        for (number, place, chart) in bad_charts() {
+            refused(&chart, of, exact(5), number, place);
         }
     }
     for sizes in [[4, 5, 40, 5], [5, 4, 40, 5]] {
         refused(&good, None, Memory::of_sizes(sizes), 3, 0);
     }
-    let huge = Chart::of_kinds(vec![0; 16_385]);
-    refused(&huge, None, exact(16_385), 1, 0);
-    refused(&huge, Some((0, 0.0)), exact(16_385), 1, 0);
 }

@@ -24,6 +24,11 @@ fn check(x: f64) -> bool {
     (x * 10.0).floor() as i64 != want
 }
 
+fn check_signs(x: f64) {
+    check(x);
+    check(-x);
+}
+
 #[test]
 fn known_values() {
     let known = [
@@ -58,9 +63,7 @@ fn every_exponent() {
     let mut random = Xorshift::new(21);
     for field in 0..=1075 {
         for _ in 0..500 {
-            let x = random.with_field(field);
-            check(x);
-            check(-x);
+            check_signs(random.with_field(field));
         }
     }
 }
@@ -71,9 +74,7 @@ fn usual_sizes() {
     let mut random = Xorshift::new(22);
     for field in 1015..=1075 {
         for _ in 0..10_000 {
-            let x = random.with_field(field);
-            check(x);
-            check(-x);
+            check_signs(random.with_field(field));
         }
     }
 }
@@ -99,14 +100,10 @@ fn multiples_of_a_tenth() {
 fn subnormals() {
     let mut random = Xorshift::new(24);
     for _ in 0..100_000 {
-        let x = random.with_field(0);
-        check(x);
-        check(-x);
+        check_signs(random.with_field(0));
     }
     for size in 0..=52 {
-        let x = f64::from_bits(random.of_size(size));
-        check(x);
-        check(-x);
+        check_signs(f64::from_bits(random.of_size(size)));
     }
 }
 
@@ -114,9 +111,7 @@ fn subnormals() {
 #[test]
 fn around_the_last_fractions() {
     for step in 1..=100_000 {
-        let x = f64::from_bits(TENTHS_LIMIT.to_bits() - step);
-        check(x);
-        check(-x);
+        check_signs(f64::from_bits(TENTHS_LIMIT.to_bits() - step));
     }
     let centre = TENTHS_LIMIT / 2.0;
     for step in 0..10_000 {
