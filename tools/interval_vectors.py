@@ -1,16 +1,16 @@
 #!/usr/bin/env python3
 """Writes lists of intervals and the sizes of the original's groups of them, for tests/grouping/data/intervals.txt.
 
-usage: interval_vectors.py ORACLE OUT    (ORACLE: the program that `cargo build --release` makes of the oracle)
+usage: interval_vectors.py ORACLE OUT    (ORACLE as in oracle.py)
 
 A case is a line: the bits of each value, `:`, the sizes of the groups in order; all parted by blanks.
 """
 import itertools
 import math
 import random
-import struct
-import subprocess
 import sys
+
+from oracle import write_lists
 
 SEED = 5
 MARGIN = 5.0
@@ -88,24 +88,13 @@ def lists(rng):
     yield values(rng, MOST)
 
 
-def ask(oracle, cases):
-    """The oracle's answers, a line a case."""
-    requests = "".join(f"group {case.count(' ') + 1 if case else 0}\n{case}\n" for case in cases)
-    run = subprocess.run([oracle], input=requests, capture_output=True, text=True, check=True)
-    return run.stdout.splitlines()
-
-
 def main():
     if len(sys.argv) != 3:
         sys.exit(__doc__)
-    cases = [" ".join(struct.pack(">d", x).hex() for x in case) for case in lists(random.Random(SEED))]
-    answers = ask(sys.argv[1], cases)
-    assert len(answers) == len(cases), f"{len(answers)} answers to {len(cases)} requests"
-    with open(sys.argv[2], "w", encoding="ascii") as out:
-        print(HEADER, file=out)
-        for case, sizes in zip(cases, answers):
-            assert sum(map(int, sizes.split())) == len(case.split()), f"{case}: {sizes}"
-            print(f"{case} : {sizes}".strip(), file=out)
+    cases = list(lists(random.Random(SEED)))
+    answers = write_lists(sys.argv[1], "group", cases, HEADER, sys.argv[2])
+    for case, sizes in zip(cases, answers):
+        assert sum(map(int, sizes.split())) == len(case), f"{case}: {sizes}"
 
 
 if __name__ == "__main__":

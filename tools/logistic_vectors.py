@@ -1,11 +1,12 @@
 #!/usr/bin/env python3
 """Prints the original's logistic_exp at steps 0 to 299 as bit patterns, for tests/numeric/data/logistic_exp.txt.
 
-usage: logistic_vectors.py ORACLE    (the program that `cargo build --release` makes of the oracle)
+usage: logistic_vectors.py ORACLE    (as in oracle.py)
 """
 import re
-import subprocess
 import sys
+
+from oracle import ask
 
 STEPS = 300
 HEADER = (
@@ -14,17 +15,12 @@ HEADER = (
 )
 
 
-def ask(oracle):
-    """The oracle's answers, one a step, from exp itself instead of the oracle's own table."""
-    requests = ["raw on"] + [f"table {n}" for n in range(STEPS)]
-    run = subprocess.run([oracle], input="\n".join(requests) + "\n", capture_output=True, text=True, check=True)
-    return run.stdout.splitlines()
-
-
 def main():
     if len(sys.argv) != 2:
         sys.exit(__doc__)
-    answers = ask(sys.argv[1])
+    # from exp itself instead of the oracle's own table
+    requests = ["raw on"] + [f"table {n}" for n in range(STEPS)]
+    answers = ask(sys.argv[1], "\n".join(requests) + "\n")
     assert len(answers) == STEPS, f"{len(answers)} answers to {STEPS} requests"
     for n, answer in enumerate(answers):
         assert re.fullmatch("[0-9a-f]{16}", answer), f"step {n}: {answer!r}"

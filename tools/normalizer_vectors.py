@@ -1,17 +1,16 @@
 #!/usr/bin/env python3
 """Writes lists of deltas and what the original's normaliser maps each to, for tests/grouping/data/normalized.txt.
 
-usage: normalizer_vectors.py ORACLE OUT    (ORACLE: the program that `cargo build --release` makes of the oracle)
+usage: normalizer_vectors.py ORACLE OUT    (ORACLE as in oracle.py)
 
 A case is a line: the bits of each delta, `:`, the bits of what it maps to; all parted by blanks.
 """
 import itertools
 import random
-import struct
-import subprocess
 import sys
 
 from interval_vectors import LONGEST, values
+from oracle import write_lists
 
 SEED = 6
 RANDOM_LISTS = 2000
@@ -32,23 +31,13 @@ def lists(rng):
     yield [600.5 - i for i in range(600)]
 
 
-def words(numbers):
-    return " ".join(struct.pack(">d", x).hex() for x in numbers)
-
-
 def main():
     if len(sys.argv) != 3:
         sys.exit(__doc__)
-    cases = [list(case) for case in lists(random.Random(SEED))]
-    requests = "".join(f"normalize {len(case)}\n{words(case)}\n" for case in cases)
-    run = subprocess.run([sys.argv[1]], input=requests, capture_output=True, text=True, check=True)
-    answers = run.stdout.splitlines()
-    assert len(answers) == len(cases), f"{len(answers)} answers to {len(cases)} requests"
-    with open(sys.argv[2], "w", encoding="ascii") as out:
-        print(HEADER, file=out)
-        for case, answer in zip(cases, answers):
-            assert len(answer.split()) == len(case), f"{case}: {answer}"
-            print(f"{words(case)} : {answer}".strip(), file=out)
+    cases = list(lists(random.Random(SEED)))
+    answers = write_lists(sys.argv[1], "normalize", cases, HEADER, sys.argv[2])
+    for case, answer in zip(cases, answers):
+        assert len(answer.split()) == len(case), f"{case}: {answer}"
 
 
 if __name__ == "__main__":

@@ -2,7 +2,7 @@
 """Writes the cases that crates/replay_rhythm replays: charts, and what the original answers on them.
 
 usage: rhythm_vectors.py ORACLE OUT
-(ORACLE: the program that `cargo build --release` makes of the oracle)
+(ORACLE as in oracle.py)
 
 The form is that of vectors.py: numbers have their low byte first, a float is the number of its bits, and a case is a head and a body:
   call 4, rhythm: groups (2), pattern groups (2), kinds (n), starts (8n), deltas (8n), each object's group (2n) and pattern group (2n)
@@ -13,10 +13,10 @@ import itertools
 import math
 import random
 import struct
-import subprocess
 import sys
 
-from vectors import MOST, SEED, beside, bits, float_of, grown, head, mixed
+from oracle import ask, bits, float_of, words
+from vectors import MOST, SEED, beside, drawn, grown, head, mixed
 
 RHYTHM = 4
 RECORD = 5
@@ -60,13 +60,6 @@ def repeated(rng, before):
 STYLES = [beats, at_margin, about_zero, halves, limits, repeated]
 
 
-def deltas_of(rng, style, n):
-    deltas = []
-    for _ in range(n):
-        deltas.append(style(rng, deltas))
-    return deltas
-
-
 def running(rng, deltas):
     """Each start the one before and its delta."""
     return [min(max(s, -LIMIT), LIMIT) for s in itertools.accumulate(deltas)]
@@ -95,13 +88,13 @@ def charts():
     for n in itertools.chain([0] * 3, range(1, 13), range(1, 13), range(13, LONGEST + 1, 3)):
         for kinds in (grown(mixed(rng), n), "01" * (n // 2) + "1" * (n % 2)):
             for _ in range(3):
-                deltas = deltas_of(rng, next(styles), n)
+                deltas = drawn(rng, next(styles), n)
                 yield chart(kinds, next(starts)(rng, deltas), deltas, rng)
     fall = [float(MOST - i) for i in range(MOST)]
     yield chart("0" * MOST, running(rng, [1.0] * MOST), fall, rng)
-    deltas = deltas_of(rng, beats, MOST)
+    deltas = drawn(rng, beats, MOST)
     yield chart(grown(mixed(rng), MOST), running(rng, [d / 300 for d in deltas]), deltas, rng)
-    deltas = deltas_of(rng, about_zero, MOST - 1)
+    deltas = drawn(rng, about_zero, MOST - 1)
     yield chart(grown(mixed(rng), MOST - 1), standing(rng, deltas), deltas, rng)
 
 
@@ -113,26 +106,26 @@ def picked(rng, groups):
 
 
 def chart_text(kinds, starts, deltas):
-    ones = " ".join([bits(1.0)] * len(kinds))
-    return f"chart {len(kinds)}\n{kinds}\n{' '.join(map(bits, starts))}\n{' '.join(map(bits, deltas))}\n{ones}\n"
+    return f"chart {len(kinds)}\n{kinds}\n{words(starts)}\n{words(deltas)}\n{words([1.0] * len(kinds))}\n"
 
 
-class Oracle:
-    def __init__(self, path):
-        self.run = subprocess.Popen([path], stdin=subprocess.PIPE, stdout=subprocess.PIPE, text=True)
+def ask_rhythm(oracle, charts):
+    """For each chart both counts and each object's two numbers."""
+    lines = iter(ask(oracle, "".join(chart_text(*c[:3]) + "rhythm\n" for c in charts)))
+    for kinds, *_ in charts:
+        counts, *objects = [tuple(map(int, next(lines).split())) for _ in range(1 + len(kinds))]
+        yield counts, objects
+    assert next(lines, None) is None, "more answers than requests"
 
-    def ask(self, text, lines):
-        self.run.stdin.write(text)
-        self.run.stdin.flush()
-        return [self.run.stdout.readline().split() for _ in range(lines)]
 
-
-def answers(oracle, rng, kinds, starts, deltas, window):
-    """Both counts, each object's two numbers, and the records of some groups."""
-    counts, *objects = oracle.ask(chart_text(kinds, starts, deltas) + "rhythm\n", 1 + len(kinds))
-    groups = picked(rng, int(counts[0]))
-    records = oracle.ask("".join(f"record {g} {bits(window)}\n" for g in groups), len(groups))
-    return [int(c) for c in counts], [tuple(map(int, o)) for o in objects], list(zip(groups, records))
+def ask_records(oracle, charts, asked):
+    """For each chart the fields of the groups that are asked for."""
+    record = "record {} {}\n".format
+    texts = [chart_text(*c[:3]) + "".join(record(g, bits(c[3])) for g in groups) for c, groups in zip(charts, asked)]
+    lines = iter(ask(oracle, "".join(texts)))
+    for groups in asked:
+        yield [next(lines).split() for _ in groups]
+    assert next(lines, None) is None, "more answers than requests"
 
 
 def word(text):
@@ -171,19 +164,18 @@ def check_records(records):
 def main():
     if len(sys.argv) != 3:
         sys.exit(__doc__)
-    oracle, rng, asked = Oracle(sys.argv[1]), random.Random(SEED), list(charts())
-    seen, objects_in_all = [], 0
+    oracle, rng, all_charts = sys.argv[1], random.Random(SEED), list(charts())
+    rhythms = list(ask_rhythm(oracle, all_charts))
+    asked = [picked(rng, groups) for (groups, _), _ in rhythms]
+    records = list(ask_records(oracle, all_charts, asked))
+    check_records(list(itertools.chain(*records)))
     with open(sys.argv[2], "wb") as out:
-        for kinds, starts, deltas, window in asked:
-            counts, objects, records = answers(oracle, rng, kinds, starts, deltas, window)
-            out.write(rhythm_case(kinds, starts, deltas, counts, objects))
-            for group, fields in records:
-                out.write(record_case(len(kinds), window, group, fields))
-                seen.append(fields)
-            objects_in_all += len(kinds)
-    check_records(seen)
-    print(f"rhythm: {len(asked)} cases, {objects_in_all} objects")
-    print(f"record: {len(seen)} cases")
+        for (kinds, starts, deltas, window), rhythm, groups, fields in zip(all_charts, rhythms, asked, records):
+            out.write(rhythm_case(kinds, starts, deltas, *rhythm))
+            for case in zip(groups, fields):
+                out.write(record_case(len(kinds), window, *case))
+    print(f"rhythm: {len(all_charts)} cases, {sum(len(c[0]) for c in all_charts)} objects")
+    print(f"record: {sum(map(len, records))} cases")
 
 
 if __name__ == "__main__":

@@ -3,7 +3,7 @@
 
 usage: vectors.py ORACLE OUT           the cases of encode
        vectors.py ORACLE OUT colour    those of colour and stretch
-(ORACLE: the program that `cargo build --release` makes of the oracle)
+(ORACLE as in oracle.py)
 
 Numbers have their low byte first; a float is the number of its bits. A case is a head of 8 bytes and a body:
   head   call (1 byte), width (1), objects n (2), bytes of the body (4)
@@ -18,8 +18,9 @@ import itertools
 import math
 import random
 import struct
-import subprocess
 import sys
+
+from oracle import ask, bits, float_of, words
 
 SEED = 1
 ENCODE = 1
@@ -81,14 +82,13 @@ def charts():
 
 def request(kinds):
     """A chart whose starts, deltas and ratios are all 1.0, as the replay has them: encode looks at the kinds alone."""
-    ones = " ".join(["3ff0000000000000"] * len(kinds))
+    ones = words([1.0] * len(kinds))
     return f"chart {len(kinds)}\n{kinds}\n{ones}\n{ones}\n{ones}\nencode\n"
 
 
-def ask(oracle, all_kinds):
+def ask_encode(oracle, all_kinds):
     """For each chart the number of hit patterns and the six numbers of each object."""
-    text = "".join(map(request, all_kinds))
-    lines = iter(subprocess.run([oracle], input=text, capture_output=True, text=True, check=True).stdout.splitlines())
+    lines = iter(ask(oracle, "".join(map(request, all_kinds))))
     for kinds in all_kinds:
         hits = int(next(lines))
         yield hits, [tuple(map(int, next(lines).split())) for _ in kinds]
@@ -115,14 +115,6 @@ def case(kinds, hits, objects):
 
 TYPICAL = [0.25, 1 / 3, 0.5, 2 / 3, 0.75, 1.0, 4 / 3, 1.5, 2.0, 3.0, 4.0]
 LEAST, LARGEST = 2.0**-24, 2.0**24
-
-
-def bits(x):
-    return struct.pack(">d", x).hex()
-
-
-def float_of(word):
-    return struct.unpack(">d", bytes.fromhex(word))[0]
 
 
 def beside(x, k):
@@ -174,11 +166,12 @@ def any_style(rng, before):
     return rng.choice([typical, at_tolerance, at_tolerance, extreme, wide])(rng, before)
 
 
-def ratios_of(rng, style, n):
-    ratios = []
+def drawn(rng, style, n):
+    """n values, each by the style and those before it."""
+    made = []
     for _ in range(n):
-        ratios.append(style(rng, ratios))
-    return ratios
+        made.append(style(rng, made))
+    return made
 
 
 def spans(rng, n):
@@ -195,21 +188,20 @@ def colour_charts():
     styles = itertools.cycle([typical, equal, at_tolerance, extreme, wide, any_style, at_tolerance])
     for n in range(LONGEST + 1):
         for kinds in (mixed, coupled, seams):
-            yield grown(kinds(rng), n), ratios_of(rng, next(styles), n), spans(rng, n)
+            yield grown(kinds(rng), n), drawn(rng, next(styles), n), spans(rng, n)
     for kinds, style in ((mixed, typical), (coupled, any_style)):
-        yield grown(kinds(rng), MOST), ratios_of(rng, style, MOST), spans(rng, MOST)
+        yield grown(kinds(rng), MOST), drawn(rng, style, MOST), spans(rng, MOST)
 
 
 def colour_request(kinds, ratios, parts):
-    ones = " ".join([bits(1.0)] * len(kinds))
+    ones = words([1.0] * len(kinds))
     asked = "".join(f"stretch {a} {b}\n" for a, b in parts)
-    return f"chart {len(kinds)}\n{kinds}\n{ones}\n{ones}\n{' '.join(map(bits, ratios))}\ncolour\n{asked}"
+    return f"chart {len(kinds)}\n{kinds}\n{ones}\n{ones}\n{words(ratios)}\ncolour\n{asked}"
 
 
 def ask_colour(oracle, charts):
     """For each chart the values, and mean and tenths of each stretch."""
-    text = "".join(colour_request(*c) for c in charts)
-    lines = iter(subprocess.run([oracle], input=text, capture_output=True, text=True, check=True).stdout.splitlines())
+    lines = iter(ask(oracle, "".join(colour_request(*chart) for chart in charts)))
     for kinds, _, parts in charts:
         values = [float_of(word) for word in next(lines).split()]
         assert len(values) == len(kinds)
@@ -289,7 +281,7 @@ def main():
     if len(sys.argv) != 3:
         sys.exit(__doc__)
     all_kinds = list(charts())
-    answers = list(ask(sys.argv[1], all_kinds))
+    answers = list(ask_encode(sys.argv[1], all_kinds))
     seen = {o[5] for _, objects in answers for o in objects}
     assert seen == {*range(1, 16), 17}, f"intervals seen: {sorted(seen)}"
     assert max(hits for hits, _ in answers) > 8000, "no chart has many hit patterns"
