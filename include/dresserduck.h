@@ -54,7 +54,7 @@ enum {
     DRESSERDUCK_BAD_DELTA = 6, /* not finite, or outside +-16,777,216 */
     DRESSERDUCK_BAD_RATIO = 7, /* below 2^-24, above 2^24, or NaN */
 
-    /* the player's settings' */
+    /* the player's settings'; 9 has two names, as its causes are two */
     DRESSERDUCK_BAD_WINDOW = 8,  /* dresserduck_record: the window is not from 1.0 to 1,000.0, or NaN */
     DRESSERDUCK_BAD_STRETCH = 9, /* dresserduck_stretch: a >= b or b > n */
     DRESSERDUCK_BAD_GROUP = 9    /* dresserduck_record: the group's number is not below the number of groups */

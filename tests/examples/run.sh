@@ -1,10 +1,9 @@
 #!/usr/bin/env bash
 # The two examples on one chart print the same, which is what expected.txt has; a bad chart is refused.
-# The archive is that of `rt staticlib dresserduck`, or the one in the folder DRESSERDUCK_STATICLIB.
 set -eu
 root=$(cd "$(dirname "$0")/../.." && pwd)
 here="$root/tests/examples"
-archive="${DRESSERDUCK_STATICLIB:-$root/target/staticlib}/libdresserduck.a"
+. "$root/tests/archive.sh"
 
 made=$(mktemp -d)
 trap 'rm -rf "$made"' EXIT

@@ -1,17 +1,8 @@
 #!/usr/bin/env bash
 # Compiles and runs the C programs as C99 and as C++17 against libdresserduck.a, then runs the Rust tests.
-# The archive is that of `rt staticlib dresserduck`, or the one in the folder DRESSERDUCK_STATICLIB.
 set -eu
 root=$(cd "$(dirname "$0")/../.." && pwd)
-
-archive="${DRESSERDUCK_STATICLIB:-$root/target/staticlib}/libdresserduck.a"
-if [ ! -f "$archive" ]; then
-    echo "$archive is missing: run \`rt staticlib dresserduck\` first" >&2
-    exit 1
-fi
-DRESSERDUCK_STATICLIB=$(cd "$(dirname "$archive")" && pwd)
-export DRESSERDUCK_STATICLIB
-archive="$DRESSERDUCK_STATICLIB/libdresserduck.a"
+. "$root/tests/archive.sh"
 
 made=$(mktemp -d)
 trap 'rm -rf "$made"' EXIT

@@ -31,8 +31,13 @@ letters() {
 }
 
 text=$(letters 1024)
-# what these print, by document 01's text alone: expected.py made it of `letters 1024`
+# what these print, by document 01's text alone: expected.py makes it
 lines="$(cat "$here/expected.txt")\n"
+if command -v python3 > /dev/null; then
+    printf %s "$text" | python3 "$here/expected.py" | cmp - "$here/expected.txt" >&2
+else
+    echo "no Python here: expected.txt is not made anew"
+fi
 
 expect "document 01's example" 'dkkddk\n' '17 d\n17 kk,dd\n2 k\n'
 expect 'a letter and no line feed' 'd' '17 d\n'
