@@ -13,14 +13,22 @@ rust() { (cd "$root/bindings/rust" && cargo run --release --offline --quiet --ex
 "$made/marks" 2.5 < "$here/chart.txt" | diff "$here/expected.txt" -
 rust 2.5 < "$here/chart.txt" | diff "$here/expected.txt" -
 
+said() {
+    if ! grep -qF "$1" "$2"; then
+        echo "an example should have said $1; it said:" >&2
+        cat "$2" >&2
+        exit 1
+    fi
+}
+
 # refused CHART C_TEXT RUST_TEXT: neither takes the chart, and each says so
 refused() {
     if printf %b "$1" | "$made/marks" 2.5 > "$made/c" 2>&1 || printf %b "$1" | rust 2.5 > "$made/rust" 2>&1; then
         echo "an example took a bad chart" >&2
         exit 1
     fi
-    grep -qF "$2" "$made/c"
-    grep -qF "$3" "$made/rust"
+    said "$2" "$made/c"
+    said "$3" "$made/rust"
 }
 refused 'x 0 100 1\n' "refused 4 at 0" "Object 0 of the chart, counted from 0, is neither a Center, a Rim nor a NonHit."
 refused 'd 0 100 1\nk 100 nan 1\n' "refused 6 at 1" "Object 1 of the chart, counted from 0, has a delta"

@@ -4,107 +4,158 @@ use std::ptr::{dangling, dangling_mut};
 
 use dresserduck::calls;
 
-const WINDOW: f64 = 50.0;
+/// Where a call's slices begin. The chart's three lists of floats are one, as what is only read may be shared.
+struct Places {
+    kind: *const u8,
+    floats: *const f64,
+    numbers: [*mut u16; 5],
+    interval: *mut u8,
+    value: *mut f64,
+    work: *mut u16,
+    scratch: *mut f64,
+}
 
-/// Refusal and place of a call whose every pointer is aligned and points at no memory, with these counts.
-// SAFETY: a slice of no places needs no memory, and a call that is refused for its counts reads and writes no place; one
-// that did would be stopped by the processor.
-macro_rules! at_no_memory {
-    ($export:ident($inputs:expr $(, $argument:expr)*) => $($count:expr),*) => {{
+impl Places {
+    /// Aligned, and where there is no memory.
+    fn nowhere() -> Self {
+        Places {
+            kind: dangling(),
+            floats: dangling(),
+            numbers: [dangling_mut(); 5],
+            interval: dangling_mut(),
+            value: dangling_mut(),
+            work: dangling_mut(),
+            scratch: dangling_mut(),
+        }
+    }
+}
+
+/// Refusal and place of a call, by where its slices are and their counts.
+// SAFETY: the counts are those of the memory, or longer than it, or the call is refused for them. It touches no place that it
+// does not need, and none at all when it is refused for counts; one that did would be stopped by the processor or found out.
+macro_rules! asked {
+    ($export:ident($at:expr, $inputs:expr $(, $argument:expr)*) => $(($slice:expr, $count:expr)),*) => {{
         let [kind, start, delta, ratio] = $inputs;
+        let (at, x) = ($at, $at.floats);
         let answer = unsafe {
-            calls::$export(
-                dangling(), kind, dangling(), start, dangling(), delta, dangling(), ratio,
-                $($argument,)*
-                $(dangling_mut(), $count),*
-            )
+            calls::$export(at.kind, kind, x, start, x, delta, x, ratio, $($argument,)* $($slice, $count),*)
         };
         (answer.refusal, answer.place)
     }};
 }
 
 /// All five, with these counts of the chart's slices and of answer, work and scratch slices.
-fn all_at_no_memory(inputs: [usize; 4], [n, work, scratch]: [usize; 3]) -> [(u64, u64); 5] {
+fn all_five(at: &Places, inputs: [usize; 4], [n, work, scratch]: [usize; 3]) -> [(u64, u64); 5] {
+    let [a, b, c, d, e] = at.numbers;
+    let (i, v, w, s) = (at.interval, at.value, at.work, at.scratch);
     [
-        at_no_memory!(dresserduck_encode(inputs) => n, n, n, n, n, n, work, scratch),
-        at_no_memory!(dresserduck_colour(inputs) => n, work, scratch),
-        at_no_memory!(dresserduck_stretch(inputs, 0, 1) => n, work, scratch),
-        at_no_memory!(dresserduck_rhythm(inputs) => n, n, work, scratch),
-        at_no_memory!(dresserduck_record(inputs, 0, WINDOW) => work, scratch),
+        asked!(dresserduck_encode(at, inputs) =>
+            (a, n), (b, n), (c, n), (d, n), (e, n), (i, n), (w, work), (s, scratch)),
+        asked!(dresserduck_colour(at, inputs) => (v, n), (w, work), (s, scratch)),
+        asked!(dresserduck_stretch(at, inputs, 0, 1) => (v, n), (w, work), (s, scratch)),
+        asked!(dresserduck_rhythm(at, inputs) => (a, n), (b, n), (w, work), (s, scratch)),
+        asked!(dresserduck_record(at, inputs, 0, 50.0) => (w, work), (s, scratch)),
     ]
 }
 
 #[test]
 fn a_chart_without_objects_needs_no_memory() {
-    let answers = all_at_no_memory([0; 4], [0; 3]);
+    let answers = all_five(&Places::nowhere(), [0; 4], [0; 3]);
     // no stretch and no group is in such a chart
     assert_eq!(answers, [(0, 0), (0, 0), (9, 0), (0, 0), (9, 0)]);
 }
 
-/// As a number of 16 or 32 bits each is 3, or too small.
+/// To 16 or 32 bits each of them is 3 or a few more, or 0.
 const TOO_MANY: [usize; 6] = [16_385, 65_539, (1 << 32) + 3, 1 << 32, 1 << 63, usize::MAX];
 
 #[test]
 fn counts_beyond_memory_are_refused_by_themselves() {
+    let nowhere = Places::nowhere();
     for count in TOO_MANY {
-        let refused = all_at_no_memory([count; 4], [count; 3]);
+        let refused = all_five(&nowhere, [count; 4], [count; 3]);
         assert_eq!(refused, [(1, 0); 5], "{count} objects");
         for input in 1..4 {
             let mut inputs = [3; 4];
             inputs[input] = count;
-            let refused = all_at_no_memory(inputs, [3, 24, 3]);
+            let refused = all_five(&nowhere, inputs, [3, 24, 3]);
             assert_eq!(refused, [(2, 0); 5], "{inputs:?}");
         }
     }
 }
 
 #[test]
-fn slices_too_short_are_refused_by_their_counts() {
+fn work_slices_too_short_are_refused_by_their_counts() {
     for lent in [[3, 23, 3], [3, 24, 2], [3, 0, 3], [3, 24, 0]] {
-        let refused = all_at_no_memory([3; 4], lent);
+        let refused = all_five(&Places::nowhere(), [3; 4], lent);
         assert_eq!(refused, [(3, 0); 5], "{lent:?}");
     }
-    let (inputs, work, scratch) = ([3; 4], 24, 3);
-    let answers_too_short = [
-        at_no_memory!(dresserduck_encode(inputs) => 3, 3, 3, 2, 3, 3, work, scratch),
-        at_no_memory!(dresserduck_colour(inputs) => 2, work, scratch),
-        at_no_memory!(dresserduck_stretch(inputs, 0, 1) => 2, work, scratch),
-        at_no_memory!(dresserduck_rhythm(inputs) => 3, 2, work, scratch),
-    ];
-    assert_eq!(answers_too_short, [(3, 0); 4]);
 }
 
-/// The chart's three lists of floats are one list, and the lent slices lie side by side in one piece of memory.
-#[test]
-fn slices_may_share_what_is_only_read_and_touch_each_other() {
-    let (kind, ones) = ([0, 1, 1], [1.0; 3]);
-    let (mut numbers, mut floats) = ([9; 3 + 3 + 24], [9.0; 3 + 3]);
-    let (group, work) = numbers.split_at_mut(6);
-    let (group, pattern) = group.split_at_mut(3);
-    let (value, scratch) = floats.split_at_mut(3);
-    let chart = dresserduck::Chart::new(&kind, &ones, &ones, &ones);
-    let grouped = calls::rhythm(&chart, group, pattern, work, scratch);
-    assert_eq!((grouped.refusal, grouped.groups), (0, 1));
-    assert_eq!(calls::colour(&chart, value, work, scratch).refusal, 0);
-    assert_eq!(numbers, [0; 30]);
-    assert!(floats[0] > 0.0 && floats[3..] == [0.0; 3], "{floats:?}");
+/// Memory for a chart of three objects, with a place more in each lent slice; the slices of one type lie side by side.
+struct Memory {
+    kind: [u8; 3],
+    ones: [f64; 3],
+    numbers: [[u16; 4]; 5],
+    work: [u16; 25],
+    interval: [u8; 4],
+    floats: [[f64; 4]; 2],
 }
 
-/// Counts whose low half is 0: they are long enough, and no place past the needed ones is touched.
+impl Memory {
+    fn new() -> Self {
+        Memory {
+            kind: [0, 1, 1],
+            ones: [1.0; 3],
+            numbers: [[99; 4]; 5],
+            work: [99; 25],
+            interval: [99; 4],
+            floats: [[99.0; 4]; 2],
+        }
+    }
+
+    fn places(&mut self) -> Places {
+        let [value, scratch] = &mut self.floats;
+        Places {
+            kind: self.kind.as_ptr(),
+            floats: self.ones.as_ptr(),
+            numbers: self.numbers.each_mut().map(|slice| slice.as_mut_ptr()),
+            interval: self.interval.as_mut_ptr(),
+            value: value.as_mut_ptr(),
+            work: self.work.as_mut_ptr(),
+            scratch: scratch.as_mut_ptr(),
+        }
+    }
+}
+
+/// The low half of a count may be 0: it is long enough, and no place past the needed ones is touched.
 #[test]
 fn lent_counts_may_be_larger_than_32_bits() {
-    let (kind, ones) = ([0, 1, 1], [1.0; 3]);
-    let (mut value, mut work, mut scratch) = ([9.0; 4], [9; 25], [9.0; 4]);
-    let huge = 1 << 32;
-    let (k, x) = (kind.as_ptr(), ones.as_ptr());
-    let (v, w, s) = (value.as_mut_ptr(), work.as_mut_ptr(), scratch.as_mut_ptr());
-    // SAFETY: the call reads and writes the first 3 places of each slice alone, and 24 of work.
-    let answer =
-        unsafe { calls::dresserduck_colour(k, 3, x, 3, x, 3, x, 3, v, huge, w, huge, s, huge) };
-    assert_eq!((answer.refusal, answer.place), (0, 0));
-    assert_eq!((value[3], work[24], scratch[3]), (9.0, 9, 9.0));
-    assert_eq!(
-        (work[..24].to_vec(), scratch[..3].to_vec()),
-        (vec![0; 24], vec![0.0; 3])
-    );
+    for lent in [
+        [3, 24, 3],
+        [4, 25, 4],
+        [1 << 32, 1 << 32, 1 << 32],
+        [usize::MAX; 3],
+    ] {
+        let mut memory = Memory::new();
+        let answers = all_five(&memory.places(), [3; 4], lent);
+        assert_eq!(answers, [(0, 0); 5], "{lent:?}");
+        let past = memory.numbers.map(|slice| slice[3]);
+        assert_eq!((past, memory.work[24]), ([99; 5], 99), "{lent:?}");
+        assert_eq!(
+            (memory.interval, memory.work[..24] == [0; 24]),
+            ([17, 17, 17, 99], true)
+        );
+        let [value, scratch] = memory.floats;
+        assert_eq!((value[3], scratch), (99.0, [0.0, 0.0, 0.0, 99.0]));
+    }
+}
+
+#[test]
+fn answer_slices_too_short_are_refused() {
+    let mut memory = Memory::new();
+    let answers = all_five(&memory.places(), [3; 4], [2, 24, 3]);
+    // record has none
+    assert_eq!(answers, [(3, 0), (3, 0), (3, 0), (3, 0), (0, 0)]);
+    assert_eq!(memory.numbers, [[99; 4]; 5]);
+    assert_eq!((memory.interval, memory.floats[0]), ([99; 4], [99.0; 4]));
 }
