@@ -30,8 +30,11 @@ use crate::refusal::Refusal;
 #[repr(C)]
 #[derive(Clone, Copy, Debug, Default, PartialEq, Eq)]
 pub struct Encoded {
+    /// 0, or the number of the first refusal that applies
     pub refusal: u64,
+    /// the object that is refused by 4 to 7, else 0
     pub place: u64,
+    /// how many hit patterns there are
     pub hit_patterns: u64,
 }
 
@@ -39,7 +42,9 @@ pub struct Encoded {
 #[repr(C)]
 #[derive(Clone, Copy, Debug, Default, PartialEq, Eq)]
 pub struct Coloured {
+    /// 0, or the number of the first refusal that applies
     pub refusal: u64,
+    /// the object that is refused by 4 to 7, else 0
     pub place: u64,
 }
 
@@ -47,9 +52,13 @@ pub struct Coloured {
 #[repr(C)]
 #[derive(Clone, Copy, Debug, Default, PartialEq)]
 pub struct Stretched {
+    /// 0, or the number of the first refusal that applies
     pub refusal: u64,
+    /// the object that is refused by 4 to 7, else 0
     pub place: u64,
+    /// the sum from left to right, divided by how many there are
     pub mean: f64,
+    /// the largest whole number not above ten times the mean, exactly
     pub tenths: i64,
 }
 
@@ -57,9 +66,13 @@ pub struct Stretched {
 #[repr(C)]
 #[derive(Clone, Copy, Debug, Default, PartialEq, Eq)]
 pub struct Grouped {
+    /// 0, or the number of the first refusal that applies
     pub refusal: u64,
+    /// the object that is refused by 4 to 7, else 0
     pub place: u64,
+    /// how many rhythm groups there are
     pub groups: u64,
+    /// how many pattern groups
     pub pattern_groups: u64,
 }
 
@@ -67,18 +80,27 @@ pub struct Grouped {
 #[repr(C)]
 #[derive(Clone, Copy, Debug, Default, PartialEq, Eq)]
 pub struct Recorded {
+    /// 0, or the number of the first refusal that applies
     pub refusal: u64,
+    /// the object that is refused by 4 to 7, else 0
     pub place: u64,
+    /// the object that is the group's first note
     pub first_note: u64,
+    /// how many notes it has
     pub note_count: u64,
     /// 1 where the group has an own interval, else 0
     pub has_own: u64,
     /// 0 where it is absent
     pub own_bits: u64,
+    /// own interval over that of the group before
     pub ratio_bits: u64,
+    /// from the start of the group before
     pub interval_bits: u64,
+    /// a factor, as in [`GroupRecord`](crate::GroupRecord)
     pub penalty_bits: u64,
+    /// the number of its pattern group
     pub pattern_group: u64,
+    /// that one's interval over that of the pattern group before
     pub pattern_ratio_bits: u64,
 }
 

@@ -23,6 +23,8 @@
 //! # Ok::<(), dresserduck::Refusal>(())
 //! ```
 
+#![warn(missing_docs)]
+
 pub mod calls;
 mod chart;
 mod refusal;

@@ -24,13 +24,25 @@ pub enum Refusal {
     /// 3: an answer or work slice is too short. A [`Workspace`](crate::Workspace) never lends one.
     SliceTooShort,
     /// 4: an object's kind is above 2.
-    BadKind { object: usize },
+    BadKind {
+        /// its number, counted from 0
+        object: usize,
+    },
     /// 5: an object's start is not finite or outside ±16,777,216.
-    BadStart { object: usize },
+    BadStart {
+        /// its number, counted from 0
+        object: usize,
+    },
     /// 6: an object's delta is not finite or outside ±16,777,216.
-    BadDelta { object: usize },
+    BadDelta {
+        /// its number, counted from 0
+        object: usize,
+    },
     /// 7: an object's ratio is below 2^−24, above 2^24, or NaN.
-    BadRatio { object: usize },
+    BadRatio {
+        /// its number, counted from 0
+        object: usize,
+    },
     /// 8: the window is not from 1.0 to 1,000.0.
     BadWindow,
     /// 9: the stretch is empty or ends past the chart, or there is no group of this number.

@@ -31,12 +31,12 @@ impl Places {
 }
 
 /// Refusal and place of a call, by where its slices are and their counts.
-// SAFETY: the counts are those of the memory, or longer than it, or the call is refused for them. It touches no place that it
-// does not need, and none at all when it is refused for counts; one that did would be stopped by the processor or found out.
 macro_rules! asked {
     ($export:ident($at:expr, $inputs:expr $(, $argument:expr)*) => $(($slice:expr, $count:expr)),*) => {{
         let [kind, start, delta, ratio] = $inputs;
         let (at, x) = ($at, $at.floats);
+        // SAFETY: a call touches no place that it does not need, and none at all when it is refused for its counts: the memory
+        // is there for what it needs, or it is refused. One that did would be stopped by the processor or found out.
         let answer = unsafe {
             calls::$export(at.kind, kind, x, start, x, delta, x, ratio, $($argument,)* $($slice, $count),*)
         };
