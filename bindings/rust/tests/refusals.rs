@@ -46,9 +46,9 @@ fn all_refused(lists: &Lists, refusal: Refusal) {
 
 #[test]
 fn charts_are_refused_by_every_call() {
-    let mut lists = Lists::of(LARGEST_CHART + 1);
-    all_refused(&lists, Refusal::TooManyObjects);
-    lists = Lists::of(7);
+    all_refused(&Lists::of(LARGEST_CHART + 1), Refusal::TooManyObjects);
+    assert_eq!(refusals(&Lists::of(LARGEST_CHART).chart()), [None; 5]);
+    let mut lists = Lists::of(7);
     assert_eq!(refusals(&lists.chart()), [None; 5]);
     lists.ratio[5] = f64::NAN;
     all_refused(&lists, Refusal::BadRatio { object: 5 });
@@ -58,8 +58,21 @@ fn charts_are_refused_by_every_call() {
     all_refused(&lists, Refusal::BadStart { object: 5 });
     lists.kind[5] = 3;
     all_refused(&lists, Refusal::BadKind { object: 5 });
-    lists.delta.pop();
-    all_refused(&lists, Refusal::LengthsDiffer);
+}
+
+#[test]
+fn each_slice_is_to_be_as_long_as_the_kinds() {
+    let changes: [fn(&mut Lists); 4] = [
+        |lists| lists.kind.push(3),
+        |lists| lists.start.truncate(6),
+        |lists| lists.delta.push(f64::NAN),
+        |lists| lists.ratio.clear(),
+    ];
+    for change in changes {
+        let mut lists = Lists::of(7);
+        change(&mut lists);
+        all_refused(&lists, Refusal::LengthsDiffer);
+    }
 }
 
 #[test]
