@@ -2,6 +2,7 @@
 
 pub mod plain;
 pub mod samples;
+pub mod stored;
 #[path = "../../xorshift.rs"]
 mod xorshift;
 

@@ -2,6 +2,7 @@
 
 use grouping_tests::plain::{groups, step, Step};
 use grouping_tests::samples::{values, Xorshift};
+use grouping_tests::stored::cases;
 use grouping_tests::{group_by_interval, MOST_VALUES};
 
 const STORED: &str = include_str!("../data/intervals.txt");
@@ -32,42 +33,33 @@ fn check(values: &[f64], margin: f64, want: &[u16]) {
     check_with(values, margin, want, 3);
 }
 
-fn stored_value(word: &str) -> f64 {
-    assert_eq!(word.len(), 16, "{word:?} is no f64");
-    let bits = u64::from_str_radix(word, 16);
-    f64::from_bits(bits.unwrap_or_else(|error| panic!("{word:?}: {error}")))
-}
-
-/// The values of a case and the number of each one's group.
-fn stored_case(line: &str) -> (Vec<f64>, Vec<u16>) {
-    let parts = line.split_once(':');
-    let (values, sizes) = parts.unwrap_or_else(|| panic!("{line:?} has no colon"));
+/// The number of each value's group, by the groups' sizes.
+fn numbers_of(sizes: &str) -> Vec<u16> {
     let size = |word: &str| {
         let size = word.parse::<usize>();
         size.unwrap_or_else(|error| panic!("{word:?}: {error}"))
     };
     let sizes = sizes.split_whitespace().map(size).enumerate();
-    let numbers = sizes.flat_map(|(number, size)| vec![number as u16; size]);
-    let values = values.split_whitespace().map(stored_value);
-    (values.collect(), numbers.collect())
+    sizes
+        .flat_map(|(number, size)| vec![number as u16; size])
+        .collect()
 }
 
 #[test]
 fn stored_answers_of_the_original() {
-    let lines = STORED.lines().filter(|line| !line.starts_with('#'));
-    let (mut cases, mut largest) = (0, 0);
-    for line in lines {
-        let (values, numbers) = stored_case(line);
+    let (mut count, mut largest) = (0, 0);
+    for (values, sizes) in cases(STORED) {
+        let numbers = numbers_of(sizes);
         check(&values, STORED_MARGIN, &numbers);
         let read = groups(&values, STORED_MARGIN);
         assert_eq!(read, numbers, "document 01's rule on {values:?}");
-        cases += 1;
+        count += 1;
         largest += usize::from(values.len() == MOST_VALUES);
     }
-    println!("{cases} cases, {largest} of the largest size");
+    println!("{count} cases, {largest} of the largest size");
     assert!(
-        cases > 3_000 && largest >= 3,
-        "{cases} cases, {largest} of the largest size"
+        count > 3_000 && largest >= 3,
+        "{count} cases, {largest} of the largest size"
     );
 }
 

@@ -2,17 +2,10 @@
 
 use grouping_tests::normal_of;
 use grouping_tests::samples::{values, Xorshift};
+use grouping_tests::stored::{cases, floats};
 
 const STORED: &str = include_str!("../data/normalized.txt");
 const MARGIN: f64 = 5.0;
-
-fn floats(words: &str) -> Vec<f64> {
-    let float = |word: &str| {
-        let bits = u64::from_str_radix(word, 16);
-        f64::from_bits(bits.unwrap_or_else(|error| panic!("{word:?}: {error}")))
-    };
-    words.split_whitespace().map(float).collect()
-}
 
 fn bits(values: &[f64]) -> Vec<u64> {
     values.iter().map(|x| x.to_bits()).collect()
@@ -39,18 +32,13 @@ fn normal(deltas: &[f64], x: f64) -> f64 {
 
 #[test]
 fn stored_answers() {
-    let cases: Vec<&str> = STORED
-        .lines()
-        .filter(|line| !line.starts_with('#'))
-        .collect();
-    for line in &cases {
-        let parts = line.split_once(':');
-        let (deltas, want) = parts.unwrap_or_else(|| panic!("{line:?} has no colon"));
-        let deltas = floats(deltas);
+    let mut count = 0;
+    for (deltas, want) in cases(STORED) {
         let got: Vec<f64> = deltas.iter().map(|&x| normal(&deltas, x)).collect();
         assert_eq!(bits(&got), bits(&floats(want)), "{deltas:?}");
+        count += 1;
     }
-    assert!(cases.len() > 2_000, "{} cases", cases.len());
+    assert!(count > 2_000, "{count} cases");
 }
 
 #[test]
