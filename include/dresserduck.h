@@ -15,7 +15,8 @@
  * the work slices are left 0 in as many places as they need, and what any slice held past these it still holds. Or `refusal` is the
  * number of the first refusal that applies and `place` says where: then every other field is 0, and every lent slice is as it was.
  *
- * The calls keep nothing from one to the next, and take no memory but what they are lent.
+ * The calls keep nothing from one to the next and take no memory but what they are lent and the stack, so that several threads may
+ * call at once, each with slices of its own to fill.
  */
 #ifndef DRESSERDUCK_H
 #define DRESSERDUCK_H
@@ -72,6 +73,7 @@ static inline double dresserduck_double(uint64_t bits)
     return x;
 }
 
+/* What dresserduck_encode answers; `refusal` and `place` as above. */
 typedef struct dresserduck_encoded {
     uint64_t refusal;
     uint64_t place;
@@ -99,6 +101,7 @@ dresserduck_encoded dresserduck_encode(
     uint16_t *work, size_t work_count,
     double *scratch, size_t scratch_count);
 
+/* What dresserduck_colour answers; `refusal` and `place` as above. */
 typedef struct dresserduck_coloured {
     uint64_t refusal;
     uint64_t place;
@@ -114,6 +117,7 @@ dresserduck_coloured dresserduck_colour(
     uint16_t *work, size_t work_count,
     double *scratch, size_t scratch_count);
 
+/* What dresserduck_stretch answers; `refusal` and `place` as above. */
 typedef struct dresserduck_stretched {
     uint64_t refusal;
     uint64_t place;
@@ -135,6 +139,7 @@ dresserduck_stretched dresserduck_stretch(
 /* The number that stands for a NonHit's group and pattern group. */
 enum { DRESSERDUCK_NO_GROUP = 65535 };
 
+/* What dresserduck_rhythm answers; `refusal` and `place` as above. */
 typedef struct dresserduck_grouped {
     uint64_t refusal;
     uint64_t place;
@@ -155,8 +160,8 @@ dresserduck_grouped dresserduck_rhythm(
     uint16_t *work, size_t work_count,
     double *scratch, size_t scratch_count);
 
-/* A field whose name ends in `_bits` is the bit pattern of a double, which dresserduck_double turns into one; a NaN is
- * 7FF8000000000000. */
+/* What dresserduck_record answers; `refusal` and `place` as above. A field whose name ends in `_bits` is the bit pattern of a
+ * double, which dresserduck_double turns into one; a NaN is 7FF8000000000000. */
 typedef struct dresserduck_recorded {
     uint64_t refusal;
     uint64_t place;
