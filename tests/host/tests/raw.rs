@@ -65,7 +65,7 @@ fn a_chart_without_objects_needs_no_memory() {
     assert_eq!(answers, [(0, 0), (0, 0), (9, 0), (0, 0), (9, 0)]);
 }
 
-/// To 16 or 32 bits each of them is 3 or a few more, or 0.
+/// Among them some that are 3 or 0 to arithmetic of 16 or 32 bits.
 const TOO_MANY: [usize; 6] = [16_385, 65_539, (1 << 32) + 3, 1 << 32, 1 << 63, usize::MAX];
 
 #[test]
