@@ -134,6 +134,9 @@ fn stretches_that_are_none_are_refused_9() {
         (5, 5),
         (0, 0),
         (0, usize::MAX),
+        // to 32 bits these are stretches
+        (1 << 32, 3),
+        (0, (1 << 32) + 3),
         (usize::MAX, usize::MAX),
         (usize::MAX, 0),
     ] {

@@ -186,7 +186,8 @@ fn windows_out_of_range_are_refused_8_and_groups_that_are_none_9() {
     for window in [1.0, 1000.0] {
         let groups = Groups::of(&chart);
         check_record(&chart, &groups, 1, window);
-        for group in [2, 3, LARGEST_CHART, usize::MAX] {
+        // the last three are 0 to 16 bits, 0 to 32 bits, and the largest there is
+        for group in [2, 3, LARGEST_CHART, 1 << 16, 1 << 32, usize::MAX] {
             refused(&chart, Some((group, window)), roomy(3), 9, 0);
         }
     }
