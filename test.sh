@@ -3,11 +3,14 @@
 set -eu
 cd "$(dirname "$0")"
 
+# rt runs this many checks at a time and waits for all of them before it starts the next: with more than there are processors none stands idle
+export RT_JOBS=4
+
 rt fmt --check
+rt check numeric_host grouping_host dresserduck letters
 rt staticlib numeric_host
 rt staticlib grouping_host
 rt staticlib dresserduck
-rt check letters
 (cd tests/numeric && cargo test --release --offline --quiet)
 tests/numeric/table.sh
 (cd tests/grouping && cargo test --release --offline --quiet)
