@@ -6,13 +6,13 @@ use Prim.Native.Nat.{ℕ, zero, suc, _*_}
 use native.Mathlib.Nat.{mul-pos, zero-lt-suc, mul-comm}
 use lib.IntN.{ℤ}
 use lib.Dec.{T, eqb·suc-zero}
-use lib.Ieee.{Float, nan, inf, fin, binary64, up, down, le, round, sub, div}
-use lib.Ieee.Bits.{is-true}
+use lib.Ieee.{Float, nan, inf, fin, binary64, fits, up, down, le, round, div}
 use lib.Ieee.Fits.{up-pos, down-pos}
 use lib.Ieee.Positive.{positive, between}
 use lib.Ieee.Scale.{round-same}
 use Rattle.numeric.specs.Near.{isNear}
-use Rattle.numeric.proofs.Values.{zero64}
+use Rattle.numeric.proofs.Values.{Number, zero64}
+use Rattle.numeric.proofs.near.Laws.{near-self}
 use Rattle.evaluator_color.specs.Color.{one}
 use Rattle.evaluator_color.proofs.BoundLaws.{lowest, highest}
 
@@ -40,9 +40,9 @@ own-quotient (fin false (suc m) e) h = whole-quotient m e
 pub range-quotient : (p : Float) → T (le lowest p) → T (le p highest) → div binary64 p p ≡ one
 range-quotient p lo hi = own-quotient p (between lowest p highest tt tt lo hi)
 
-same-near : (tolerance : Float) → T (le zero64 tolerance) → isNear tolerance one one ≡ true
-unfolding isNear sub
-same-near tolerance t = is-true (le zero64 tolerance) t
+one-number : Number one
+unfolding fits
+one-number = record { is-finite = tt; is-held = tt }
 
 pub own-near : (tolerance p : Float) → T (le zero64 tolerance) → T (le lowest p) → T (le p highest) → isNear tolerance one (div binary64 p p) ≡ true
-own-near tolerance p t lo hi = ap (isNear tolerance one) (range-quotient p lo hi) ∙ same-near tolerance t
+own-near tolerance p t lo hi = ap (isNear tolerance one) (range-quotient p lo hi) ∙ near-self tolerance one-number t

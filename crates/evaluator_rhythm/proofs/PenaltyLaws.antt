@@ -1,5 +1,5 @@
 -- Size of the penalty for the crates above: with a duration up to 2 ^ 25 in size and a window from 1.0 on it is finite, so no NaN. Each formula is bounded by what its parts are. Assumes nothing.
-use mathlib.Core.Bool.{Bool, true, false, not, cond}
+use mathlib.Core.Bool.{true, false, not, cond}
 use mathlib.Core.List.{List}
 use Prim.Native.Nat.{ℕ, _+_, _*_, _^_}
 use native.Mathlib.Nat.{zero-lt-suc}
@@ -11,15 +11,11 @@ use lib.Ieee.{Float, nan, inf, fin, binary64, fits, isNan, le, sub, mul, div}
 use lib.Ieee.Fits.{mul-fits}
 use lib.Ieee.Positive.{positive, between, le→cross}
 use Rattle.numeric.proofs.Values.{number-no-nan}
-use Rattle.numeric.proofs.Bounded.{Bounded, AtLeast, bounded-number, round-bounded, sub-bounded, mul-bounded, div-bounded}
+use Rattle.numeric.proofs.Bounded.{Bounded, AtLeast, bounded-number, round-bounded, cond-bounded, sub-bounded, mul-bounded, div-bounded}
 use Rattle.grouping_same_rhythm.specs.Own.{one}
 use Rattle.grouping_same_rhythm.specs.declared.own.Own.{Own}
 use Rattle.grouping_same_rhythm.specs.declared.owns.Recent.{Recent}
 use Rattle.evaluator_rhythm.specs.RepeatedInterval.{eightTenths, present, somePair, walkPenalty, newestFirst, smaller, larger, durationPenalty, repeatedIntervalPenalty}
-
-either : (b : Bool) (x y : Float) (B : ℕ) → Bounded x B → Bounded y B → Bounded (cond b x y) B
-either true x y B h g = h
-either false x y B h g = g
 
 -- ---- the walks: 0.8 or 1.0
 one-bounded : Bounded one 1
@@ -29,16 +25,16 @@ walk-bounded : (threshold : Float) (k : ℕ) (owns : List Own) → Bounded (walk
 unfolding walkPenalty eightTenths
 walk-bounded threshold k owns =
     let xs = present (take k owns) in
-    either (ltb (length xs) k) one (cond (somePair threshold xs) eightTenths one) 1 one-bounded
-    (either (somePair threshold xs) eightTenths one 1 (round-bounded false 8 10 1 (zero-lt-suc 9) (leb→le 1 (2 ^ 53) tt) (leb→le 8 10 tt)) one-bounded)
+    cond-bounded (ltb (length xs) k) one (cond (somePair threshold xs) eightTenths one) 1 one-bounded
+    (cond-bounded (somePair threshold xs) eightTenths one 1 (round-bounded false 8 10 1 (zero-lt-suc 9) (leb→le 1 (2 ^ 53) tt) (leb→le 8 10 tt)) one-bounded)
 
 smaller-bounded : (x y : Float) (B : ℕ) → Bounded x B → Bounded y B → Bounded (smaller x y) B
 unfolding smaller
-smaller-bounded x y B h g = either (le x y) x y B h g
+smaller-bounded x y B h g = cond-bounded (le x y) x y B h g
 
 larger-bounded : (x y : Float) (B : ℕ) → Bounded x B → Bounded y B → Bounded (larger x y) B
 unfolding larger
-larger-bounded x y B h g = either (le y x) x y B h g
+larger-bounded x y B h g = cond-bounded (le y x) x y B h g
 
 -- ---- a window that passed its test of range, from 1.0 to 1000.0
 abbrev pub thousand : Float
@@ -75,7 +71,7 @@ module _ (threshold : Float) (owns : Recent) (notes : ℕ) (duration window : Fl
       let short = cond (ltb notes 6) four one in
       mul-bounded (smaller long short) (durationPenalty duration window) 1 (2 ^ 26 + 1) (leb→le (2 ^ 26 + 1) (2 ^ 53) tt)
       (smaller-bounded long short 1 (walk-bounded threshold 3 (newestFirst owns))
-      (either (ltb notes 6) four one 1 (walk-bounded threshold 4 (newestFirst owns)) one-bounded))
+      (cond-bounded (ltb notes 6) four one 1 (walk-bounded threshold 4 (newestFirst owns)) one-bounded))
       (duration-bounded duration window d w)
 
   pub penalty-fits : T (fits binary64 (repeatedIntervalPenalty threshold owns notes duration window))

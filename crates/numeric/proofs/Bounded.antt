@@ -68,7 +68,7 @@ round-bounded false num den B D k h = round-up num den B D k h
 round-bounded true num den B D k h = subst (λ (z : Float). Bounded z B) (neg-round num den) (bounded-neg (round binary64 false num den) B (round-up num den B D k h))
 
 -- ---- the operations
-cond-bounded : (b : Bool) (x y : Float) (B : ℕ) → Bounded x B → Bounded y B → Bounded (cond b x y) B
+pub cond-bounded : (b : Bool) (x y : Float) (B : ℕ) → Bounded x B → Bounded y B → Bounded (cond b x y) B
 cond-bounded true x y B h k = h
 cond-bounded false x y B h k = k
 

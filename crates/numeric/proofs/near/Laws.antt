@@ -1,5 +1,5 @@
--- Near, of finite values: it is symmetric, and of three values in order the middle one is near the first if the last is. The margin may be any value.
--- Both go by the distance of the two values in units of the smallest value, which the difference rounds. Assumes nothing.
+-- Near, of finite values: it is symmetric, a value is near itself, and of three values in order the middle one is near the first if the last is. The margin may be any value.
+-- All go by the distance of the two values in units of the smallest value, which the difference rounds. Assumes nothing.
 use mathlib.Core.Path.{_≡_, refl, sym, ap, _∙_, subst}
 use mathlib.Core.Bool.{Bool, true, false, not, _&&_, cond, true≢false}
 use Prim.Native.Nat.{ℕ, zero, suc, _+_, _-_, _*_, _≤_, _<_}
@@ -9,12 +9,13 @@ use lib.IntN.{ℤ}
 use lib.Dec.{T, ltb, eqb, ltb→lt, nltb→le, eqb→eq}
 use lib.Pow.{pow-pos}
 use lib.Ieee.{Float, nan, inf, fin, binary64, low, up, down, fits, le, neg, round, sum, add, sub}
+use lib.Ieee.Bits.{is-true}
 use lib.Ieee.Fits.{neg-fits, down-pos, and-l, and-r, and-i, eq→eqb}
 use lib.Ieee.Positive.{through}
 use lib.Ieee.Order.{round-mono}
 use lib.Ieee.Scale.{finite}
 use Rattle.numeric.specs.Near.{absOf, isNear}
-use Rattle.numeric.proofs.Values.{Number, at-most, of-at-most, not-zero}
+use Rattle.numeric.proofs.Values.{Number, zero64, at-most, of-at-most, not-zero}
 use Rattle.numeric.proofs.Units.{L, unitsOf, plus, minus, sum-units, leq-units}
 use Rattle.numeric.proofs.Sign.{Signed, neg-round, round-signed}
 
@@ -133,6 +134,13 @@ flipped t n d g = neg-fits binary64 (fin t n d) g
 swap : (a b : ℕ) → gap a b ≡ gap b a
 swap a b = omega arith
 
+nowhere : (a : ℕ) → gap a a ≡ 0
+nowhere a = omega arith
+
+zero-rounded : round binary64 false 0 L ≡ zero64
+unfolding round
+zero-rounded = refl
+
 shorter : (a a′ b b′ c c′ : ℕ) → a + b′ ≤ b + a′ → b + c′ ≤ c + b′ → gap (b + a′) (a + b′) ≤ gap (c + a′) (a + c′)
 shorter a a′ b b′ c c′ h k = omega arith
 
@@ -180,3 +188,15 @@ module _ (margin : Float) where
 
   pub near-between : {x y z : Float} → Number x → Number y → Number z → T (le x y) → T (le y z) → T (isNear margin z x) → T (isNear margin y x)
   near-between {x} {y} {z} p q r = between-fin x y z (p .is-finite) (q .is-finite) (r .is-finite) (p .is-held) (q .is-held) (r .is-held)
+
+  self-fin : (x : Float) → T (finite x) → T (fits binary64 x) → T (le zero64 margin) → isNear margin x x ≡ true
+  self-fin nan p f t = absurd p
+  self-fin (inf s) p f t = absurd p
+  self-fin (fin s m e) p f t =
+      near-units s m e s m e f f
+      ∙ ap (λ (k : ℕ). le (round binary64 false k L) margin) (nowhere (plus s (unitsOf m e) + minus s (unitsOf m e)))
+      ∙ ap (λ (z : Float). le z margin) zero-rounded
+      ∙ is-true (le zero64 margin) t
+
+  pub near-self : {x : Float} → Number x → T (le zero64 margin) → isNear margin x x ≡ true
+  near-self {x} p t = self-fin x (p .is-finite) (p .is-held) t
