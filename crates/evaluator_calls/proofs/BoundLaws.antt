@@ -1,7 +1,7 @@
 -- Sizes: every colour value of an accepted chart, and the mean of every stretch of it, is finite, no NaN, and at most `largestColour` in size.
 -- A sum of m values is at most m times that, so divided by m it is at most that again. Assumes nothing.
 use mathlib.Core.Path.{_≡_, sym, ap, _∙_, subst}
-use mathlib.Core.Bool.{Bool, true, false, not, cond}
+use mathlib.Core.Bool.{Bool, false, not, cond}
 use mathlib.Core.List.{List, [], _∷_}
 use Prim.Native.Nat.{ℕ, zero, suc, _+_, _-_, _*_, _^_, _≤_, _<_}
 use native.Mathlib.Nat.{le-trans, le-of-eq, mul-one, mul-assoc, mul-comm, mul-right-comm, mul-le-mul-right, mul-pos, zero-mul, zero-add, zero-lt-suc, suc-mul, add-assoc, add-comm}
@@ -19,9 +19,10 @@ use Rattle.numeric.proofs.Bounded.{Bounded, bounded-more, bounded-number, bound
 use Rattle.grouping_marks.specs.Over.{part}
 use Rattle.grouping_marks.proofs.OverLaws.{length-part, getD-part}
 use Rattle.grouping_chart.specs.Chart.{Chart, size}
-use Rattle.grouping_chart.specs.Refusal.{within, ratioGood, verdict}
+use Rattle.grouping_chart.specs.Refusal.{verdict}
 use Rattle.grouping_chart.specs.declared.chart.Verdict.the-variants.{Accepted}
 use Rattle.grouping_chart.proofs.AcceptedLaws.{GoodChart, accepted-good}
+use Rattle.grouping_chart.proofs.RangeLaws.{ratio-range}
 use Rattle.grouping_encode.specs.Encode.{searchLimit}
 use Rattle.evaluator_color.specs.Color as color
 use Rattle.evaluator_color.specs.Color.{objectSum}
@@ -87,15 +88,7 @@ quotient-bounded (fin s p e) (fin t (suc n) d) m B l k h v =
     (round-bounded (unlike s t) (p * up e * down d) (suc n * up d * down e) B (mul-pos (mul-pos (zero-lt-suc n) (up-pos d)) (down-pos e)) k
     (quotient (p * up e) (suc n * up d) m B (down d) (down e) h (v .1)))
 
--- ---- the ratios of an accepted chart
-in-range : (r : Float) → T (ratioGood r) → T (le lowest r) × T (le r highest)
-unfolding ratioGood within
-in-range r h = both (le lowest r) (le r highest) h
-  where
-    both : (a b : Bool) → T (cond a b false) → T a × T b
-    both true b h = (tt, h)
-    both false b h = absurd h
-
+-- ---- the values of an accepted chart
 module _ (c : Chart) (beside : ℕ) (accepted : verdict c beside ≡ Accepted) where
   good : GoodChart c beside
   good = accepted-good c beside accepted
@@ -105,13 +98,13 @@ module _ (c : Chart) (beside : ℕ) (accepted : verdict c beside ≡ Accepted) w
   unfolding valuesOf colourAt
   value-is i h = value-of searchLimit baseTolerance (c .kinds) (c .ratios) i h
 
-  ratio-range : (i : ℕ) → i < size c → T (le lowest (getD (c .ratios) i nan)) × T (le (getD (c .ratios) i nan) highest)
-  ratio-range i h = in-range (getD (c .ratios) i nan) (good .objects i nan h .ratio)
+  ratio-at : (i : ℕ) → i < size c → T (le lowest (getD (c .ratios) i nan)) × T (le (getD (c .ratios) i nan) highest)
+  ratio-at i h = ratio-range (getD (c .ratios) i nan) (good .objects i nan h .ratio)
 
   pub value-bounded : (i : ℕ) → i < size c → Bounded (getD (valuesOf c) i nan) largestColour
   value-bounded i h =
-      let r = ratio-range i h in
-      let p = ratio-range (i - 2) (omega arith) in
+      let r = ratio-at i h in
+      let p = ratio-at (i - 2) (omega arith) in
       subst (λ (x : Float). Bounded x largestColour) (sym (value-is i h))
       (formulas.colour-bounded baseTolerance i (getD (c .ratios) i nan) (getD (c .ratios) (i - 2) nan) (r .0) (r .1) (p .0) (p .1) (lookedAt searchLimit (c .kinds) i))
 

@@ -8,16 +8,17 @@ use borrow.Author.Tests.{lt-ltb, le-ltb}
 use lib.Dec.{T, ltb}
 use lib.IntN.{pos}
 use lib.ListN.{length, getD}
-use lib.Ieee.{Float, nan, fin, le}
+use lib.Ieee.{Float, nan, fin}
 use lib.Ieee.Scale.{finite}
 use Rattle.numeric.proofs.Values.{finite-between}
 use Rattle.grouping_chart.specs.Chart.{Chart, size}
-use Rattle.grouping_chart.specs.Refusal.{within, timeGood, verdict, refused}
+use Rattle.grouping_chart.specs.Refusal.{timeGood, verdict, refused}
 use Rattle.grouping_chart.specs.Room.{shortRefusal}
 use Rattle.grouping_chart.specs.declared.object.ObjectIndex.{ObjectIndex}
 use Rattle.grouping_chart.specs.declared.chart.Verdict.{Verdict}
 use Rattle.grouping_chart.specs.declared.chart.Verdict.the-variants.{Accepted, Refused}
 use Rattle.grouping_chart.proofs.AcceptedLaws.{accepted-good}
+use Rattle.grouping_chart.proofs.RangeLaws.{time-range}
 use Rattle.grouping_chart.proofs.RefusalLaws.{verdict-is}
 use Rattle.grouping_chart.proofs.RoomLaws.{roomy, none-asked}
 use Rattle.grouping_rhythm.specs.Rhythm.{baseMargin, groupsIn}
@@ -29,17 +30,10 @@ use Rattle.evaluator_record.specs.Calls.{Memory, Outcome, baseThreshold,
 use Rattle.evaluator_record.specs.Passes.{GroupRoom, Recorded}
 
 -- ---- a time in range is finite
-both-T : (a b : Bool) → T (cond a b false) → T a × T b
-both-T true b t = (tt, t)
-both-T false b t = absurd t
-
 finite-time : (x : Float) → T (timeGood x) → T (finite x)
-unfolding timeGood within
 finite-time x t =
-    let lo = fin true 1 (pos 24) in
-    let hi = fin false 1 (pos 24) in
-    let b = both-T (le lo x) (le x hi) t in
-    finite-between lo x hi tt tt (b .0) (b .1)
+    let b = time-range x t in
+    finite-between (fin true 1 (pos 24)) x (fin false 1 (pos 24)) tt tt (b .0) (b .1)
 
 -- how many groups a chart has
 abbrev pub groupsOf : Chart → ℕ

@@ -5,3 +5,6 @@ pub mod RoomLaws
 pub mod ObjectLaws
 pub mod NoteLaws
 pub mod Examples
+pub mod SeenLaws
+pub mod RangeLaws
+pub mod CutLaws
