@@ -2,14 +2,13 @@
 use mathlib.Core.Path.{_≡_, refl, sym, ap, _∙_}
 use mathlib.Core.Logic.{_⊎_, _↔_}
 use mathlib.Core.Bool.{true, cond, not}
-use mathlib.Core.List.{List}
 use Prim.Native.Nat.{ℕ, _-_, _≤_, _<_}
 use native.Mathlib.Omega.{arith}
 use borrow.Author.Tests.{le-ltb, lt-leb}
 use lib.Dec.{eqb}
-use lib.ListN.{length, drop, getD, List·getD-append}
+use lib.ListN.{getD}
 use lib.Ieee.{nan}
-use Rattle.grouping_marks.specs.Over.{over}
+use Rattle.grouping_marks.proofs.PieceLaws.{getD-over}
 use Rattle.grouping_chart.specs.Chart.{Chart, size}
 use Rattle.grouping_chart.specs.Refusal.{verdict}
 use Rattle.grouping_chart.specs.declared.chart.Verdict.the-variants.{Accepted}
@@ -31,11 +30,6 @@ use Rattle.agreement.specs.Landmark.{Landmark}
 use Rattle.agreement_colour.specs.ColourClaim.{Counterparts, CommonTail, Settled, ColourClaim}
 use Rattle.agreement_colour.specs.CallsClaim.{AlikeCharts, EncodeClaim, CallsClaim}
 use Rattle.agreement_colour.proofs.ColourClaimed.{colour-claim}
-
--- what was written is read back
-getD-over : {A : Type 0} (new old : List A) (i : ℕ) (d : A) → i < length new → getD (over new old) i d ≡ getD new i d
-unfolding over
-getD-over new old i d h = List·getD-append new (drop (length new) old) d i h
 
 -- ---- one accepted call of colour or stretch
 

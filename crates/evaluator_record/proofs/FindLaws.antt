@@ -14,6 +14,7 @@ use Rattle.grouping_same_rhythm.specs.SameRhythm.{groupObjects, firstsOf, start
 use Rattle.grouping_same_rhythm.specs.SamePatterns.{patternOf}
 use Rattle.grouping_same_rhythm.specs.Passes.{IntervalsRoom}
 use Rattle.grouping_same_rhythm.specs.declared.patterns.Pattern.{Pattern}
+use Rattle.grouping_same_rhythm.proofs.MadeLaws.{groupIntervals-made}
 use Rattle.evaluator_rhythm.specs.RepeatedInterval.{repeatedIntervalPenalty}
 use Rattle.evaluator_record.specs.Record.{recordOf}
 use Rattle.evaluator_record.specs.Passes.{GroupRoom, LocatedIs, FoundIs, Recorded}
@@ -59,8 +60,9 @@ module _ {margin : Float} {kinds : List ℕ} {starts deltas : List Float} {g : �
     long = length-group-intervals margin kinds deltas (room .whole) starts ∙ sym (at .groups)
 
     written : scratch ≡ over intervals scratch₁
-    unfolding groupIntervals
-    written = filled ∙ ap (λ (l : List ℕ). over (intervalsOf margin (startsOf starts l)) scratch₁) lent
+    written =
+        filled ∙ ap (λ (l : List ℕ). over (intervalsOf margin (startsOf starts l)) scratch₁) lent
+        ∙ ap (λ (l : List Float). over l scratch₁) (sym (groupIntervals-made margin kinds deltas starts))
 
     floats-left : length scratch ≡ length scratch₀
     floats-left = ap length written ∙ length-over intervals scratch₁ (omega (arith, long, few, at .floats, room .floats)) ∙ at .floats

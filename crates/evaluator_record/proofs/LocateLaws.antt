@@ -13,18 +13,20 @@ use Rattle.grouping_marks.specs.Over.{over, put, part}
 use Rattle.grouping_marks.specs.Marks.{groupCount}
 use Rattle.grouping_marks.specs.Parted.{parted}
 use Rattle.grouping_marks.proofs.OverLaws.{length-over, front, drop-over, length-part, getD-part, length-put, drop-put, part-put-same, getD-put-before}
+use Rattle.grouping_marks.proofs.PieceLaws.{over-pieces}
 use Rattle.grouping_chart.specs.Notes.{noteObjects, noteDeltas}
 use Rattle.grouping_chart.proofs.NoteLaws.{object-below, note-deltas-all}
 use Rattle.grouping_interval.specs.IntervalGrouping.{intervalMarks}
 use Rattle.grouping_notes.specs.Notes.{NotesListed}
-use Rattle.grouping_same_rhythm.specs.SameRhythm.{rhythmMarks, groupObjects, groupDeltas, firstsOf}
+use Rattle.grouping_same_rhythm.specs.SameRhythm.{groupObjects, firstsOf}
 use Rattle.grouping_same_rhythm.specs.Own.{ownsOf}
 use Rattle.grouping_same_rhythm.specs.Passes.{GroupThere, ReachedIs, FirstsRoom, FirstsListed, recentOf}
 use Rattle.grouping_same_rhythm.specs.declared.owns.Reached.{Reached}
+use Rattle.grouping_same_rhythm.proofs.MadeLaws.{rhythmMarks-made, groupObjects-made, groupDeltas-made}
 use Rattle.grouping_rhythm.specs.Rhythm.{groupsIn}
 use Rattle.evaluator_record.specs.Record.{objectsIn, ownsAt, durationOf}
 use Rattle.evaluator_record.specs.Passes.{GroupRoom, LocatedIs}
-use Rattle.grouping_rhythm.proofs.TablesLaws.{length-first-objects}
+use Rattle.grouping_rhythm.proofs.TablesLaws.{groups-counted, length-first-objects}
 use Rattle.evaluator_record.proofs.GroupLaws.{objects-few, deltas-noted, groups-few}
 
 -- the group's objects can be read, and each has a start
@@ -73,24 +75,25 @@ module _ {margin : Float} {kinds : List ℕ} {starts deltas : List Float} {g : �
   }
 
   there : GroupThere margin (noteDeltas kinds deltas) g
-  unfolding groupsIn rhythmMarks
-  there = record { finite = record { each = note-deltas-all (λ (x : Float). T (finite x)) kinds deltas (room .numbers) }; there = room .there }
+  there = record { finite = record { each = note-deltas-all (λ (x : Float). T (finite x)) kinds deltas (room .numbers) }; there = rw (← groups-counted margin kinds deltas (room .whole)) (room .there) }
 
   pub group-there : GroupThere margin (take m scratch₁) g
   group-there = subst (λ (ds : List Float). GroupThere margin ds g) (sym deltas-front) there
 
+  objects-grouped : groupObjects margin kinds deltas ≡ parted (intervalMarks margin (noteDeltas kinds deltas)) (noteObjects kinds)
+  objects-grouped = groupObjects-made margin kinds deltas ∙ ap (λ (ms : List ℕ). parted ms (noteObjects kinds)) (rhythmMarks-made margin kinds deltas)
+
   -- ---- and so are the groups' first objects
   module _ {work₂ : List ℕ} {groups : ℕ} (firsts : FirstsListed margin (take m scratch₁) work₁ work₂ (length kinds) groups) where
     counted : groups ≡ groupsIn margin kinds deltas
-    unfolding groupsIn rhythmMarks
-    counted = firsts .count ∙ (λ t. groupCount (intervalMarks margin (deltas-front t)))
+    counted = firsts .count ∙ (λ t. groupCount (intervalMarks margin (deltas-front t))) ∙ sym (groups-counted margin kinds deltas (room .whole))
 
     written : work₂ ≡ put (length kinds) (firstsOf (groupObjects margin kinds deltas)) work₁
-    unfolding groupObjects rhythmMarks
     written =
         firsts .objects
         ∙ ap (λ (n : ℕ). put (length kinds) (firstsOf (parted (intervalMarks margin (take m scratch₁)) (take n work₁))) work₁) front-long
         ∙ (λ t. put (length kinds) (firstsOf (parted (intervalMarks margin (deltas-front t)) (objects-front t))) work₁)
+        ∙ ap (λ (l : List (List ℕ)). put (length kinds) (firstsOf l) work₁) (sym objects-grouped)
 
     firsts-long : length (firstsOf (groupObjects margin kinds deltas)) ≡ groups
     firsts-long = length-first-objects margin kinds deltas (room .whole) ∙ sym counted
@@ -129,9 +132,10 @@ module _ {margin : Float} {kinds : List ℕ} {starts deltas : List Float} {g : �
       }
 
       group-notes : objectsIn margin kinds deltas g ≡ part (r .at) (r .end - r .at) (noteObjects kinds)
-      unfolding objectsIn groupObjects rhythmMarks
+      unfolding objectsIn
       group-notes =
-          (λ t. getD (parted (intervalMarks margin (sym deltas-front t)) (noteObjects kinds)) g [])
+          ap (λ (l : List (List ℕ)). getD l g []) objects-grouped
+          ∙ (λ t. getD (parted (intervalMarks margin (sym deltas-front t)) (noteObjects kinds)) g [])
           ∙ reached .notes (noteObjects kinds) (omega (arith, listed .count, front-long))
 
       noted-long : length (objectsIn margin kinds deltas g) ≡ r .end - r .at
@@ -155,8 +159,11 @@ module _ {margin : Float} {kinds : List ℕ} {starts deltas : List Float} {g : �
           ∙ ap (λ (n : ℕ). getD (objectsIn margin kinds deltas g) (n - 1) 0) (sym noted-long)
 
       owns-is : r .owns ≡ ownsAt margin kinds deltas g
-      unfolding ownsAt groupDeltas rhythmMarks
-      owns-is = reached .owns ∙ (λ t. recentOf (ownsOf margin (parted (intervalMarks margin (deltas-front t)) (deltas-front t))) g)
+      unfolding ownsAt
+      owns-is =
+          reached .owns ∙ (λ t. recentOf (ownsOf margin (parted (intervalMarks margin (deltas-front t)) (deltas-front t))) g)
+          ∙ ap (λ (l : List (List Float)). recentOf (ownsOf margin l) g)
+          (sym (groupDeltas-made margin kinds deltas ∙ ap (λ (ms : List ℕ). parted ms (noteDeltas kinds deltas)) (rhythmMarks-made margin kinds deltas)))
 
       pub located : length left ≡ length (take m scratch₁)
           → LocatedIs margin kinds starts deltas g work₀ work₂ scratch₀ (left ++ drop m scratch₁) (
@@ -168,10 +175,10 @@ module _ {margin : Float} {kinds : List ℕ} {starts deltas : List Float} {g : �
             groups = groups;
           }
           )
-      unfolding over durationOf
+      unfolding durationOf
       located kept =
           let long : length left ≡ m = kept ∙ front-long in
-          let back : left ++ drop m scratch₁ ≡ over left scratch₁ = ap (λ (k : ℕ). left ++ drop k scratch₁) (sym long) in
+          let back : left ++ drop m scratch₁ ≡ over left scratch₁ = over-pieces left scratch₁ m long in
           record {
             first = first-is;
             notes = sym noted-long;

@@ -4,12 +4,12 @@ use mathlib.Core.Logic.{inl, inr}
 use mathlib.Core.List.{List}
 use Prim.Native.Nat.{ℕ, _+_, _*_, _≤_}
 use native.Mathlib.Omega.{arith}
-use lib.ListN.{length, take, drop}
-use lib.Seq.{take-take}
+use lib.ListN.{length, drop}
 use Rattle.grouping_marks.specs.Over.{put, part}
 use Rattle.grouping_marks.specs.Marks.{groupCount, groupNumbers, groupPlaces, groupSizes, groupFirsts}
 use Rattle.grouping_marks.specs.Passes.{Room}
 use Rattle.grouping_marks.proofs.OverLaws.{length-part, length-put, part-put-same, part-put-before, part-put-after, drop-put}
+use Rattle.grouping_marks.proofs.PieceLaws.{part-shorter}
 use Rattle.grouping_marks.proofs.MarksLaws.{length-numbers, length-places, length-sizes, length-firsts, count-le}
 use Rattle.grouping_color.specs.MonoStreak.{streakMarks, streakOf, streakLengths, streakTypes}
 use Rattle.grouping_color.specs.AlternatingMonoPattern.{patternMarks, coupled}
@@ -83,10 +83,6 @@ kept-then a b = record {
   place = b .place ∙ a .place;
   outside = outside-then (a .outside) (b .outside);
 }
-
-part-shorter : (a s n : ℕ) (v w : List ℕ) → s ≤ n → part a n w ≡ part a n v → part a s w ≡ part a s v
-unfolding part
-part-shorter a s n v w h e = sym (take-take s n (drop a w) h) ∙ ap (take s) e ∙ take-take s n (drop a v) h
 
 -- ---- streaks
 

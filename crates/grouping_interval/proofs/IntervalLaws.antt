@@ -1,14 +1,15 @@
 -- The marks of a grouping by intervals: a mark for each value, 1 for the first, and what the marks of the values behind one are, case by case.
 use mathlib.Core.Path.{_≡_, refl, ap}
-use mathlib.Core.Bool.{Bool, true, false, cond}
+use mathlib.Core.Bool.{Bool, true, false, cond, _&&_}
 use mathlib.Core.List.{List, [], _∷_}
 use Prim.Native.Nat.{ℕ, suc, _<_}
 use native.Mathlib.Nat.{not-suc-le-zero}
 use lib.Dec.{ltb}
 use lib.ListN.{length, getD}
-use lib.Ieee.{Float}
+use lib.Ieee.{Float, binary64, add, lt}
 use Rattle.numeric.specs.Near.{isNear}
 use Rattle.grouping_interval.specs.IntervalGrouping.{rises, marksAfter, intervalMarks}
+use Rattle.grouping_interval.specs.GroupEnd.{marksFrom}
 
 -- ---- the cases
 
@@ -28,19 +29,37 @@ module _ (margin : Float) (many : Bool) (last v w : Float) (rest : List Float) w
   unfolding marksAfter
   marks-neither e r = rw (e, r, marksAfter)
 
+module _ (margin : Float) (many : Bool) where
+  -- the last value
+  pub marks-one : (last v : Float) → marksAfter margin many last (v ∷ []) ≡ cond (many && isNear margin v last) 0 1 ∷ []
+  unfolding marksAfter
+  marks-one last v = refl
+
+  pub marks-none : (last : Float) → marksAfter margin many last [] ≡ []
+  unfolding marksAfter
+  marks-none last = refl
+
+  -- the first of all opens a group
+  pub marks-first : (v : Float) (rest : List Float) → marksFrom margin many (v ∷ rest) ≡ 1 ∷ marksAfter margin many v rest
+  unfolding marksFrom
+  marks-first v rest = refl
+
 -- the last value of more than two is taken if it is near the one before
 pub marks-last : (margin last v : Float) → marksAfter margin true last (v ∷ []) ≡ cond (isNear margin v last) 0 1 ∷ []
-unfolding marksAfter
-marks-last margin last v = refl
+marks-last margin last v = marks-one margin true last v
 
 -- the last of two opens a group
 pub marks-few : (margin last v : Float) → marksAfter margin false last (v ∷ []) ≡ 1 ∷ []
-unfolding marksAfter
-marks-few margin last v = refl
+marks-few margin last v = marks-one margin false last v
+
+-- the test as code makes it
+pub rises-by : (margin v w : Float) → rises margin v w ≡ lt (add binary64 v margin) w
+unfolding rises
+rises-by margin v w = refl
 
 -- ---- the lengths
 
-pub length-after : (margin : Float) (many : Bool) (last : Float) (values : List Float) → length (marksAfter margin many last values) ≡ length values
+length-after : (margin : Float) (many : Bool) (last : Float) (values : List Float) → length (marksAfter margin many last values) ≡ length values
 unfolding marksAfter
 length-after margin many last [] = refl
 length-after margin many last (v ∷ []) = refl

@@ -3,3 +3,4 @@ pub mod Examples
 pub mod GroupLaws
 pub mod NumberLaws
 pub mod EndLaws
+pub mod SyncLaws

@@ -4,3 +4,10 @@ pub mod ScanLaws
 pub mod MarksLaws
 pub mod PassLaws
 pub mod PartedLaws
+pub mod PieceLaws
+pub mod WalkLaws
+pub mod AppendLaws
+pub mod TableLaws
+pub mod CutLaws
+pub mod NumberLaws
+pub mod SplitLaws

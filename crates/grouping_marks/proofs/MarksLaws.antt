@@ -30,7 +30,7 @@ place-le p m = go (eqb m 0)
 
 -- ---- the count
 
-opened-bounds : (c m : ℕ) → (c ≤ opened c m) × ((1 ≤ opened c m) × (opened c m ≤ c + 1))
+pub opened-bounds : (c m : ℕ) → (c ≤ opened c m) × ((1 ≤ opened c m) × (opened c m ≤ c + 1))
 unfolding opened
 opened-bounds c m = go (eqb m 0) (eqb c 0) refl
   where

@@ -16,7 +16,8 @@ use Rattle.numeric.proofs.Values.{Number}
 use Rattle.numeric.proofs.order.Laws.{antisym}
 use Rattle.grouping_marks.specs.Over.{over}
 use Rattle.grouping_marks.proofs.OverLaws.{length-over, front}
-use Rattle.grouping_normalizer.specs.Ordered.{ordered}
+use Rattle.grouping_marks.proofs.PieceLaws.{over-pieces}
+use Rattle.grouping_normalizer.specs.Ordered.{insert, ordered}
 use Rattle.grouping_normalizer.specs.Normalizer.{alike, unrepeated, distinct, sets, middleOf, normalOf, Distinct, NormalOf}
 use Rattle.grouping_normalizer.proofs.InsertLaws.{Numbers}
 use Rattle.grouping_normalizer.proofs.OrderedLaws.{number-at, length-ordered, numbers-ordered}
@@ -160,7 +161,7 @@ module _ {s w : List Float} {n k i : ℕ} (x : Thinning s w n k i) where
         }
 
   pub thinning-end : n ≤ i → (old : List Float) → s ≡ ordered old → Distinct old w (k + 1)
-  unfolding distinct over unrepeated
+  unfolding distinct unrepeated
   thinning-end h old e =
       let r : k + 1 ≤ length w = omega (arith, x .long, x .behind, x .upto) in
       let u : unrepeated s ≡ take (k + 1) w =
@@ -174,7 +175,7 @@ module _ {s w : List Float} {n k i : ℕ} (x : Thinning s w n k i) where
             sym (take-append-drop (k + 1) w)
             ∙ ap (λ (z : List Float). z ++ drop (k + 1) w) (sym u)
             ∙ ap (λ (z : List Float). unrepeated s ++ z) (x .rest)
-            ∙ ap (λ (j : ℕ). unrepeated s ++ drop j s) (sym l)
+            ∙ over-pieces (unrepeated s) s (k + 1) l
             ∙ ap (λ (z : List Float). over (unrepeated z) z) e;
         count = sym l ∙ ap (λ (z : List Float). length (unrepeated z)) e;
       }
@@ -182,10 +183,17 @@ module _ {s w : List Float} {n k i : ℕ} (x : Thinning s w n k i) where
   pub thinning-long : (old : List Float) → s ≡ ordered old → length w ≡ length old
   thinning-long old e = x .long ∙ sym (x .size) ∙ long-as old e
 
+-- at most one value is in order, and no other is alike
+pub few-left : (xs : List Float) → length xs < 2 → xs ≡ over (distinct xs) (ordered xs)
+unfolding distinct unrepeated ordered insert
+few-left [] h = over-pieces [] [] 0 refl
+few-left (x ∷ []) h = over-pieces (x ∷ []) (x ∷ []) 1 refl
+few-left (x ∷ y ∷ xs) h = absurd (omega arith)
+
 -- no values at all
 pub distinct-none : (s old : List Float) → length s ≡ 0 → s ≡ ordered old → Distinct old s 0
-unfolding distinct over unrepeated
-distinct-none [] old h e = record { values = ap (λ (z : List Float). over (unrepeated z) z) e; count = ap (λ (z : List Float). length (unrepeated z)) e }
+unfolding distinct unrepeated
+distinct-none [] old h e = record { values = over-pieces [] [] 0 refl ∙ ap (λ (z : List Float). over (unrepeated z) z) e; count = ap (λ (z : List Float). length (unrepeated z)) e }
 distinct-none (x ∷ s) old h e = absurd (omega arith)
 
 -- ---- what is left in a lent slice

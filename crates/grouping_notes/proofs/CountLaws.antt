@@ -11,13 +11,15 @@ use lib.Ieee.{Float, nan}
 use borrow.Author.Tests.{eq-eqb, ne-eqb, lt-ltb, le-ltb}
 use Rattle.numeric.specs.Near.{isNear}
 use Rattle.grouping_marks.specs.Scan.{after}
-use Rattle.grouping_marks.specs.Marks.{opened, groupCount}
+use Rattle.grouping_marks.specs.Marks.{groupCount}
+use Rattle.grouping_marks.proofs.WalkLaws.{after-none, after-first}
+use Rattle.grouping_marks.proofs.MarksLaws.{count-none}
+use Rattle.grouping_marks.proofs.NumberLaws.{countFrom, count-all, count-over, count-same, count-new}
 use Rattle.grouping_chart.specs.Object.{isNote}
 use Rattle.grouping_chart.specs.Notes.{noteDeltas}
 use Rattle.grouping_chart.proofs.NoteLaws.{deltas-at, deltas-over}
 use Rattle.grouping_interval.specs.IntervalGrouping.{rises, marksAfter, intervalMarks}
-use Rattle.grouping_interval.specs.GroupEnd.{marksFrom}
-use Rattle.grouping_interval.proofs.IntervalLaws.{marks-near, marks-rise, marks-neither}
+use Rattle.grouping_interval.proofs.IntervalLaws.{marks-near, marks-rise, marks-neither, marks-one, marks-none, marks-first, length-marks}
 use Rattle.grouping_interval.proofs.GroupLaws.{marks-all}
 use Rattle.grouping_notes.specs.declared.Counting.{Counting}
 use Rattle.grouping_notes.specs.Counting.{counting₀, counted, groupsCounted}
@@ -66,37 +68,31 @@ module _ (margin : Float) (c : Counting) where
 
 -- ---- the marks of what is pending and left
 
-after-same : (g : ℕ) (ms : List ℕ) → (g ≡ 0 → ⊥) → after opened g (0 ∷ ms) ≡ after opened g ms
-unfolding after opened
-after-same g ms h = rw (ne-eqb g 0 h)
-
-after-new : (g : ℕ) (ms : List ℕ) → after opened g (1 ∷ ms) ≡ after opened (g + 1) ms
-unfolding after opened
-after-new g ms = refl
-
 -- some note is counted, so some group
 record Begun (c : Counting) : Type 0 where
   some-notes : c .notes ≡ 0 → ⊥
-  some-groups : c .groups ≡ 0 → ⊥
+  some-groups : 1 ≤ c .groups
 
 -- counting on over the deltas left gives what their marks give
 abbrev Meets : Float → Counting → List Float → Type 0
 Meets margin c ds =
     groupsCounted margin (after (counted margin) c ds)
-    ≡ after opened (c .groups) (marksAfter margin (ltb 2 (c .notes + length ds)) (c .last) (cond (c .pending) (c .next ∷ ds) ds))
+    ≡ countFrom (c .groups) (marksAfter margin (ltb 2 (c .notes + length ds)) (c .last) (cond (c .pending) (c .next ∷ ds) ds))
 
 meets-none : (margin : Float) (c : Counting) → Begun c → Meets margin c []
-unfolding groupsCounted after marksAfter
-meets-none margin c h = rw (add-zero (c .notes)) (by (c .pending))
+unfolding groupsCounted
+meets-none margin c h = rw (after-none (counted margin) c, add-zero (c .notes)) (by (c .pending))
   where
-    last-by : (b : Bool) → cond b (c .groups) (c .groups + 1) ≡ after opened (c .groups) (cond b 0 1 ∷ [])
-    last-by true = sym (after-same (c .groups) [] (h .some-groups))
-    last-by false = sym (after-new (c .groups) [])
+    last-by : (b : Bool) → cond b (c .groups) (c .groups + 1) ≡ countFrom (c .groups) (cond b 0 1 ∷ [])
+    last-by true = sym (count-same (c .groups) [] (h .some-groups) ∙ count-over (c .groups))
+    last-by false = sym (count-new (c .groups) [] ∙ count-over (c .groups + 1))
 
     by : (p : Bool) → cond p (cond (ltb 2 (c .notes) && isNear margin (c .next) (c .last)) (c .groups) (c .groups + 1)) (c .groups)
-        ≡ after opened (c .groups) (marksAfter margin (ltb 2 (c .notes)) (c .last) (cond p (c .next ∷ []) []))
-    by true = last-by (ltb 2 (c .notes) && isNear margin (c .next) (c .last))
-    by false = refl
+        ≡ countFrom (c .groups) (marksAfter margin (ltb 2 (c .notes)) (c .last) (cond p (c .next ∷ []) []))
+    by true =
+        let many : Bool = ltb 2 (c .notes) in
+        last-by (many && isNear margin (c .next) (c .last)) ∙ ap (countFrom (c .groups)) (sym (marks-one margin many (c .last) (c .next)))
+    by false = sym (ap (countFrom (c .groups)) (marks-none margin (ltb 2 (c .notes)) (c .last)) ∙ count-over (c .groups))
 
 module _ (margin : Float) (c : Counting) (d : Float) (ds : List Float) (h : Begun c) (u : (c′ : Counting) → Begun c′ → Meets margin c′ ds) where
   many : Bool
@@ -104,16 +100,17 @@ module _ (margin : Float) (c : Counting) (d : Float) (ds : List Float) (h : Begu
 
   -- one note more
   meets-on : (c′ : Counting) → c′ ≡ counted margin c d → Begun c′
-      → after opened (c .groups) (marksAfter margin many (c .last) (cond (c .pending) (c .next ∷ d ∷ ds) (d ∷ ds)))
-      ≡ after opened (c′ .groups) (marksAfter margin (ltb 2 (c′ .notes + length ds)) (c′ .last) (cond (c′ .pending) (c′ .next ∷ ds) ds))
+      → countFrom (c .groups) (marksAfter margin many (c .last) (cond (c .pending) (c .next ∷ d ∷ ds) (d ∷ ds)))
+      ≡ countFrom (c′ .groups) (marksAfter margin (ltb 2 (c′ .notes + length ds)) (c′ .last) (cond (c′ .pending) (c′ .next ∷ ds) ds))
       → Meets margin c (d ∷ ds)
-  unfolding after many
+  unfolding many
   meets-on c′ e b k =
       let n : c .notes + 1 + length ds ≡ c .notes + suc (length ds) = omega arith in
-      ap (λ (x : Counting). groupsCounted margin (after (counted margin) x ds)) (sym e)
+      ap (groupsCounted margin) (after-first (counted margin) c d ds)
+      ∙ ap (λ (x : Counting). groupsCounted margin (after (counted margin) x ds)) (sym e)
       ∙ u c′ b
       ∙ sym k
-      ∙ ap (λ (n : ℕ). after opened (c .groups) (marksAfter margin (ltb 2 n) (c .last) (cond (c .pending) (c .next ∷ d ∷ ds) (d ∷ ds)))) n
+      ∙ ap (λ (n : ℕ). countFrom (c .groups) (marksAfter margin (ltb 2 n) (c .last) (cond (c .pending) (c .next ∷ d ∷ ds) (d ∷ ds)))) n
 
   meets-more : (p n r : Bool) → c .pending ≡ p → isNear margin (c .next) d ≡ n → rises margin (c .next) d ≡ r → Meets margin c (d ∷ ds)
   unfolding many
@@ -121,13 +118,13 @@ module _ (margin : Float) (c : Counting) (d : Float) (ds : List Float) (h : Begu
       meets-on _ (counted-next margin c d (h .some-notes) p) (record { some-notes = λ z. omega arith; some-groups = h .some-groups }) (rw p)
   meets-more true true r p e f =
       meets-on _ (counted-near margin c d (h .some-notes) p e) (record { some-notes = λ z. omega arith; some-groups = h .some-groups })
-      (rw p (ap (after opened (c .groups)) (marks-near margin many (c .last) (c .next) d ds e) ∙ after-same (c .groups) _ (h .some-groups)))
+      (rw p (ap (countFrom (c .groups)) (marks-near margin many (c .last) (c .next) d ds e) ∙ count-same (c .groups) _ (h .some-groups)))
   meets-more true false true p e f =
-      meets-on _ (counted-rise margin c d (h .some-notes) p e f) (record { some-notes = λ z. omega arith; some-groups = λ z. omega arith })
-      (rw p (ap (after opened (c .groups)) (marks-rise margin many (c .last) (c .next) d ds e f) ∙ after-same (c .groups) _ (h .some-groups) ∙ after-new (c .groups) _))
+      meets-on _ (counted-rise margin c d (h .some-notes) p e f) (record { some-notes = λ z. omega arith; some-groups = omega arith })
+      (rw p (ap (countFrom (c .groups)) (marks-rise margin many (c .last) (c .next) d ds e f) ∙ count-same (c .groups) _ (h .some-groups) ∙ count-new (c .groups) _))
   meets-more true false false p e f =
-      meets-on _ (counted-neither margin c d (h .some-notes) p e f) (record { some-notes = λ z. omega arith; some-groups = λ z. omega arith })
-      (rw p (ap (after opened (c .groups)) (marks-neither margin many (c .last) (c .next) d ds e f) ∙ after-new (c .groups) _))
+      meets-on _ (counted-neither margin c d (h .some-notes) p e f) (record { some-notes = λ z. omega arith; some-groups = omega arith })
+      (rw p (ap (countFrom (c .groups)) (marks-neither margin many (c .last) (c .next) d ds e f) ∙ count-new (c .groups) _))
 
 meets : (margin : Float) (c : Counting) (ds : List Float) → Begun c → Meets margin c ds
 meets margin c [] h = meets-none margin c h
@@ -135,13 +132,17 @@ meets margin c (d ∷ ds) h = meets-more margin c d ds h (λ c′ b. meets margi
 
 -- all the notes, counted from none
 pub counted-all : (margin : Float) (ds : List Float) → groupsCounted margin (after (counted margin) counting₀ ds) ≡ groupCount (intervalMarks margin ds)
-unfolding counted groupsCounted counting₀ after groupCount marksFrom opened
-counted-all margin [] = ap groupCount (sym (marks-all margin []))
+unfolding counted groupsCounted counting₀
+counted-all margin [] =
+    ap (groupsCounted margin) (after-none (counted margin) counting₀) ∙ sym (count-none (intervalMarks margin []) (length-marks margin []))
 counted-all margin (d ∷ ds) =
     let one : 1 + length ds ≡ suc (length ds) = omega arith in
-    meets margin (record { notes = 1; groups = 1; last = d; next = d; pending = false }) ds (record { some-notes = λ z. omega arith; some-groups = λ z. omega arith })
-    ∙ ap (λ (n : ℕ). after opened 1 (marksAfter margin (ltb 2 n) d ds)) one
-    ∙ ap groupCount (sym (marks-all margin (d ∷ ds)))
+    ap (groupsCounted margin) (after-first (counted margin) counting₀ d ds)
+    ∙ meets margin (record { notes = 1; groups = 1; last = d; next = d; pending = false }) ds (record { some-notes = λ z. omega arith; some-groups = omega arith })
+    ∙ ap (λ (n : ℕ). countFrom 1 (marksAfter margin (ltb 2 n) d ds)) one
+    ∙ sym (count-new 0 (marksAfter margin (ltb 2 (suc (length ds))) d ds))
+    ∙ ap (countFrom 0) (sym (marks-all margin (d ∷ ds) ∙ marks-first margin (ltb 2 (suc (length ds))) d ds))
+    ∙ sym (count-all (intervalMarks margin (d ∷ ds)))
 
 -- ---- the loop of `count_groups`
 
@@ -172,12 +173,11 @@ counts-start margin ks ds e = record { whole = e; left = refl; groups-le = omega
 
 module _ {margin : Float} {ks : List ℕ} {ds : List Float} {c : Counting} {i : ℕ} (x : Counts margin ks ds c i) where
   pub counts-note : (r : Counting) → i < length ks → isNote (getD ks i 0) ≡ true → r ≡ counted margin c (getD ds i nan) → Counts margin ks ds r (i + 1)
-  unfolding after
   counts-note r h n e =
       let g : (r .notes ≤ c .notes + 1) × (r .groups ≤ r .notes) = rw e (counted-grows margin c (getD ds i nan) (x .groups-le)) in
       record {
         whole = x .whole;
-        left = rw e (sym (ap (after (counted margin) c) (deltas-at ks i true ds h (x .whole) n)) ∙ x .left);
+        left = rw e (sym (ap (after (counted margin) c) (deltas-at ks i true ds h (x .whole) n) ∙ after-first (counted margin) c (getD ds i nan) _) ∙ x .left);
         groups-le = omega (arith, g);
         notes-le = omega (arith, g, x .notes-le);
         upto = omega arith;
@@ -193,7 +193,6 @@ module _ {margin : Float} {ks : List ℕ} {ds : List Float} {c : Counting} {i : 
   }
 
   pub counts-end : length ks ≤ i → groupsCounted margin c ≡ groupCount (intervalMarks margin (noteDeltas ks ds))
-  unfolding after
   counts-end h =
-      let e : c ≡ after (counted margin) counting₀ (noteDeltas ks ds) = sym (ap (after (counted margin) c) (deltas-over ks i ds h)) ∙ x .left in
+      let e : c ≡ after (counted margin) counting₀ (noteDeltas ks ds) = sym (ap (after (counted margin) c) (deltas-over ks i ds h) ∙ after-none (counted margin) c) ∙ x .left in
       ap (groupsCounted margin) e ∙ counted-all margin (noteDeltas ks ds)

@@ -15,7 +15,7 @@ use Rattle.grouping_chart.specs.Object.{notes}
 use Rattle.grouping_chart.proofs.ObjectLaws.{notes-few}
 use Rattle.grouping_interval.specs.IntervalGrouping.{intervalMarks}
 use Rattle.grouping_same_rhythm.specs.SameRhythm.{rhythmMarks, groupIntervals}
-use Rattle.grouping_same_rhythm.specs.SamePatterns.{patternNumber}
+use Rattle.grouping_same_rhythm.proofs.MadeLaws.{patternNumber-made}
 use Rattle.grouping_rhythm.specs.declared.tables.Counts.{Counts}
 use Rattle.grouping_rhythm.specs.Rhythm.{perNote, noteGroup, groupOf, patternGroupOf, groupsIn}
 use Rattle.grouping_rhythm.specs.Passes.{Tabled, AnswerRoom, Grouped, LookRoom, TablesThere, Answered}
@@ -65,11 +65,12 @@ module _ {kinds : List ℕ} {starts deltas : List Float} {group₀ pattern₀ wo
   -- each note's pattern, by its group
   patterns-are : (margin : Float) → listed (gathered (groupNumbers (intervalMarks margin (groupIntervals margin kinds starts deltas))) (groupNumbers (rhythmMarks margin kinds deltas))) kinds
       ≡ patternGroupOf margin kinds starts deltas
-  unfolding patternGroupOf noteGroup patternNumber
+  unfolding patternGroupOf noteGroup
   patterns-are margin =
       per-note-ext _ _ kinds
       (λ j h. getD-gathered (groupNumbers (intervalMarks margin (groupIntervals margin kinds starts deltas))) (groupNumbers (rhythmMarks margin kinds deltas)) j
-      (omega (arith, length-numbers (rhythmMarks margin kinds deltas), length-rhythm-marks margin kinds deltas (r .tables .whole))))
+      (omega (arith, length-numbers (rhythmMarks margin kinds deltas), length-rhythm-marks margin kinds deltas (r .tables .whole)))
+      ∙ sym (patternNumber-made margin (groupIntervals margin kinds starts deltas) _))
 
   module _ {margin : Float} {work₁ : List ℕ} {scratch₁ : List Float} {k : Counts} (t : Tabled margin kinds starts deltas work₀ work₁ scratch₀ scratch₁ k) where
     pub tables-there : TablesThere kinds k work₁ group₀ pattern₀

@@ -1,14 +1,15 @@
 -- One pass over lent regions: what is lent of the work slice, written whole and put back is `put` there, and what a pass asks of its parts is there.
-use mathlib.Core.Path.{_≡_, sym, ap, _∙_}
-use mathlib.Core.List.{List, [], _++_, append-nil}
+use mathlib.Core.Path.{_≡_, ap, _∙_}
+use mathlib.Core.List.{List, _++_}
 use Prim.Native.Nat.{ℕ, _+_, _-_, _*_, _≤_}
 use native.Mathlib.Omega.{arith}
-use lib.ListN.{length, take, drop, length-take, drop-of-length-le}
+use lib.ListN.{length, take, drop}
 use lib.Seq.{length-take-le}
 use lib.Ieee.{Float}
 use Rattle.grouping_marks.specs.Over.{over, put, part}
 use Rattle.grouping_marks.specs.Marks.{groupCount, groupNumbers}
 use Rattle.grouping_marks.proofs.OverLaws.{length-over, front, length-part, lent-part}
+use Rattle.grouping_marks.proofs.PieceLaws.{put-back}
 use Rattle.grouping_marks.proofs.MarksLaws.{length-numbers}
 use Rattle.grouping_interval.specs.IntervalGrouping.{intervalMarks}
 use Rattle.grouping_interval.specs.Grouped.{Places, Grouped}
@@ -17,14 +18,6 @@ use Rattle.grouping_same_rhythm.specs.SameRhythm.{startsOf, intervalsOf}
 use Rattle.grouping_same_rhythm.specs.Passes.{FirstsListed, IntervalsRoom}
 use Rattle.grouping_same_rhythm.proofs.GroupsLaws.{length-starts, length-intervals}
 use Rattle.grouping_rhythm.specs.Passes.{NotesNumbered, FirstsThere, GroupsNumbered}
-
--- k places from place a on
-pub put-back : {A : Type 0} (a k : ℕ) (new w region : List A) → length new ≡ k → region ≡ over new (take k (drop a w)) → take a w ++ (region ++ drop k (drop a w)) ≡ put a new w
-unfolding put over
-put-back {A} a k new w region l e =
-    let none : drop (length new) (take k (drop a w)) ≡ [] = drop-of-length-le (take k (drop a w)) {i = length new} (omega (arith, length-take k (drop a w))) in
-    ap (λ (r : List A). take a w ++ (r ++ drop k (drop a w))) (e ∙ ap (λ (r : List A). new ++ r) none ∙ append-nil new)
-    ∙ ap (λ (n : ℕ). take a w ++ (new ++ drop n (drop a w))) (sym l)
 
 -- a group's number for each value
 pub length-group-numbers : (margin : Float) (values : List Float) → length (groupNumbers (intervalMarks margin values)) ≡ length values

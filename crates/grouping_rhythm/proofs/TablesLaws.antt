@@ -10,7 +10,7 @@ use Rattle.grouping_marks.specs.Over.{over, put, part}
 use Rattle.grouping_marks.specs.Marks.{groupCount, groupNumbers}
 use Rattle.grouping_marks.specs.Parted.{parted}
 use Rattle.grouping_marks.proofs.OverLaws.{length-over, front, drop-over, length-put, drop-put, part-put-same, part-put-before}
-use Rattle.grouping_marks.proofs.MarksLaws.{count-le}
+use Rattle.grouping_marks.proofs.MarksLaws.{count-le, length-numbers}
 use Rattle.grouping_marks.proofs.PartedLaws.{length-parted}
 use Rattle.grouping_chart.specs.Object.{notes}
 use Rattle.grouping_chart.specs.Notes.{noteObjects, noteDeltas}
@@ -20,6 +20,7 @@ use Rattle.grouping_interval.specs.IntervalGrouping.{intervalMarks}
 use Rattle.grouping_interval.proofs.IntervalLaws.{length-marks}
 use Rattle.grouping_notes.specs.Notes.{NotesListed}
 use Rattle.grouping_same_rhythm.specs.SameRhythm.{firstsOf, startsOf, intervalsOf, rhythmMarks, groupObjects, groupIntervals}
+use Rattle.grouping_same_rhythm.proofs.MadeLaws.{rhythmMarks-made, groupObjects-made, groupIntervals-made}
 use Rattle.grouping_same_rhythm.proofs.GroupsLaws.{length-starts, length-intervals, length-firsts, firsts-inside}
 use Rattle.grouping_rhythm.specs.Rhythm.{groupsIn, patternGroupsIn}
 use Rattle.grouping_rhythm.specs.Passes.{NumbersRoom, NotesNumbered, FirstsThere, GroupsNumbered, TablesRoom, Tabled}
@@ -29,30 +30,35 @@ use Rattle.grouping_rhythm.proofs.RegionLaws.{length-group-numbers}
 
 module _ (margin : Float) (kinds : List ℕ) (deltas : List Float) (e : length deltas ≡ length kinds) where
   pub length-rhythm-marks : length (rhythmMarks margin kinds deltas) ≡ length (notes kinds)
-  unfolding rhythmMarks
-  length-rhythm-marks = length-marks margin (noteDeltas kinds deltas) ∙ length-note-deltas kinds deltas e
+  length-rhythm-marks = ap length (rhythmMarks-made margin kinds deltas) ∙ length-marks margin (noteDeltas kinds deltas) ∙ length-note-deltas kinds deltas e
 
   -- at most as many groups as notes
   pub groups-few : groupsIn margin kinds deltas ≤ length (notes kinds)
   unfolding groupsIn
   groups-few = omega (arith, count-le (rhythmMarks margin kinds deltas), length-rhythm-marks)
 
+  -- by the notes' deltas
+  pub groups-counted : groupsIn margin kinds deltas ≡ groupCount (intervalMarks margin (noteDeltas kinds deltas))
+  unfolding groupsIn
+  groups-counted = ap groupCount (rhythmMarks-made margin kinds deltas)
+
   -- a first object for each group, one of the chart's
   pub length-first-objects : length (firstsOf (groupObjects margin kinds deltas)) ≡ groupsIn margin kinds deltas
-  unfolding groupObjects groupsIn
+  unfolding groupsIn
   length-first-objects =
-      length-firsts (parted (rhythmMarks margin kinds deltas) (noteObjects kinds))
+      ap (λ (l : List (List ℕ)). length (firstsOf l)) (groupObjects-made margin kinds deltas)
+      ∙ length-firsts (parted (rhythmMarks margin kinds deltas) (noteObjects kinds))
       ∙ length-parted (rhythmMarks margin kinds deltas) (noteObjects kinds) (omega (arith, length-rhythm-marks, length-note-objects kinds))
 
   pub first-object-below : (k : ℕ) → k < length (firstsOf (groupObjects margin kinds deltas)) → getD (firstsOf (groupObjects margin kinds deltas)) k 0 < length kinds
-  unfolding groupObjects
-  first-object-below k h =
-      firsts-inside (length kinds) (rhythmMarks margin kinds deltas) (noteObjects kinds) (object-below kinds) (omega (arith, length-rhythm-marks, length-note-objects kinds)) k h
+  first-object-below =
+      rw (groupObjects-made margin kinds deltas)
+      (firsts-inside (length kinds) (rhythmMarks margin kinds deltas) (noteObjects kinds) (object-below kinds) (omega (arith, length-rhythm-marks, length-note-objects kinds)))
 
   pub length-group-intervals : (starts : List Float) → length (groupIntervals margin kinds starts deltas) ≡ groupsIn margin kinds deltas
-  unfolding groupIntervals
   length-group-intervals starts =
-      length-intervals margin (startsOf starts (firstsOf (groupObjects margin kinds deltas)))
+      ap length (groupIntervals-made margin kinds deltas starts)
+      ∙ length-intervals margin (startsOf starts (firstsOf (groupObjects margin kinds deltas)))
       ∙ length-starts starts (firstsOf (groupObjects margin kinds deltas))
       ∙ length-first-objects
 
@@ -105,19 +111,20 @@ module _ {kinds : List ℕ} {starts deltas : List Float} {work₀ : List ℕ} {s
 
     pub noted : {margin : Float} {work : List ℕ} {groups : ℕ} → NotesNumbered margin (take m scratch₁) (length kinds) work₁ work groups
         → Noted margin kinds deltas work₀ work scratch₀ scratch₁ m groups
-    unfolding rhythmMarks groupObjects groupsIn
     noted {margin} {work} {groups} a =
         let n : ℕ = length kinds in
         let numbers : List ℕ = groupNumbers (rhythmMarks margin kinds deltas) in
         let firsts : List ℕ = firstsOf (groupObjects margin kinds deltas) in
         let mid : List ℕ = put n firsts work₁ in
-        let c : groups ≡ groupsIn margin kinds deltas = a .count ∙ ap (λ (vs : List Float). groupCount (intervalMarks margin vs)) values-are in
+        let c : groups ≡ groupsIn margin kinds deltas = a .count ∙ ap (λ (vs : List Float). groupCount (intervalMarks margin vs)) values-are ∙ sym (groups-counted margin kinds deltas (r .whole)) in
         let w : work ≡ put (2 * n) numbers mid =
         a .tables
         ∙ ap (λ (xs : List ℕ). put (2 * n) (groupNumbers (intervalMarks margin (take m scratch₁))) (put n (firstsOf (parted (intervalMarks margin (take m scratch₁)) xs)) work₁))
         (objects-are (length (take m scratch₁)) (length-take-le m scratch₁ notes-lent))
-        ∙ ap (λ (vs : List Float). put (2 * n) (groupNumbers (intervalMarks margin vs)) (put n (firstsOf (parted (intervalMarks margin vs) (noteObjects kinds))) work₁)) values-are in
-        let ln : length numbers ≡ m = length-group-numbers margin (noteDeltas kinds deltas) ∙ length-note-deltas kinds deltas (r .whole) ∙ sym noted-count in
+        ∙ ap (λ (vs : List Float). put (2 * n) (groupNumbers (intervalMarks margin vs)) (put n (firstsOf (parted (intervalMarks margin vs) (noteObjects kinds))) work₁)) values-are
+        ∙ ap (λ (ms : List ℕ). put (2 * n) (groupNumbers ms) (put n (firstsOf (parted ms (noteObjects kinds))) work₁)) (sym (rhythmMarks-made margin kinds deltas))
+        ∙ ap (λ (gs : List (List ℕ)). put (2 * n) numbers (put n (firstsOf gs) work₁)) (sym (groupObjects-made margin kinds deltas)) in
+        let ln : length numbers ≡ m = length-numbers (rhythmMarks margin kinds deltas) ∙ length-rhythm-marks margin kinds deltas (r .whole) ∙ sym noted-count in
         let lf : length firsts ≡ groups = length-first-objects margin kinds deltas (r .whole) ∙ sym c in
         let few : groups ≤ n = omega (arith, groups-few margin kinds deltas (r .whole), notes-few kinds, c) in
         let most : m ≤ n = omega (arith, noted-count, notes-few kinds) in
@@ -158,14 +165,15 @@ module _ {kinds : List ℕ} {starts deltas : List Float} {work₀ : List ℕ} {s
 
     pub tabled : {work : List ℕ} {scratch : List Float} {patterns : ℕ} → GroupsNumbered margin starts (length kinds) groups work₁ work scratch₁ scratch patterns
         → Tabled margin kinds starts deltas work₀ work scratch₀ scratch (record { notes = m; groups = groups; patterns = patterns })
-    unfolding groupIntervals patternGroupsIn
+    unfolding patternGroupsIn
     tabled {work} {scratch} {patterns} b =
         let n : ℕ = length kinds in
         let values : List Float = groupIntervals margin kinds starts deltas in
         let numbers : List ℕ = groupNumbers (intervalMarks margin values) in
-        let w : work ≡ put (3 * n) numbers work₁ =
-        b .tables ∙ ap (λ (xs : List ℕ). put (3 * n) (groupNumbers (intervalMarks margin (intervalsOf margin (startsOf starts xs)))) work₁) (a .firsts) in
-        let f : scratch ≡ over values scratch₁ = b .floats ∙ ap (λ (xs : List ℕ). over (intervalsOf margin (startsOf starts xs)) scratch₁) (a .firsts) in
+        let v : intervalsOf margin (startsOf starts (part n groups work₁)) ≡ values =
+        ap (λ (xs : List ℕ). intervalsOf margin (startsOf starts xs)) (a .firsts) ∙ sym (groupIntervals-made margin kinds deltas starts) in
+        let w : work ≡ put (3 * n) numbers work₁ = b .tables ∙ ap (λ (vs : List Float). put (3 * n) (groupNumbers (intervalMarks margin vs)) work₁) v in
+        let f : scratch ≡ over values scratch₁ = b .floats ∙ ap (λ (vs : List Float). over vs scratch₁) v in
         let lv : length values ≡ groups = length-group-intervals margin kinds deltas (r .whole) starts ∙ sym (a .grouped) in
         let ln : length numbers ≡ groups = length-group-numbers margin values ∙ lv in
         let few : groups ≤ n = few-groups in
@@ -175,7 +183,7 @@ module _ {kinds : List ℕ} {starts deltas : List Float} {work₀ : List ℕ} {s
         record {
           noted = a .noted;
           grouped = a .grouped;
-          patterned = b .count ∙ ap (λ (xs : List ℕ). groupCount (intervalMarks margin (intervalsOf margin (startsOf starts xs)))) (a .firsts);
+          patterned = b .count ∙ ap (λ (vs : List Float). groupCount (intervalMarks margin vs)) v;
           note-groups = ap (part (2 * n) m) w ∙ part-put-before (2 * n) m (3 * n) numbers work₁ (omega arith) (omega arith) ∙ a .note-groups;
           group-patterns = ap (part (3 * n) groups) w ∙ part-put-same (3 * n) groups numbers work₁ ln (omega arith);
           regions = ap length w ∙ length-put (3 * n) numbers work₁ (omega arith) ∙ a .regions;

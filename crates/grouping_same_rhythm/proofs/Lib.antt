@@ -1,3 +1,4 @@
+pub mod MadeLaws
 pub mod GroupsLaws
 pub mod PatternsLaws
 pub mod OwnLaws

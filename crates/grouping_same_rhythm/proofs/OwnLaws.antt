@@ -8,9 +8,8 @@ use lib.ListN.{length, getD}
 use lib.Ieee.{Float, nan, binary64, div}
 use Rattle.numeric.specs.Near.{isNear}
 use Rattle.numeric.specs.RoundTiesEven.{roundTiesEven}
-use Rattle.grouping_marks.specs.Over.{over}
-use Rattle.grouping_normalizer.specs.Ordered.{insert, ordered}
-use Rattle.grouping_normalizer.specs.Normalizer.{unrepeated, distinct, normalOf, NormalOf}
+use Rattle.grouping_normalizer.specs.Normalizer.{normalOf, NormalOf}
+use Rattle.grouping_normalizer.proofs.DistinctLaws.{few-left}
 use Rattle.grouping_same_rhythm.specs.declared.own.Own.{Own}
 use Rattle.grouping_same_rhythm.specs.declared.own.Own.the-variants.{Absent, Millis}
 use Rattle.grouping_same_rhythm.specs.Own.{one, modalDelta, snapped, ratioOf}
@@ -18,11 +17,11 @@ use Rattle.grouping_same_rhythm.specs.Passes.{settled, Modal}
 
 -- ---- found
 
--- of at most one note there is none, and one value is in order
+-- of at most one note there is none
 pub modal-few : (margin : Float) (deltas : List Float) → length deltas < 2 → Modal margin deltas deltas Absent
-unfolding modalDelta settled over distinct unrepeated ordered insert
-modal-few margin [] h = record { own = refl; left = refl }
-modal-few margin (d ∷ []) h = record { own = refl; left = refl }
+unfolding modalDelta settled
+modal-few margin [] h = record { own = refl; left = few-left [] h }
+modal-few margin (d ∷ []) h = record { own = refl; left = few-left (d ∷ []) h }
 modal-few margin (d ∷ e ∷ deltas) h = absurd (omega arith)
 
 -- of more it is what the second one counts as, to whole

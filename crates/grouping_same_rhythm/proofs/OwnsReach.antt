@@ -10,6 +10,7 @@ use borrow.Rule.Slice.PartMut.{putMid, same-len-mid, mid-len, drop-put}
 use Rattle.grouping_marks.specs.Over.{part}
 use Rattle.grouping_marks.specs.Parted.{parted}
 use Rattle.grouping_marks.proofs.OverLaws.{length-part, getD-part}
+use Rattle.grouping_marks.proofs.PieceLaws.{part-pieces}
 use Rattle.grouping_interval.specs.IntervalGrouping.{intervalMarks}
 use Rattle.grouping_interval.specs.GroupEnd.{groupEnd}
 use Rattle.grouping_interval.proofs.EndLaws.{end-after, end-within, end-same}
@@ -76,13 +77,12 @@ take-mid a b xs ys h w l =
 module _ {margin : Float} {deltas₀ deltas : List Float} {g : ℕ} {recent : Recent} {at end k : ℕ} (x : Reaching margin deltas₀ deltas g recent at end k) where
   -- while k is at most g a group opens at `end`
   pub reaching-open : k ≤ g → (new : ℕ) → new ≡ groupEnd margin deltas end → Opened margin deltas₀ deltas end new
-  unfolding part
   reaching-open h new e =
       let o : end < length deltas₀ = walk-open (x .walk) (omega (arith, x .asked .there)) in
       let s : new ≡ groupEnd margin deltas₀ end = e ∙ end-same margin deltas deltas₀ end (x .long) (x .same) in
       let a : end < new = rw s (end-after margin deltas₀ end o) in
       let w : new ≤ length deltas₀ = rw s (end-within margin deltas₀ end o) in
-      let n : take (new - end) (drop end deltas) ≡ part end (new - end) deltas₀ = ap (take (new - end)) (x .same) in
+      let n : take (new - end) (drop end deltas) ≡ part end (new - end) deltas₀ = ap (take (new - end)) (x .same) ∙ part-pieces end (new - end) deltas₀ in
       record {
         on = a;
         upto = omega (arith, x .long);

@@ -6,13 +6,14 @@ use Prim.Native.Nat.{ℕ, zero, suc, _+_, _-_, _≤_, _<_}
 use native.Mathlib.Numerals.{add-one}
 use native.Mathlib.Omega.{arith}
 use lib.Dec.{ltb}
-use lib.ListN.{length, take, drop, getD, drop-of-length-le, take-append-drop}
+use lib.ListN.{length, drop, getD, drop-of-length-le}
 use lib.Seq.{drop-drop, getD-drop}
 use lib.Ieee.{Float}
 use borrow.Author.Tests.{ltb-true, ltb-false}
 use Rattle.grouping_marks.specs.Over.{part}
 use Rattle.grouping_marks.specs.Marks.{groupCount}
 use Rattle.grouping_marks.specs.Parted.{parted}
+use Rattle.grouping_marks.proofs.PieceLaws.{part-pieces, part-rest}
 use Rattle.grouping_interval.specs.IntervalGrouping.{intervalMarks}
 use Rattle.grouping_interval.specs.GroupEnd.{groupEnd, marksFrom}
 use Rattle.grouping_interval.proofs.EndLaws.{end-after, end-within, marks-all, parted-end, parted-past, count-from, count-past}
@@ -32,23 +33,16 @@ module _ {A : Type 0} (margin : Float) (values : List Float) (xs : List A) where
   -- the group that opens there, and those from its end on
   pub groups-next : length xs ≡ length values → (at : ℕ) → at < length values
       → groupsFrom margin values xs at ≡ part at (groupEnd margin values at - at) xs ∷ groupsFrom margin values xs (groupEnd margin values at)
-  unfolding groupsFrom part
-  groups-next l at h = parted-end margin values xs at h l
+  unfolding groupsFrom
+  groups-next l at h =
+      parted-end margin values xs at h l
+      ∙ ap (λ (g : List A). g ∷ groupsFrom margin values xs (groupEnd margin values at)) (part-pieces at (groupEnd margin values at - at) xs)
 
   pub groups-past : (at : ℕ) → length values ≤ at → groupsFrom margin values xs at ≡ []
   unfolding groupsFrom
   groups-past at h =
       ap (λ (l : List Float). parted (marksFrom margin (ltb 2 (length values)) l) (drop at xs)) (drop-of-length-le values h)
       ∙ parted-past margin (ltb 2 (length values)) (drop at xs)
-
--- a part and what follows it
-part-rest : {A : Type 0} (at end : ℕ) (xs : List A) → at ≤ end → part at (end - at) xs ++ drop end xs ≡ drop at xs
-unfolding part
-part-rest {A} at end xs h =
-    let e : at + (end - at) ≡ end = omega arith in
-    ap (λ (n : ℕ). take (end - at) (drop at xs) ++ drop n xs) (sym e)
-    ∙ ap (λ (l : List A). take (end - at) (drop at xs) ++ l) (sym (drop-drop (end - at) at xs))
-    ∙ take-append-drop (end - at) (drop at xs)
 
 module _ (margin : Float) (deltas : List Float) where
   none-left : (at : ℕ) → length deltas ≤ at → settledUpTo 0 (groupsFrom margin deltas deltas at) ≡ drop at deltas

@@ -9,16 +9,14 @@ use lib.ListN.{length, take, drop, getD, replicate, length-replicate, getD-repli
 use lib.Seq.{length-take-le, drop-drop, getD-drop}
 use lib.Ieee.{Float, nan, binary64, div}
 use Rattle.grouping_marks.specs.Over.{over, put, part}
-use Rattle.grouping_marks.specs.Scan.{scan, after}
-use Rattle.grouping_marks.specs.Marks.{opened, groupCount, groupNumbers}
+use Rattle.grouping_marks.specs.Marks.{groupNumbers}
 use Rattle.grouping_marks.specs.Parted.{parted}
 use Rattle.grouping_marks.proofs.OverLaws.{front, drop-over, length-part, getD-part, part-put-same, put-front, lent-part}
-use Rattle.grouping_marks.proofs.FillLaws.{fill-start-front}
 use Rattle.grouping_marks.proofs.MarksLaws.{length-numbers}
 use Rattle.grouping_interval.specs.IntervalGrouping.{intervalMarks}
 use Rattle.grouping_interval.specs.GroupEnd.{groupEnd, marksFrom}
 use Rattle.grouping_interval.proofs.IntervalLaws.{length-marks}
-use Rattle.grouping_interval.proofs.NumberLaws.{Walked, walked-group}
+use Rattle.grouping_interval.proofs.NumberLaws.{Walked, walked-start, walked-group}
 use Rattle.grouping_interval.proofs.EndLaws.{end-after, end-within, marks-all, parted-end}
 use Rattle.grouping_same_rhythm.specs.Own.{one}
 use Rattle.grouping_same_rhythm.specs.SamePatterns.{patternInterval, patternRatio, patternNumber, patternOf}
@@ -68,14 +66,7 @@ long-numbers : (margin : Float) (intervals : List Float) → length (numbers mar
 long-numbers margin intervals = length-numbers (intervalMarks margin intervals) ∙ length-marks margin intervals
 
 numbered-start : (margin : Float) (intervals : List Float) → Numbered margin intervals 0 0
-unfolding groupNumbers groupCount
-numbered-start margin intervals = record {
-  all = refl;
-  fill = fill-start-front _ _ _ (long-numbers margin intervals) (omega (arith, long-numbers margin intervals));
-  left = ap (scan opened (λ c m. opened c m - 1) 0) (marks-all margin intervals);
-  last = ap (after opened 0) (sym (marks-all margin intervals));
-  few = omega arith;
-}
+numbered-start margin intervals = walked-start margin intervals (numbers margin intervals) (length intervals) refl (omega (arith, long-numbers margin intervals))
 
 -- a list's own front written over it
 over-same : {A : Type 0} (i : ℕ) (l : List A) → i ≤ length l → over (take i l) l ≡ l

@@ -2,36 +2,19 @@
 -- A loop that writes a whole text piece by piece has the invariant `Progress`: what it has written and what is left make up the whole.
 use mathlib.Core.Path.{_≡_, refl, sym, ap, _∙_, subst}
 use mathlib.Core.List.{List, [], _∷_, _++_, append-assoc, append-nil}
-use Prim.Native.Nat.{ℕ, zero, suc, _+_, _≤_, _<_}
-use native.Mathlib.Nat.{zero-add, suc-add}
-use native.Mathlib.Numerals.{add-one}
+use Prim.Native.Nat.{ℕ, _+_, _≤_, _<_}
 use native.Mathlib.Omega.{arith}
-use lib.ListN.{length, drop, set, length-append, drop-of-length-le}
-use lib.Seq.{take-append-seam, drop-append-seam, take-all, drop-drop, drop-nil, set-split}
-use Rattle.grouping_marks.specs.Over.{over, put}
+use lib.ListN.{length, set, length-append}
+use Rattle.grouping_marks.specs.Over.{put}
 use Rattle.grouping_marks.proofs.OverLaws.{put-front, put-nothing, length-put}
+use Rattle.grouping_marks.proofs.AppendLaws.{put-append, put-one}
 use Rattle.letters_text.specs.Memory.{Wrote, Written}
-
-over-append : (s t w : List ℕ) → over (s ++ t) w ≡ s ++ over t (drop (length s) w)
-unfolding over
-over-append s t w = rw (append-assoc, length-append, drop-drop)
-
-put-append : (at : ℕ) (s t w : List ℕ) → put (at + length s) t (put at s w) ≡ put at (s ++ t) w
-unfolding put over
-put-append zero s t w = rw (zero-add, take-append-seam, drop-append-seam) (sym (over-append s t w))
-put-append (suc a) s t [] =
-    let h : length s ≤ suc a + length s = omega arith in
-    simp (drop-nil, append-nil, take-all (suc a + length s) s h, drop-of-length-le s h)
-put-append (suc a) s t (x ∷ w) = rw suc-add (ap (λ (l : List ℕ). x ∷ l) (put-append a s t w))
-
--- ---- one text
 
 pub wrote-nothing : (at : ℕ) (w : List ℕ) → Wrote [] at w w at
 wrote-nothing at w = record { next = omega arith; memory = sym (put-nothing at w) }
 
 pub wrote-byte : (b at : ℕ) (w : List ℕ) → at < length w → Wrote (b ∷ []) at w (set w at b) (at + 1)
-unfolding put over
-wrote-byte b at w h = record { next = refl; memory = set-split w at b h ∙ rw (drop-drop, add-one) }
+wrote-byte b at w h = record { next = refl; memory = put-one at b w h }
 
 pub wrote-same : {s t : List ℕ} {at r : ℕ} {w₀ w : List ℕ} → t ≡ s → Wrote s at w₀ w r → Wrote t at w₀ w r
 wrote-same {at} {r} {w₀} {w} e x = subst (λ (l : List ℕ). Wrote l at w₀ w r) (sym e) x

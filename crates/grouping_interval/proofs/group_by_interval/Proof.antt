@@ -14,7 +14,7 @@ abbrev μ-loop : tie.MeasureT-loop
 μ-loop values margin group₀ n count₀ at₀ group count at = n - at
 
 loop-holds : tie.Need-loop-holds Inv-loop μ-loop
-loop-holds c = walked-start _ _ _ _ refl (c .before .before .pre)
+loop-holds c = walked-start _ _ _ _ refl (c .before .before .pre .room)
 
 next-end-requires : tie.Need-next-end-requires Inv-loop μ-loop
 next-end-requires c κs = search needs

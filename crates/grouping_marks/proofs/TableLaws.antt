@@ -1,0 +1,61 @@
+-- Lists made by a function of the place, cut in two; and entries looked up in a table that is cut in two.
+use mathlib.Core.Path.{_≡_, refl, ap, _∙_}
+use mathlib.Core.List.{List, [], _∷_, _++_, map, append-nil, append-assoc}
+use Prim.Native.Nat.{ℕ, zero, suc, _+_, _<_}
+use native.Mathlib.Nat.{add-zero, add-suc}
+use native.Mathlib.Omega.{arith}
+use lib.ListN.{length, getD, length-append}
+use lib.Seq.{getD-append-add}
+use Rattle.grouping_marks.specs.Scan.{tabulate, gathered}
+use Rattle.grouping_marks.proofs.FillLaws.{getD-map}
+
+-- functions that are equal below n make equal lists
+tabulate-same : {B : Type 0} (f g : ℕ → B) (n : ℕ) → ((i : ℕ) → i < n → f i ≡ g i) → tabulate f n ≡ tabulate g n
+unfolding tabulate
+tabulate-same f g zero h = refl
+tabulate-same f g (suc n) h = λ j. tabulate-same f g n (λ i l. h i (omega arith)) j ++ (h n (omega arith) j ∷ [])
+
+tabulate-split : {B : Type 0} (f : ℕ → B) (a b : ℕ) → tabulate f (a + b) ≡ tabulate f a ++ tabulate (λ i. f (a + i)) b
+unfolding tabulate
+tabulate-split f a zero = rw (add-zero a, append-nil (tabulate f a))
+tabulate-split {B} f a (suc b) =
+    ap (tabulate f) (add-suc a b)
+    ∙ ap (λ (l : List B). l ++ (f (a + b) ∷ [])) (tabulate-split f a b)
+    ∙ append-assoc (tabulate f a) (tabulate (λ i. f (a + i)) b) (f (a + b) ∷ [])
+
+-- a list of one element for each of xs ++ ys: the part for ys is made by g, if g is f counted from there
+pub tabulate-cut : {A B : Type 0} (f g : ℕ → B) (xs ys : List A) → ((i : ℕ) → i < length ys → f (length xs + i) ≡ g i)
+    → tabulate f (length (xs ++ ys)) ≡ tabulate f (length xs) ++ tabulate g (length ys)
+tabulate-cut {B} f g xs ys h =
+    ap (tabulate f) (length-append xs ys) ∙ tabulate-split f (length xs) (length ys)
+    ∙ ap (λ (l : List B). tabulate f (length xs) ++ l) (tabulate-same (λ i. f (length xs + i)) g (length ys) h)
+
+-- the same, with the part for xs made by another function too
+pub tabulate-cut₂ : {A B : Type 0} (f e g : ℕ → B) (xs ys : List A) → ((i : ℕ) → i < length xs → f i ≡ e i) → ((i : ℕ) → i < length ys → f (length xs + i) ≡ g i)
+    → tabulate f (length (xs ++ ys)) ≡ tabulate e (length xs) ++ tabulate g (length ys)
+tabulate-cut₂ {B} f e g xs ys h k =
+    tabulate-cut f g xs ys k ∙ ap (λ (l : List B). l ++ tabulate g (length ys)) (tabulate-same f e (length xs) h)
+
+-- ---- tables
+
+pub gathered-append : (table idx idx′ : List ℕ) → gathered table (idx ++ idx′) ≡ gathered table idx ++ gathered table idx′
+unfolding gathered
+gathered-append table [] idx′ = refl
+gathered-append table (j ∷ idx) idx′ = ap (λ (l : List ℕ). getD table j 0 ∷ l) (gathered-append table idx idx′)
+
+-- numbers moved on by the length of the table's front look up the table's back
+pub gathered-back : (front back idx : List ℕ) (n : ℕ) → length front ≡ n → gathered (front ++ back) (map (λ (j : ℕ). n + j) idx) ≡ gathered back idx
+unfolding gathered
+gathered-back front back [] n e = refl
+gathered-back front back (j ∷ idx) n e = λ i. here i ∷ gathered-back front back idx n e i
+  where
+    here : getD (front ++ back) (n + j) 0 ≡ getD back j 0
+    here = rw (← e) (getD-append-add front back j 0)
+
+-- a table whose entries are moved on gives entries moved on
+pub gathered-moved : (table idx : List ℕ) (n : ℕ) → ((i : ℕ) → i < length idx → getD idx i 0 < length table)
+    → gathered (map (λ (j : ℕ). n + j) table) idx ≡ map (λ (j : ℕ). n + j) (gathered table idx)
+unfolding gathered
+gathered-moved table [] n h = refl
+gathered-moved table (j ∷ idx) n h =
+    λ i. getD-map (λ (k : ℕ). n + k) table j 0 0 (h 0 (omega arith)) i ∷ gathered-moved table idx n (λ k l. h (suc k) (omega arith)) i
