@@ -12,18 +12,19 @@ use borrow.Author.Tests.{ltb-true, ltb-false}
 use Rattle.grouping_marks.specs.Marks.{groupCount, groupNumbers, groupSizes, groupFirsts}
 use Rattle.grouping_marks.proofs.FillLaws.{getD-gathered}
 use Rattle.grouping_marks.proofs.MarksLaws.{count-le, length-numbers}
+use Rattle.grouping_marks.proofs.CutLaws.{Opening, opening-at, count-cut}
+use Rattle.grouping_marks.proofs.NumberLaws.{numbers-rise}
+use Rattle.grouping_marks.proofs.SplitLaws.{Split, split-numbers, split-length, split-at, split-before}
 use Rattle.grouping_chart.specs.Object.{isNote}
 use Rattle.grouping_color.specs.MonoStreak.{streakMarks, streakOf, streakLengths}
 use Rattle.grouping_color.specs.Preprocessor.{patternsOpen, patternOf}
 use Rattle.grouping_color.proofs.LengthLaws.{length-streakMarks}
 use Rattle.grouping_color.proofs.BoundLaws.{length-streakOf, length-patternsOpen, length-patternOf, streak-below, patternOf-looked}
+use Rattle.grouping_color.proofs.MadeLaws.{streakOf-made}
+use Rattle.grouping_color.proofs.StreakCutLaws.{HasNote, streakMarksAfter, streakMarks-cut, streakMarks-agree}
 use Rattle.agreement.specs.Landmark.{coupledPatterns, Landmark}
 use Rattle.agreement.specs.Agreement.{Agree, Agreement}
 use Rattle.agreement.proofs.AgreementLaws.{agreement-sym}
-use Rattle.agreement.proofs.MadeLaws.{streakOf-made}
-use Rattle.agreement.proofs.TailLaws.{Opening, opening-at, count-cut}
-use Rattle.agreement.proofs.StreakAgree.{HasNote, streakMarksAfter, streakMarks-cut, streakMarks-agree}
-use Rattle.agreement.proofs.CutLaws.{Split, split-numbers, split-length, split-at, split-before, numbers-rise}
 use Rattle.agreement.proofs.PartLaws.{Parted, backPattern, patterns-split, objects-back, parted-agree}
 use Rattle.agreement.proofs.LevelLaws.{StreaksCut, streaks-cut, Unequal, PatternsCut, patterns-cut, backMarks, backFirsts, backFlags, Uncoupled, back, streak-cut, pattern-cut, parted, parted-objects, parted-patterns}
 

@@ -1,11 +1,3 @@
-pub mod TailLaws
-pub mod TableLaws
-pub mod MadeLaws
-pub mod StreakAgree
-pub mod PatternAgree
-pub mod HitAgree
-pub mod IntervalAgree
-pub mod CutLaws
 pub mod PartLaws
 pub mod LevelLaws
 pub mod AgreementLaws

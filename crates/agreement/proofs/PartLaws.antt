@@ -9,18 +9,19 @@ use Rattle.grouping_marks.specs.Scan.{tabulate, gathered}
 use Rattle.grouping_marks.specs.Marks.{groupCount, groupNumbers, groupPlaces, groupSizes, groupFirsts}
 use Rattle.grouping_marks.proofs.FillLaws.{length-tabulate, length-gathered, getD-gathered}
 use Rattle.grouping_marks.proofs.MarksLaws.{length-numbers, length-places, length-sizes, length-firsts}
+use Rattle.grouping_marks.proofs.CutLaws.{Opening, sizes-cut, firsts-cut, count-cut, places-cut}
+use Rattle.grouping_marks.proofs.NumberLaws.{number-first}
+use Rattle.grouping_marks.proofs.SplitLaws.{Below, Split, below-numbers, below-gathered, split-numbers, split-length, split-at, split-before, split-gathered, split-looked, split-continues}
 use Rattle.grouping_color.specs.MonoStreak.{streakMarks, streakOf}
 use Rattle.grouping_color.specs.AlternatingMonoPattern.{coupled}
 use Rattle.grouping_color.specs.RepeatingHitPatterns.{secondAt, secondLengths, intervals}
 use Rattle.grouping_color.specs.Preprocessor.{patternsOpen, firstLengths, streakCounts, patternTypes, hitsOpen, hitCount, hitSizes, hitFirsts, hitSeconds, streakPlaceOf, patternOf, patternPlaceOf, hitOf, intervalOf}
 use Rattle.grouping_color.proofs.LengthLaws.{length-streakMarks, length-coupled, length-hitMarks, length-secondLengths}
 use Rattle.grouping_color.proofs.BoundLaws.{length-patternsOpen, length-hitsOpen, streakPlaceOf-looked, patternOf-looked, patternPlaceOf-looked, hitOf-looked, intervalOf-looked}
+use Rattle.grouping_color.proofs.MadeLaws.{streakOf-made, hitsOpen-made, hitCount-made, hitSizes-made, hitFirsts-made, hitSeconds-made, hitIntervals-made}
+use Rattle.grouping_color.proofs.HitCutLaws.{secondLengths-cut}
+use Rattle.grouping_color.proofs.IntervalCutLaws.{intervals-back}
 use Rattle.agreement.specs.Agreement.{HitsCut, Agree}
-use Rattle.agreement.proofs.MadeLaws.{streakOf-made, hitsOpen-made, hitCount-made, hitSizes-made, hitFirsts-made, hitSeconds-made, hitIntervals-made}
-use Rattle.agreement.proofs.TailLaws.{Opening, sizes-cut, firsts-cut, count-cut, places-cut}
-use Rattle.agreement.proofs.CutLaws.{Below, Split, below-numbers, below-gathered, split-numbers, split-length, split-at, split-before, split-gathered, split-looked, split-continues, numbers-start}
-use Rattle.agreement.proofs.HitAgree.{secondLengths-cut}
-use Rattle.agreement.proofs.IntervalAgree.{intervals-back}
 
 -- what stands behind the cut: the marks of each level, and the patterns' first lengths
 pub record Back : Type 0 where
@@ -235,8 +236,8 @@ module _ {kinds : List ℕ} {k : Back} (x : Parted kinds k) where
       getD-gathered (groupNumbers (k .hits)) (backPattern k) 0 (omega (arith, hit-long, pattern-long))
       ∙ ap (λ (i : ℕ). getD (groupNumbers (k .hits)) i 0)
       (getD-gathered (groupNumbers (k .patterns)) (groupNumbers (k .streaks)) 0 (omega (arith, hit-long, length-numbers (k .streaks)))
-      ∙ ap (λ (i : ℕ). getD (groupNumbers (k .patterns)) i 0) (numbers-start (k .streaks)) ∙ numbers-start (k .patterns))
-      ∙ numbers-start (k .hits)
+      ∙ ap (λ (i : ℕ). getD (groupNumbers (k .patterns)) i 0) (number-first (k .streaks)) ∙ number-first (k .patterns))
+      ∙ number-first (k .hits)
 
   hits-cut : HitsCut kinds (length (x .streaks)) (groupCount (x .hits))
   hits-cut = record {

@@ -7,12 +7,12 @@ use lib.ListN.{length, getD}
 use Rattle.grouping_marks.specs.Scan.{gathered}
 use Rattle.grouping_marks.specs.Marks.{groupNumbers}
 use Rattle.grouping_marks.proofs.FillLaws.{getD-gathered}
+use Rattle.grouping_marks.proofs.NumberLaws.{numbers-rise}
 use Rattle.grouping_color.specs.MonoStreak.{streakMarks, streakOf}
 use Rattle.grouping_color.specs.Preprocessor.{patternsOpen, hitsOpen, patternOf, hitOf}
 use Rattle.grouping_color.proofs.LengthLaws.{length-streakMarks}
 use Rattle.grouping_color.proofs.BoundLaws.{length-streakOf, length-patternsOpen, length-patternOf, length-hitsOpen, streak-below, patternOf-below, patternOf-looked, hitOf-looked}
-use Rattle.agreement.proofs.MadeLaws.{streakOf-made}
-use Rattle.agreement.proofs.CutLaws.{numbers-rise}
+use Rattle.grouping_color.proofs.MadeLaws.{streakOf-made}
 
 abbrev Rising : ℕ → List ℕ → Type 0
 Rising n xs = (i j : ℕ) → i ≤ j → j < n → getD xs i 0 ≤ getD xs j 0

@@ -1,4 +1,3 @@
-pub mod NumberLaws
 pub mod RhythmAgree
 pub mod NoteLaws
 pub mod RhythmClaimed

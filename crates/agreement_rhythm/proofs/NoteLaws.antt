@@ -1,7 +1,7 @@
 -- A common tail of objects alike in kind and delta gives a common tail of the notes' deltas, and objects of it that are counterparts are so as notes.
-use mathlib.Core.Path.{_≡_, refl, sym, ap, _∙_}
-use mathlib.Core.Bool.{Bool, true, false, cond}
-use mathlib.Core.List.{List, [], _∷_, _++_}
+use mathlib.Core.Path.{_≡_, sym, ap, _∙_}
+use mathlib.Core.Bool.{true}
+use mathlib.Core.List.{List, _++_}
 use Prim.Native.Nat.{ℕ, _+_, _-_, _≤_, _<_}
 use native.Mathlib.Omega.{arith}
 use lib.ListN.{length, take, drop, getD, length-append, take-append-drop}
@@ -9,26 +9,10 @@ use lib.Seq.{length-take-le, drop-at}
 use lib.Ieee.{Float}
 use Rattle.grouping_chart.specs.Object.{isNote, notes, noteIdx}
 use Rattle.grouping_chart.specs.Notes.{noteDeltas}
-use Rattle.grouping_chart.proofs.ObjectLaws.{notes-append}
 use Rattle.grouping_chart.proofs.NoteLaws.{length-note-deltas}
+use Rattle.grouping_chart.proofs.CutLaws.{note-deltas-append, notes-split, note-number}
 use Rattle.agreement_rhythm.specs.RhythmClaim.{Counterparts, lastOf, CommonTail, tailNotes}
 use Rattle.agreement_rhythm.proofs.RhythmAgree.{same-behind, same-at}
-
-pub note-deltas-append : (ks ks′ : List ℕ) (ds ds′ : List Float) → length ds ≡ length ks → noteDeltas (ks ++ ks′) (ds ++ ds′) ≡ noteDeltas ks ds ++ noteDeltas ks′ ds′
-unfolding noteDeltas
-note-deltas-append [] ks′ [] ds′ e = refl
-note-deltas-append [] ks′ (d ∷ ds) ds′ e = absurd (omega arith)
-note-deltas-append (k ∷ ks) ks′ [] ds′ e = absurd (omega arith)
-note-deltas-append (k ∷ ks) ks′ (d ∷ ds) ds′ e = by (isNote k) (note-deltas-append ks ks′ ds ds′ (omega arith))
-  where
-    by : (b : Bool) → noteDeltas (ks ++ ks′) (ds ++ ds′) ≡ noteDeltas ks ds ++ noteDeltas ks′ ds′
-        → cond b (d ∷ noteDeltas (ks ++ ks′) (ds ++ ds′)) (noteDeltas (ks ++ ks′) (ds ++ ds′)) ≡ cond b (d ∷ noteDeltas ks ds) (noteDeltas ks ds) ++ noteDeltas ks′ ds′
-    by true u = ap (λ (l : List Float). d ∷ l) u
-    by false u = u
-
-notes-split : (kinds : List ℕ) (o : ℕ) → length (notes kinds) ≡ length (notes (take o kinds)) + length (notes (drop o kinds))
-notes-split kinds o =
-    ap (λ (ks : List ℕ). length (notes ks)) (sym (take-append-drop o kinds)) ∙ ap length (notes-append (take o kinds) (drop o kinds)) ∙ length-append (notes (take o kinds)) (notes (drop o kinds))
 
 -- the deltas of a chart's notes end in those of its last m objects
 module _ (m : ℕ) (kinds : List ℕ) (deltas : List Float) (whole : length deltas ≡ length kinds) (fits : m ≤ length kinds) where
@@ -74,15 +58,14 @@ module _ {m : ℕ} {kinds : List ℕ} {deltas : List Float} {kinds′ : List ℕ
     same-kind = ap isNote (same-at kinds kinds′ m (c .fits) (c .fits′) (c .kind-alike) o o′ h e 0)
 
     pub note-counterparts : isNote (getD kinds o 0) ≡ true → Counterparts (noteDeltas kinds deltas) (noteDeltas kinds′ deltas′) (noteIdx kinds o) (noteIdx kinds′ o′)
-    unfolding noteIdx
     note-counterparts n =
-        let n′ : isNote (getD kinds′ o′ 0) ≡ true = sym same-kind ∙ n in
-        rw (n, n′)
-        (omega (
+        omega (
           arith,
+          note-number kinds o n,
+          note-number kinds′ o′ (sym same-kind ∙ n),
           length-note-deltas kinds deltas (c .whole),
           length-note-deltas kinds′ deltas′ (c .whole′),
           notes-split kinds o,
           notes-split kinds′ o′,
           ap (λ (ks : List ℕ). length (notes ks)) (same-behind kinds kinds′ m (c .fits) (c .fits′) (c .kind-alike) o o′ h e),
-        ))
+        )

@@ -1,67 +1,19 @@
 -- From a rhythm landmark on the marks are those of the tail alone: nothing of f64 is used but that the same test of the same values has one answer.
-use mathlib.Core.Path.{_≡_, refl, sym, ap, _∙_, subst}
+use mathlib.Core.Path.{_≡_, sym, ap, _∙_, subst}
 use mathlib.Core.Logic.{_⊎_, inl, inr}
-use mathlib.Core.Bool.{Bool, true, false, cond}
-use mathlib.Core.List.{List, [], _∷_, _++_}
-use Prim.Native.Nat.{ℕ, suc, _+_, _-_, _≤_, _<_}
+use mathlib.Core.Bool.{true}
+use mathlib.Core.List.{List}
+use Prim.Native.Nat.{ℕ, suc, _+_, _-_, _≤_}
 use native.Mathlib.Numerals.{unary-clauses}
 use native.Mathlib.Omega.{arith}
-use lib.ListN.{length, take, drop, getD, length-append, take-append-drop}
-use lib.Seq.{drop-cons, drop-drop, getD-drop, length-take-le}
+use lib.ListN.{length, drop, getD}
+use lib.Seq.{drop-drop, getD-drop}
 use lib.Ieee.{Float, nan}
-use borrow.Author.Tests.{lt-ltb}
 use Rattle.numeric.specs.Near.{isNear}
-use Rattle.grouping_interval.specs.IntervalGrouping.{rises, marksAfter, intervalMarks}
-use Rattle.grouping_interval.proofs.IntervalLaws.{marks-near}
+use Rattle.grouping_interval.specs.IntervalGrouping.{marksAfter, intervalMarks}
+use Rattle.grouping_interval.proofs.SyncLaws.{marks-from}
 use Rattle.agreement_rhythm.specs.RhythmLandmark.{RhythmLandmark}
 use Rattle.agreement_rhythm.specs.RhythmClaim.{Counterparts, lastOf}
-
--- ---- one list: the walk stands inside a group behind two near values with a third behind them, whatever came before
-
-pick : (n r : Bool) (k : ℕ) (a b c z : List ℕ) → drop k a ≡ z → drop k b ≡ z → drop k c ≡ z → drop k (cond n a (cond r b c)) ≡ z
-pick true r k a b c z x y w = x
-pick false true k a b c z x y w = y
-pick false false k a b c z x y w = w
-
-after-sync : (margin last u v w : Float) (xs rest : List Float) → isNear margin u v ≡ true
-    → drop (suc (length xs)) (marksAfter margin true last (xs ++ u ∷ v ∷ w ∷ rest)) ≡ marksAfter margin true u (v ∷ w ∷ rest)
-unfolding marksAfter
-after-sync margin last u v w [] rest e = ap (drop 1) (marks-near margin true last u v (w ∷ rest) e)
-after-sync margin last u v w (x ∷ []) rest e =
-    pick (isNear margin x u) (rises margin x u) 2 (0 ∷ marksAfter margin true x (u ∷ v ∷ w ∷ rest)) (0 ∷ 1 ∷ marksAfter margin true u (v ∷ w ∷ rest))
-    (1 ∷ marksAfter margin true x (u ∷ v ∷ w ∷ rest)) (marksAfter margin true u (v ∷ w ∷ rest))
-    (after-sync margin x u v w [] rest e) refl (after-sync margin x u v w [] rest e)
-after-sync margin last u v w (x ∷ y ∷ xs) rest e =
-    pick (isNear margin x y) (rises margin x y) (suc (suc (suc (length xs)))) (0 ∷ marksAfter margin true x (y ∷ xs ++ u ∷ v ∷ w ∷ rest))
-    (0 ∷ 1 ∷ marksAfter margin true y (xs ++ u ∷ v ∷ w ∷ rest)) (1 ∷ marksAfter margin true x (y ∷ xs ++ u ∷ v ∷ w ∷ rest)) (marksAfter margin true u (v ∷ w ∷ rest))
-    (after-sync margin x u v w (y ∷ xs) rest e) (after-sync margin y u v w xs rest e) (after-sync margin x u v w (y ∷ xs) rest e)
-
-marks-sync : (margin u v w : Float) (xs rest : List Float) → isNear margin u v ≡ true
-    → drop (suc (length xs)) (intervalMarks margin (xs ++ u ∷ v ∷ w ∷ rest)) ≡ marksAfter margin true u (v ∷ w ∷ rest)
-unfolding intervalMarks
-marks-sync margin u v w [] rest e = ap (λ (b : Bool). marksAfter margin b u (v ∷ w ∷ rest)) (lt-ltb 1 (suc (suc (length rest))) (omega arith))
-marks-sync margin u v w (x ∷ xs) rest e =
-    ap (λ (b : Bool). drop (suc (length xs)) (marksAfter margin b x (xs ++ u ∷ v ∷ w ∷ rest)))
-    (lt-ltb 1 (length (xs ++ u ∷ v ∷ w ∷ rest)) (omega (arith, length-append xs (u ∷ v ∷ w ∷ rest))))
-    ∙ after-sync margin x u v w xs rest e
-
--- notes j and j + 1 are near, and there is a note j + 2: the marks from note j + 1 on
-pub marks-from : (margin : Float) (deltas : List Float) (j : ℕ) → suc (suc j) < length deltas → isNear margin (getD deltas j nan) (getD deltas (suc j) nan) ≡ true
-    → drop (suc j) (intervalMarks margin deltas) ≡ marksAfter margin true (getD deltas j nan) (drop (suc j) deltas)
-marks-from margin deltas j h e =
-    (λ i. drop (suc (size i)) (intervalMarks margin (whole i)))
-    ∙ marks-sync margin (getD deltas j nan) (getD deltas (suc j) nan) (getD deltas (suc (suc j)) nan) (take j deltas) (drop (suc (suc (suc j))) deltas) e
-    ∙ ap (λ (l : List Float). marksAfter margin true (getD deltas j nan) l) (sym behind)
-  where
-    size : j ≡ length (take j deltas)
-    size = sym (length-take-le j deltas (omega arith))
-
-    behind : drop (suc j) deltas ≡ getD deltas (suc j) nan ∷ getD deltas (suc (suc j)) nan ∷ drop (suc (suc (suc j))) deltas
-    behind = drop-cons deltas (suc j) nan (omega arith) ∙ ap (λ (l : List Float). getD deltas (suc j) nan ∷ l) (drop-cons deltas (suc (suc j)) nan h)
-
-    whole : deltas ≡ take j deltas ++ getD deltas j nan ∷ getD deltas (suc j) nan ∷ getD deltas (suc (suc j)) nan ∷ drop (suc (suc (suc j))) deltas
-    whole = sym (take-append-drop j deltas)
-        ∙ ap (λ (l : List Float). take j deltas ++ l) (drop-cons deltas j nan (omega arith) ∙ ap (λ (l : List Float). getD deltas j nan ∷ l) behind)
 
 -- the marks from a landmark on
 pub landmark-marks : (margin : Float) (deltas : List Float) (t i : ℕ) → RhythmLandmark margin deltas t i

@@ -10,13 +10,12 @@ use lib.ListN.{length, drop, getD}
 use lib.Seq.{drop-cons, getD-drop}
 use lib.Ieee.{Float, nan}
 use Rattle.grouping_marks.specs.Marks.{groupNumbers}
+use Rattle.grouping_marks.proofs.NumberLaws.{number-opens, numbers-rise, numbers-shift}
 use Rattle.grouping_interval.specs.IntervalGrouping.{rises, marksAfter, intervalMarks}
 use Rattle.grouping_interval.proofs.IntervalLaws.{marks-rise, marks-neither, length-marks}
-use Rattle.agreement.proofs.CutLaws.{numbers-rise}
 use Rattle.grouping_chart.specs.Notes.{noteDeltas}
 use Rattle.agreement_rhythm.specs.RhythmLandmark.{RhythmLandmark}
 use Rattle.agreement_rhythm.specs.RhythmClaim.{Counterparts, groupAt, OpensAt, RhythmClaim, lastOf, CommonTail, tailNotes, RhythmHalf}
-use Rattle.agreement_rhythm.proofs.NumberLaws.{more, number-step, numbers-shift}
 use Rattle.agreement_rhythm.proofs.RhythmAgree.{landmark-marks, either-list, rhythm-marks}
 use Rattle.agreement_rhythm.proofs.NoteLaws.{notes-fit, same-count, notes-alike, same-kind, note-counterparts}
 
@@ -121,12 +120,12 @@ module _ (margin : Float) (xs ys : List Float) (t : ℕ) (fits : t ≤ length xs
 -- ---- the claim is not empty: a group opens at the landmark or at the next note
 
 opens-by-mark : (margin : Float) (deltas : List Float) (p : ℕ) → suc p < length deltas → getD (intervalMarks margin deltas) (suc p) 0 ≡ 1 → OpensAt margin deltas (suc p)
-unfolding groupAt more
+unfolding groupAt
 opens-by-mark margin deltas p l e = record {
   there = l;
   first = λ n h g.
       omega
-      (arith, number-step (intervalMarks margin deltas) p (omega (arith, length-marks margin deltas)), ap more e, group-rise margin deltas n p (omega arith) (omega arith));
+      (arith, number-opens (intervalMarks margin deltas) p (omega (arith, length-marks margin deltas)) e, group-rise margin deltas n p (omega arith) (omega arith));
 }
 
 pub landmark-opens : (margin : Float) (deltas : List Float) (t i : ℕ) → RhythmLandmark margin deltas t i → OpensAt margin deltas i ⊎ OpensAt margin deltas (i + 1)

@@ -7,3 +7,8 @@ pub mod IntervalLaws
 pub mod ComposeLaws
 pub mod BoundLaws
 pub mod SearchLaws
+pub mod MadeLaws
+pub mod StreakCutLaws
+pub mod PatternCutLaws
+pub mod HitCutLaws
+pub mod IntervalCutLaws

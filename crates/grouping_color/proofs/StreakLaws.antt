@@ -2,29 +2,31 @@
 use mathlib.Core.Path.{_≡_, refl, sym, ap, _∙_}
 use mathlib.Core.Bool.{Bool, true, false, cond}
 use mathlib.Core.List.{List, [], _∷_}
-use Prim.Native.Nat.{ℕ, zero, suc, _+_, _<_}
-use native.Mathlib.Nat.{le-of-suc-le-suc, not-suc-le-zero}
+use Prim.Native.Nat.{ℕ, _+_, _<_}
 use native.Mathlib.Omega.{arith}
 use lib.Dec.{eqb}
 use lib.ListN.{length, take, getD}
 use lib.Seq.{ext-getD}
 use Rattle.grouping_marks.specs.Over.{put}
-use Rattle.grouping_marks.specs.Scan.{scan, tabulate}
+use Rattle.grouping_marks.specs.Scan.{scan, after, tabulate}
 use Rattle.grouping_marks.proofs.ScanLaws.{length-scan}
+use Rattle.grouping_marks.proofs.WalkLaws.{after-none, after-first, getD-scan}
 use Rattle.grouping_marks.proofs.FillLaws.{length-tabulate, getD-tabulate}
-use Rattle.grouping_chart.specs.Object.{isNote, none, kind}
-use Rattle.grouping_chart.proofs.ObjectLaws.{Seen, seen₀, seenNext, seenAfter, previousSeen, previousNote-seen}
+use Rattle.grouping_chart.specs.Object.{isNote, Previous, none, kind}
+use Rattle.grouping_chart.proofs.ObjectLaws.{Seen, seen₀, seenNext, seenAfter, previousSeen, seenNext-notes, seenNext-last, previousNote-seen}
+use Rattle.grouping_chart.proofs.SeenLaws.{seenAfter-none, seenAfter-first, previousSeen-by}
 use Rattle.grouping_color.specs.MonoStreak.{continues, opensStreak, streakMarks}
 
 -- 1 where an object of kind k opens a streak, by what was seen before it
 unfoldable pub opensSeen : Seen → ℕ → ℕ
 opensSeen s k = cond (continues (previousSeen s k) k) 0 1
 
+after-seen : (s : Seen) (ks : List ℕ) → after seenNext s ks ≡ seenAfter s ks
+after-seen s [] = after-none seenNext s ∙ sym (seenAfter-none s)
+after-seen s (k ∷ ks) = after-first seenNext s k ks ∙ after-seen (seenNext s k) ks ∙ sym (seenAfter-first s k ks)
+
 getD-seen : (s : Seen) (ks : List ℕ) (i : ℕ) → i < length ks → getD (scan seenNext opensSeen s ks) i 0 ≡ opensSeen (seenAfter s (take i ks)) (getD ks i 0)
-unfolding scan seenAfter
-getD-seen s [] i h = absurd (not-suc-le-zero h)
-getD-seen s (k ∷ ks) zero h = refl
-getD-seen s (k ∷ ks) (suc i) h = getD-seen (seenNext s k) ks i (le-of-suc-le-suc h)
+getD-seen s ks i h = getD-scan seenNext opensSeen s ks i 0 0 h ∙ ap (λ (t : Seen). opensSeen t (getD ks i 0)) (after-seen s (take i ks))
 
 opens-seen : (kinds : List ℕ) (i : ℕ) → opensStreak kinds i ≡ opensSeen (seenAfter seen₀ (take i kinds)) (getD kinds i 0)
 unfolding opensStreak opensSeen
@@ -47,8 +49,10 @@ marks-stored to kinds w₀ w e = e ∙ ap (λ (l : List ℕ). put to l w₀) (sy
 -- ---- a step of the walk, as the code takes it: by the note's number, the last note's kind, and the two as they are after the object
 
 pub seen-opens : (next last k note v : ℕ) → note ≡ cond (isNote k) next 0 → v ≡ cond (eqb note 0) 1 (cond (eqb last k) 0 1) → v ≡ opensSeen (record { notes = next; last = last }) k
-unfolding opensSeen previousSeen continues
-seen-opens next last k note v n e = e ∙ ap (λ (j : ℕ). cond (eqb j 0) 1 (cond (eqb last k) 0 1)) n ∙ by (isNote k) (eqb next 0) refl
+unfolding opensSeen continues
+seen-opens next last k note v n e =
+    e ∙ ap (λ (j : ℕ). cond (eqb j 0) 1 (cond (eqb last k) 0 1)) n ∙ by (isNote k) (eqb next 0) refl
+    ∙ ap (λ (p : Previous). cond (continues p k) 0 1) (sym (previousSeen-by (record { notes = next; last = last }) k))
   where
     by : (a b : Bool) → eqb next 0 ≡ b
         → _≡_ {A = ℕ} (cond (eqb (cond a next 0) 0) 1 (cond (eqb last k) 0 1)) (cond (continues (cond a (cond b none (kind last)) none) k) 0 1)
@@ -58,12 +62,11 @@ seen-opens next last k note v n e = e ∙ ap (λ (j : ℕ). cond (eqb j 0) 1 (co
 
 pub seen-moves : (next last k next′ last′ : ℕ) → next′ ≡ cond (isNote k) (next + 1) next → last′ ≡ cond (isNote k) k last
     → _≡_ {A = Seen} (record { notes = next′; last = last′ }) (seenNext (record { notes = next; last = last }) k)
-unfolding seenNext
-seen-moves next last k next′ last′ n l = (λ i. record { notes = n i; last = l i }) ∙ by (isNote k)
-  where
-    by : (b : Bool) → _≡_ {A = Seen} (record { notes = cond b (next + 1) next; last = cond b k last }) (cond b (record { notes = next + 1; last = k }) (record { notes = next; last = last }))
-    by true = refl
-    by false = refl
+seen-moves next last k next′ last′ n l =
+    let s : Seen = record { notes = next; last = last } in
+    let n′ : next′ ≡ seenNext s k .notes = n ∙ sym (seenNext-notes s k) in
+    let l′ : last′ ≡ seenNext s k .last = l ∙ sym (seenNext-last s k) in
+    λ i. record { notes = n′ i; last = l′ i }
 
 -- the walk never counts more notes than objects
 pub seen-few : (next k next′ i : ℕ) → next′ ≡ cond (isNote k) (next + 1) next → next < i + 1 → next′ < i + 1 + 1

@@ -8,15 +8,14 @@ use lib.Seq.{getD-append-add}
 use borrow.Author.Tests.{ne-eqb}
 use Rattle.grouping_marks.specs.Marks.{groupSizes, groupFirsts}
 use Rattle.grouping_marks.proofs.FillLaws.{getD-tabulate}
+use Rattle.grouping_marks.proofs.CutLaws.{Opening, opening-at, sizes-cut, firsts-cut}
+use Rattle.grouping_marks.proofs.TableLaws.{tabulate-cut₂}
 use Rattle.grouping_color.specs.AlternatingMonoPattern.{opensPattern, patternMarks}
 use Rattle.grouping_color.proofs.LengthLaws.{length-patternMarks}
-use Rattle.agreement.proofs.MadeLaws.{patternMarks-made}
-use Rattle.agreement.proofs.TailLaws.{Opening, opening-at, sizes-cut, firsts-cut}
-use Rattle.agreement.proofs.TableLaws.{tabulate-cut₂}
 
--- ---- which streak opens a pattern (these three belong to grouping_color)
+-- ---- which streak opens a pattern
 
-pub opensPattern-first : (lengths : List ℕ) → opensPattern lengths 0 ≡ 1
+opensPattern-first : (lengths : List ℕ) → opensPattern lengths 0 ≡ 1
 unfolding opensPattern
 opensPattern-first lengths = refl
 
@@ -58,15 +57,15 @@ module _ (front back : List ℕ) (u : Uneven front back) where
       (ap (λ (k : ℕ). getD (front ++ back) k 0) (omega arith) ∙ getD-append-add front back (suc i - 1) 0)
 
   pub patternMarks-cut : patternMarks (front ++ back) ≡ patternMarks front ++ patternMarks back
-  patternMarks-cut =
-      rw (patternMarks-made (front ++ back), patternMarks-made front, patternMarks-made back)
-      (tabulate-cut₂ (opensPattern (front ++ back)) (opensPattern front) (opensPattern back) front back front-same back-same)
+  unfolding patternMarks
+  patternMarks-cut = tabulate-cut₂ (opensPattern (front ++ back)) (opensPattern front) (opensPattern back) front back front-same back-same
 
 -- the back's first streak opens a pattern
 pub patternMarks-opening : (back : List ℕ) → Opening (patternMarks back)
+unfolding patternMarks
 patternMarks-opening back =
     opening-at (patternMarks back)
-    (λ h. ap (λ (l : List ℕ). getD l 0 0) (patternMarks-made back) ∙ getD-tabulate (opensPattern back) (length back) 0 0 (omega (arith, length-patternMarks back)) ∙ opensPattern-first back)
+    (λ h. getD-tabulate (opensPattern back) (length back) 0 0 (omega (arith, length-patternMarks back)) ∙ opensPattern-first back)
 
 -- of the patterns, the streak counts, and what is listed of their first streaks
 module _ (front back : List ℕ) (u : Uneven front back) where

@@ -1,38 +1,12 @@
--- What each list of grouping_color is made of, an equation each: the proofs of this crate see through its definitions only here and where a comment says so (all these belong to grouping_color).
+-- What each list of a chart is made of, an equation each, for crates above this one.
 use mathlib.Core.Path.{_≡_, refl}
 use mathlib.Core.List.{List}
 use Prim.Native.Nat.{ℕ}
-use lib.ListN.{length}
-use Rattle.grouping_marks.specs.Scan.{scan, tabulate}
 use Rattle.grouping_marks.specs.Marks.{groupCount, groupNumbers, groupSizes, groupFirsts}
 use Rattle.grouping_color.specs.MonoStreak.{streakMarks, streakOf, streakLengths, streakTypes}
-use Rattle.grouping_color.specs.AlternatingMonoPattern.{opensPattern, patternMarks, coupledAt, coupled}
-use Rattle.grouping_color.specs.RepeatingHitPatterns.{stageAfter, opensHit, hitMarks, secondAt, secondLengths, intervalAt, intervals}
+use Rattle.grouping_color.specs.AlternatingMonoPattern.{patternMarks, coupled}
+use Rattle.grouping_color.specs.RepeatingHitPatterns.{hitMarks, secondLengths, intervals}
 use Rattle.grouping_color.specs.Preprocessor.{patternsOpen, firstLengths, streakCounts, patternTypes, hitsOpen, hitCount, hitSizes, hitFirsts, hitSeconds, hitIntervals}
-
--- ---- a level's lists, from the lists of the level below
-
-pub patternMarks-made : (lengths : List ℕ) → patternMarks lengths ≡ tabulate (opensPattern lengths) (length lengths)
-unfolding patternMarks
-patternMarks-made lengths = refl
-
-pub coupled-made : (lengths counts types : List ℕ) → coupled lengths counts types ≡ tabulate (coupledAt lengths counts types) (length lengths)
-unfolding coupled
-coupled-made lengths counts types = refl
-
-pub hitMarks-made : (flags : List ℕ) → hitMarks flags ≡ scan stageAfter opensHit 0 flags
-unfolding hitMarks
-hitMarks-made flags = refl
-
-pub secondLengths-made : (lengths marks : List ℕ) → secondLengths lengths marks ≡ tabulate (secondAt lengths marks) (length lengths)
-unfolding secondLengths
-secondLengths-made lengths marks = refl
-
-pub intervals-made : (limit : ℕ) (sizes firsts seconds : List ℕ) → intervals limit sizes firsts seconds ≡ tabulate (intervalAt limit sizes firsts seconds) (length sizes)
-unfolding intervals
-intervals-made limit sizes firsts seconds = refl
-
--- ---- a chart's lists
 
 module _ (kinds : List ℕ) where
   pub streakOf-made : streakOf kinds ≡ groupNumbers (streakMarks kinds)
