@@ -1,3 +1,4 @@
+pub mod TailLaws
 pub mod PartLaws
 pub mod LevelLaws
 pub mod AgreementLaws

@@ -1,3 +1,4 @@
+pub mod CommonTail
 pub mod Landmark
 pub mod LandmarkTest
 pub mod Agreement

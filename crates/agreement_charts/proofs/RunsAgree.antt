@@ -5,19 +5,19 @@ use mathlib.Core.Logic.{_⊎_, _↔_}
 use mathlib.Core.List.{List}
 use Prim.Native.Nat.{ℕ, _-_, _≤_, _<_}
 use native.Mathlib.Omega.{arith}
-use lib.ListN.{length, getD}
+use lib.ListN.{length, take, getD}
+use lib.Seq.{getD-take}
 use lib.Ieee.{Float}
 use Rattle.grouping_marks.specs.Marks.{groupNumbers}
+use Rattle.grouping_marks.proofs.OverLaws.{front}
 use Rattle.grouping_marks.proofs.MarksLaws.{length-numbers}
 use Rattle.grouping_interval.specs.IntervalGrouping.{intervalMarks}
 use Rattle.grouping_interval.specs.Grouped.{Grouped}
 use Rattle.grouping_interval.proofs.IntervalLaws.{length-marks}
-use Rattle.agreement_rhythm.specs.RhythmClaim.{lastOf, Counterparts, groupAt}
+use Rattle.agreement.specs.CommonTail.{Counterparts, lastOf}
+use Rattle.agreement_rhythm.specs.RhythmClaim.{groupAt}
 use Rattle.agreement_rhythm.specs.RhythmLandmark.{RhythmLandmark}
 use Rattle.agreement_rhythm.proofs.RhythmClaimed.{rhythm-numbers, share-group}
-use lib.Seq.{getD-take}
-use lib.ListN.{take}
-use Rattle.grouping_marks.proofs.OverLaws.{front}
 
 -- the number that a run leaves at note p
 pub number-left : (margin : Float) (values : List Float) (old new : List ℕ) (r : ℕ) → Grouped margin values old new r → (p : ℕ) → p < length values

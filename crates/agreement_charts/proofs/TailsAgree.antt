@@ -1,20 +1,14 @@
 -- Demand 3, proved: two accepted charts with a common tail agree from every landmark in it on. The colour half and the rhythm half are put together here.
-use mathlib.Core.Path.{_≡_, sym, ap, _∙_}
-use Prim.Native.Nat.{ℕ, _-_}
-use mathlib.Core.List.{List}
-use lib.ListN.{length, drop}
+use mathlib.Core.Path.{_≡_}
+use Prim.Native.Nat.{ℕ}
 use lib.Ieee.{Float}
-use Rattle.grouping_chart.specs.Chart.{Chart, size}
+use Rattle.grouping_chart.specs.Chart.{Chart}
 use Rattle.grouping_chart.specs.Refusal.{verdict}
 use Rattle.grouping_chart.specs.declared.chart.Verdict.the-variants.{Accepted}
 use Rattle.grouping_chart.proofs.AcceptedLaws.{accepted-good}
 use Rattle.agreement_colour.proofs.ColourClaimed.{colour-claim}
 use Rattle.agreement_rhythm.proofs.RhythmClaimed.{rhythm-half}
 use Rattle.agreement_charts.specs.TailAgreement.{AlikeTails, TailAgreement}
-
--- the last m of a list, counted by another list that is as long
-counted : {A : Type 0} (m : ℕ) (xs : List A) (n : ℕ) → length xs ≡ n → drop (length xs - m) xs ≡ drop (n - m) xs
-counted m xs n e = ap (λ (k : ℕ). drop (k - m) xs) e
 
 pub tails-agree : (limit : ℕ) (tolerance margin : Float) (c c′ : Chart) (beside beside′ m : ℕ)
     → verdict c beside ≡ Accepted → verdict c′ beside′ ≡ Accepted → AlikeTails c c′ m → TailAgreement limit tolerance margin c c′ m
@@ -24,20 +18,20 @@ tails-agree limit tolerance margin c c′ beside beside′ m accepted accepted�
     record {
       colour = λ position position′ h k. colour-claim limit tolerance (c .kinds) (c .ratios) (c′ .kinds) (c′ .ratios) m position position′
           (record {
-            a-ratio-each = l .ratio;
-            a-ratio-each′ = l′ .ratio;
+            whole = l .ratio;
+            whole′ = l′ .ratio;
             inside = t .inside;
             inside′ = t .inside′;
             kinds-alike = t .kinds;
-            ratios-alike = sym (counted m (c .ratios) (size c) (l .ratio)) ∙ t .ratios ∙ counted m (c′ .ratios) (size c′) (l′ .ratio);
+            values-alike = t .ratios;
           }) h k;
       rhythm = rhythm-half margin m (c .kinds) (c .deltas) (c′ .kinds) (c′ .deltas)
           (record {
             whole = l .delta;
             whole′ = l′ .delta;
-            fits = t .inside;
-            fits′ = t .inside′;
-            kind-alike = t .kinds;
-            delta-alike = t .deltas;
+            inside = t .inside;
+            inside′ = t .inside′;
+            kinds-alike = t .kinds;
+            values-alike = t .deltas;
           });
     }

@@ -7,9 +7,10 @@ use mathlib.Core.Path.{_≡_}
 use mathlib.Core.Logic.{_⊎_}
 use lib.Ieee.{Float}
 use Rattle.grouping_chart.specs.Chart.{Chart, size}
+use Rattle.agreement_colour.specs.ColourClaim.{ColourClaim}
+use Rattle.agreement_rhythm.specs.RhythmClaim.{RhythmHalf}
+use Rattle.agreement.specs.CommonTail.{Counterparts, lastOf}
 use Rattle.agreement.specs.Landmark.{Landmark}
-use Rattle.agreement_colour.specs.ColourClaim.{Counterparts, ColourClaim}
-use Rattle.agreement_rhythm.specs.RhythmClaim.{lastOf, RhythmHalf}
 
 -- the common tail: the last m objects of both charts are alike in kind, delta and ratio. Of values that are no NaN, equal is equal in all bits; start times may differ
 pub record AlikeTails (c c′ : Chart) (m : ℕ) : Type 0 where

@@ -26,8 +26,9 @@ use Rattle.evaluator_calls.specs.declared.Stretching.the-variants.{Done}
 use Rattle.evaluator_calls.proofs.LookLaws.{value-of}
 use Rattle.evaluator_calls.proofs.CallsLaws.{colour-done, stretch-done}
 use Rattle.evaluator_calls.proofs.BoundLaws.{length-valuesOf}
+use Rattle.agreement.specs.CommonTail.{Counterparts, CommonTail}
 use Rattle.agreement.specs.Landmark.{Landmark}
-use Rattle.agreement_colour.specs.ColourClaim.{Counterparts, CommonTail, Settled, ColourClaim}
+use Rattle.agreement_colour.specs.ColourClaim.{Settled, ColourClaim}
 use Rattle.agreement_colour.specs.CallsClaim.{AlikeCharts, EncodeClaim, CallsClaim}
 use Rattle.agreement_colour.proofs.ColourClaimed.{colour-claim}
 
@@ -76,14 +77,14 @@ module _ (c : Chart) (lent : encode.Memory) (accepted : verdict c (encode.beside
 
 -- two charts accepted by any calls
 common-tail : (c c′ : Chart) (m b b′ : ℕ) → verdict c b ≡ Accepted → verdict c′ b′ ≡ Accepted → AlikeCharts c c′ m
-    → CommonTail (c .kinds) (c .ratios) (c′ .kinds) (c′ .ratios) m
+    → CommonTail m (c .kinds) (c .ratios) (c′ .kinds) (c′ .ratios)
 common-tail c c′ m b b′ x x′ t = record {
-  a-ratio-each = accepted-good c b x .lengths .ratio;
-  a-ratio-each′ = accepted-good c′ b′ x′ .lengths .ratio;
+  whole = accepted-good c b x .lengths .ratio;
+  whole′ = accepted-good c′ b′ x′ .lengths .ratio;
   inside = t .inside;
   inside′ = t .inside′;
   kinds-alike = t .kinds-alike;
-  ratios-alike = t .ratios-alike;
+  values-alike = t .ratios-alike;
 }
 
 module _ (c c′ : Chart) (m position position′ : ℕ) (tail : AlikeCharts c c′ m) (far : Counterparts (c .kinds) (c′ .kinds) position position′)

@@ -12,10 +12,11 @@ use lib.Ieee.{Float}
 use Rattle.grouping_color.specs.Preprocessor.{hitOf, intervalOf}
 use Rattle.evaluator_calls.specs.Colour.{isFirst}
 use Rattle.evaluator_calls.proofs.LookLaws.{change-first}
+use Rattle.agreement.specs.CommonTail.{Counterparts, CommonTail}
 use Rattle.agreement.specs.Landmark.{Landmark}
 use Rattle.agreement.specs.Agreement.{HitsCut, Agree}
 use Rattle.agreement.proofs.ColourAgree.{colour-agree, landmark-late}
-use Rattle.agreement_colour.specs.ColourClaim.{Counterparts, CommonTail, Settled, ColourClaim}
+use Rattle.agreement_colour.specs.ColourClaim.{Settled, ColourClaim}
 use Rattle.agreement_colour.proofs.ValueAgree.{first-agree}
 use Rattle.agreement_colour.proofs.RiseLaws.{hit-rises}
 use Rattle.agreement_colour.proofs.StretchAgree.{at-counterparts, colour-at, mean-agree, tenths-agree}
@@ -77,7 +78,7 @@ module _ {limit : ℕ} {kinds : List ℕ} {a g : ℕ} {kinds′ : List ℕ} {b h
           let l : i < length kinds = omega (arith, s .there) in
           counts-settled (r .cut) p l (omega (arith, settled-counts (r .cut′) s, hit-agree i i′ p e l))
 
-  claimed : (tolerance : Float) (ratios ratios′ : List Float) (m : ℕ) → CommonTail kinds ratios kinds′ ratios′ m → length kinds + 4 ≤ a + m
+  claimed : (tolerance : Float) (ratios ratios′ : List Float) (m : ℕ) → CommonTail m kinds ratios kinds′ ratios′ → length kinds + 4 ≤ a + m
       → ColourClaim limit tolerance kinds ratios kinds′ ratios′ a b
   claimed tolerance ratios ratios′ m c late = record {
     landmarks = r .objects;
@@ -97,7 +98,7 @@ module _ {limit : ℕ} {kinds : List ℕ} {a g : ℕ} {kinds′ : List ℕ} {b h
 -- ---- the theorem
 
 pub colour-claim : (limit : ℕ) (tolerance : Float) (kinds : List ℕ) (ratios : List Float) (kinds′ : List ℕ) (ratios′ : List Float) (m position position′ : ℕ)
-    → CommonTail kinds ratios kinds′ ratios′ m → Counterparts kinds kinds′ position position′
+    → CommonTail m kinds ratios kinds′ ratios′ → Counterparts kinds kinds′ position position′
     → Landmark kinds m position ⊎ Landmark kinds′ m position′ → ColourClaim limit tolerance kinds ratios kinds′ ratios′ position position′
 colour-claim limit tolerance kinds ratios kinds′ ratios′ m position position′ c far x =
     let r = colour-agree limit kinds kinds′ m position position′ (c .inside) (c .inside′) (c .kinds-alike) far x in

@@ -1,11 +1,11 @@
 -- The claim is not empty at the base's limit. A tail of 20 streaks of 1, 2, 3, 1, 2, 3 objects and so on, d and k in turn, has a landmark behind its fourth streak, and every streak
 -- after that is a hit pattern of its own. So its last two objects, the twentieth streak, are of the sixteenth hit pattern and have the colour values of the tail alone, whatever stands before.
-use mathlib.Core.Path.{_≡_, refl, sym}
+use mathlib.Core.Path.{_≡_, refl, sym, _∙_}
 use mathlib.Core.Logic.{inl}
 use mathlib.Core.List.{List, [], _∷_, _++_}
 use Prim.Native.Nat.{ℕ, _+_, _-_, _<_}
 use native.Mathlib.Omega.{arith}
-use lib.ListN.{length, getD, length-append}
+use lib.ListN.{length, drop, getD, length-append}
 use lib.Seq.{drop-at}
 use lib.Ieee.{Float}
 use Rattle.grouping_marks.specs.Scan.{scan, after, tabulate, gathered}
@@ -19,8 +19,9 @@ use Rattle.grouping_encode.specs.Encode.{searchLimit}
 use Rattle.evaluator_calls.specs.Colour.{colourAt, colourValues}
 use Rattle.evaluator_calls.specs.Stretch.{meanOf}
 use Rattle.evaluator_calls.specs.Calls.{baseTolerance}
+use Rattle.agreement.specs.CommonTail.{CommonTail}
 use Rattle.agreement.specs.Landmark.{coupledPatterns, Landmark}
-use Rattle.agreement_colour.specs.ColourClaim.{CommonTail, Settled, ColourClaim}
+use Rattle.agreement_colour.specs.ColourClaim.{Settled, ColourClaim}
 use Rattle.agreement_colour.proofs.RiseLaws.{pattern-rises}
 use Rattle.agreement_colour.proofs.ColourClaimed.{colour-claim}
 
@@ -74,14 +75,14 @@ module _ (opening : List ℕ) (before ratios : List Float) (e : length before �
   long : length (opening ++ tail) ≡ length opening + 39
   long = length-append opening tail
 
-  common : CommonTail tail ratios (opening ++ tail) (before ++ ratios) 39
+  common : CommonTail 39 tail ratios (opening ++ tail) (before ++ ratios)
   common = record {
-    a-ratio-each = f;
-    a-ratio-each′ = omega (arith, long, length-append before ratios);
+    whole = f;
+    whole′ = omega (arith, long, length-append before ratios);
     inside = omega arith;
     inside′ = omega (arith, long);
     kinds-alike = sym (drop-at opening tail (length (opening ++ tail) - 39) (omega (arith, long)));
-    ratios-alike = sym (drop-at before ratios (length (opening ++ tail) - 39) (omega (arith, long)));
+    values-alike = (λ i. drop (f i - 39) ratios) ∙ sym (drop-at before ratios (length (before ++ ratios) - 39) (omega (arith, length-append before ratios)));
   }
 
   claim : ColourClaim searchLimit baseTolerance tail ratios (opening ++ tail) (before ++ ratios) 7 (length opening + 7)

@@ -15,8 +15,8 @@ use Rattle.evaluator_color.specs.Color.{zero}
 use Rattle.evaluator_calls.specs.Colour.{colourAt, colourValues}
 use Rattle.evaluator_calls.specs.Stretch.{sumFrom, meanOf, meanTenths}
 use Rattle.evaluator_calls.proofs.LookLaws.{length-values, value-of}
+use Rattle.agreement.specs.CommonTail.{Counterparts, CommonTail}
 use Rattle.agreement.specs.Agreement.{Agree}
-use Rattle.agreement_colour.specs.ColourClaim.{Counterparts, CommonTail}
 use Rattle.agreement_colour.proofs.ValueAgree.{value-agree}
 use Rattle.agreement_colour.proofs.RiseLaws.{hit-rises}
 
@@ -28,7 +28,7 @@ module _ {limit : ℕ} {kinds : List ℕ} {a g : ℕ} {kinds′ : List ℕ} {b h
       let y : b + (i - a) ≡ i′ = omega (arith, r .objects) in
       subst₂ P x y (f (i - a))
 
-  module _ (tolerance : Float) (ratios ratios′ : List Float) (m : ℕ) (c : CommonTail kinds ratios kinds′ ratios′ m) (late : length kinds + 4 ≤ a + m) where
+  module _ (tolerance : Float) (ratios ratios′ : List Float) (m : ℕ) (c : CommonTail m kinds ratios kinds′ ratios′) (late : length kinds + 4 ≤ a + m) where
     pub colour-at : (i i′ : ℕ) → a ≤ i → Counterparts kinds kinds′ i i′ → i < length kinds → g + limit ≤ getD (hitOf kinds) i 0 + 1
         → colourAt limit tolerance kinds ratios i ≡ colourAt limit tolerance kinds′ ratios′ i′
     colour-at =

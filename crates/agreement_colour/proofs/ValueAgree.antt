@@ -5,8 +5,7 @@ use mathlib.Core.List.{List}
 use Prim.Native.Nat.{ℕ, _+_, _-_, _≤_, _<_}
 use native.Mathlib.Omega.{arith}
 use lib.Dec.{ltb}
-use lib.ListN.{length, drop, getD}
-use lib.Seq.{getD-drop}
+use lib.ListN.{length, getD}
 use lib.Ieee.{Float, nan, binary64, mul, div}
 use borrow.Author.Tests.{le-ltb}
 use Rattle.numeric.specs.Near.{isNear}
@@ -16,15 +15,9 @@ use Rattle.evaluator_color.specs.Color.{one, objectSum}
 use Rattle.evaluator_color.specs.RatioPenalty.{lowered, ratioPenalty}
 use Rattle.evaluator_calls.specs.Colour.{isFirst, lookedAt, colourAt}
 use Rattle.evaluator_calls.proofs.LookLaws.{change-first}
+use Rattle.agreement.specs.CommonTail.{CommonTail}
 use Rattle.agreement.specs.Agreement.{FirstAlike, Agree}
-use Rattle.agreement_colour.specs.ColourClaim.{CommonTail}
-
--- an entry of a common tail
-tail-at : {A : Type 0} (xs ys : List A) (p q : ℕ) → drop p xs ≡ drop q ys → (i j : ℕ) (d : A) → p ≤ i → i + q ≡ j + p → getD xs i d ≡ getD ys j d
-tail-at xs ys p q e i j d l h =
-    let x : p + (i - p) ≡ i = omega arith in
-    let y : q + (i - p) ≡ j = omega arith in
-    (λ t. getD xs (sym x t) d) ∙ sym (getD-drop p xs (i - p) d) ∙ (λ t. getD (e t) (i - p) d) ∙ getD-drop q ys (i - p) d ∙ (λ t. getD ys (y t) d)
+use Rattle.agreement.proofs.TailLaws.{same-at}
 
 -- from object 4 on the penalty hangs on the two ratios alone
 penalty-agree : (tolerance : Float) (i j : ℕ) (c p : Float) → 4 ≤ i → 4 ≤ j → ratioPenalty tolerance i c p ≡ ratioPenalty tolerance j c p
@@ -52,13 +45,15 @@ module _ {limit : ℕ} {kinds : List ℕ} {a g : ℕ} {kinds′ : List ℕ} {b h
   }
 
   -- the landmark stands four objects into the tail or later
-  pub value-agree : (tolerance : Float) (ratios ratios′ : List Float) (m : ℕ) → CommonTail kinds ratios kinds′ ratios′ m → length kinds + 4 ≤ a + m
+  pub value-agree : (tolerance : Float) (ratios ratios′ : List Float) (m : ℕ) → CommonTail m kinds ratios kinds′ ratios′ → length kinds + 4 ≤ a + m
       → (j : ℕ) → a + j < length kinds → g + limit ≤ getD (hitOf kinds) (a + j) 0 + 1
       → colourAt limit tolerance kinds ratios (a + j) ≡ colourAt limit tolerance kinds′ ratios′ (b + j)
   unfolding colourAt
   value-agree tolerance ratios ratios′ m c late j l n =
       let at : (i i′ : ℕ) → length kinds ≤ i + m → length kinds + i′ ≡ length kinds′ + i → getD ratios i nan ≡ getD ratios′ i′ nan =
-      λ i i′ f k. tail-at ratios ratios′ (length kinds - m) (length kinds′ - m) (c .ratios-alike) i i′ nan (omega arith) (omega (arith, c .inside, c .inside′)) in
+      λ i i′ f k.
+      same-at ratios ratios′ m (omega (arith, c .inside, c .whole)) (omega (arith, c .inside′, c .whole′)) (c .values-alike) i i′
+      (omega (arith, c .whole)) (omega (arith, c .whole, c .whole′)) nan in
       let this = at (a + j) (b + j) (omega arith) (omega (arith, r .objects)) in
       let earlier = at (a + j - 2) (b + j - 2) (omega arith) (omega (arith, r .objects, c .inside, c .inside′)) in
       (λ t. mul binary64 (objectSum (looked-agree j l n t)) (ratioPenalty tolerance (a + j) (this t) (earlier t)))

@@ -1,9 +1,9 @@
 -- Document 00, demand 3, the colour half, said of what the calls encode, colour and stretch answer on two accepted charts. The search limit and the tolerance are the base's:
 -- "From the sixteenth such hit pattern on" is `Settled searchLimit`.
-use Prim.Native.Nat.{ℕ, _-_, _≤_, _<_}
+use Prim.Native.Nat.{ℕ, _≤_, _<_}
 use mathlib.Core.Path.{_≡_}
 use mathlib.Core.Logic.{_↔_}
-use lib.ListN.{drop, getD}
+use lib.ListN.{getD}
 use lib.Ieee.{nan}
 use Rattle.grouping_chart.specs.Chart.{Chart, size}
 use Rattle.grouping_encode.specs.Encode as encode
@@ -12,14 +12,15 @@ use Rattle.evaluator_calls.specs.Colour.{isFirst}
 use Rattle.evaluator_calls.specs.Stretch.{meanOf, meanTenths}
 use Rattle.evaluator_calls.specs.Calls.{Memory, valuesOf, colourOutcome, stretchOutcome}
 use Rattle.evaluator_calls.specs.declared.Stretching.the-variants.{Done}
-use Rattle.agreement_colour.specs.ColourClaim.{Counterparts, Settled}
+use Rattle.agreement.specs.CommonTail.{Counterparts, lastOf}
+use Rattle.agreement_colour.specs.ColourClaim.{Settled}
 
 -- the last m objects of two charts are alike in kind and ratio. Their deltas need not be, for colour
 pub record AlikeCharts (c c′ : Chart) (m : ℕ) : Type 0 where
   pub inside : m ≤ size c
   pub inside′ : m ≤ size c′
-  pub kinds-alike : drop (size c - m) (c .kinds) ≡ drop (size c′ - m) (c′ .kinds)
-  pub ratios-alike : drop (size c - m) (c .ratios) ≡ drop (size c′ - m) (c′ .ratios)
+  pub kinds-alike : lastOf m (c .kinds) ≡ lastOf m (c′ .kinds)
+  pub ratios-alike : lastOf m (c .ratios) ≡ lastOf m (c′ .ratios)
 
 -- encode, with the memory lent in the two calls: the claims of ColourClaim on hit patterns and intervals, read off the answers that it writes
 pub record EncodeClaim (c c′ : Chart) (lent lent′ : encode.Memory) (position position′ : ℕ) : Type 0 where

@@ -2,29 +2,17 @@
 -- "A hit pattern opens at an object after a colour landmark exactly when one opens at its counterpart, and the two hold the same objects. From the sixteenth such hit pattern on,
 -- every object has its counterpart's repetition interval and, in all bits, its colour value; every accepted stretch lying wholly there has its counterpart's mean, in all bits,
 -- and its tenths."
-use Prim.Native.Nat.{ℕ, _+_, _-_, _≤_, _<_}
+use Prim.Native.Nat.{ℕ, _+_, _≤_, _<_}
 use mathlib.Core.Path.{_≡_}
 use mathlib.Core.Logic.{_↔_}
 use mathlib.Core.Bool.{true}
 use mathlib.Core.List.{List}
-use lib.ListN.{length, drop, getD}
+use lib.ListN.{length, getD}
 use lib.Ieee.{Float}
 use Rattle.grouping_color.specs.Preprocessor.{hitOf, intervalOf}
 use Rattle.evaluator_calls.specs.Colour.{isFirst, colourAt, colourValues}
 use Rattle.evaluator_calls.specs.Stretch.{meanOf, meanTenths}
-
--- i objects stand before a place of the first chart, i′ before one of the second: the two are equally far from their chart's end. For objects, landmarks and the ends of stretches
-abbrev pub Counterparts : List ℕ → List ℕ → ℕ → ℕ → Type 0
-Counterparts kinds kinds′ i i′ = length kinds + i′ ≡ length kinds′ + i
-
--- the last m objects of two charts are alike in kind and ratio
-pub record CommonTail (kinds : List ℕ) (ratios : List Float) (kinds′ : List ℕ) (ratios′ : List Float) (m : ℕ) : Type 0 where
-  pub a-ratio-each : length ratios ≡ length kinds
-  pub a-ratio-each′ : length ratios′ ≡ length kinds′
-  pub inside : m ≤ length kinds
-  pub inside′ : m ≤ length kinds′
-  pub kinds-alike : drop (length kinds - m) kinds ≡ drop (length kinds′ - m) kinds′
-  pub ratios-alike : drop (length kinds - m) ratios ≡ drop (length kinds′ - m) ratios′
+use Rattle.agreement.specs.CommonTail.{Counterparts}
 
 -- object i is of the M-th hit pattern after the landmark or of a later one: hit patterns are numbered in order, and the first after the landmark opens at object `position`
 pub record Settled (limit : ℕ) (kinds : List ℕ) (position i : ℕ) : Type 0 where

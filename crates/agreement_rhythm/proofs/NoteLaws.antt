@@ -11,8 +11,9 @@ use Rattle.grouping_chart.specs.Object.{isNote, notes, noteIdx}
 use Rattle.grouping_chart.specs.Notes.{noteDeltas}
 use Rattle.grouping_chart.proofs.NoteLaws.{length-note-deltas}
 use Rattle.grouping_chart.proofs.CutLaws.{note-deltas-append, notes-split, note-number}
-use Rattle.agreement_rhythm.specs.RhythmClaim.{Counterparts, lastOf, CommonTail, tailNotes}
-use Rattle.agreement_rhythm.proofs.RhythmAgree.{same-behind, same-at}
+use Rattle.agreement.specs.CommonTail.{Counterparts, lastOf, CommonTail}
+use Rattle.agreement.proofs.TailLaws.{same-behind, same-at}
+use Rattle.agreement_rhythm.specs.RhythmClaim.{tailNotes}
 
 -- the deltas of a chart's notes end in those of its last m objects
 module _ (m : ℕ) (kinds : List ℕ) (deltas : List Float) (whole : length deltas ≡ length kinds) (fits : m ≤ length kinds) where
@@ -40,7 +41,7 @@ module _ (m : ℕ) (kinds : List ℕ) (deltas : List Float) (whole : length delt
 -- two charts with a common tail have a common tail of notes
 module _ {m : ℕ} {kinds : List ℕ} {deltas : List Float} {kinds′ : List ℕ} {deltas′ : List Float} (c : CommonTail m kinds deltas kinds′ deltas′) where
   same-tail : noteDeltas (lastOf m kinds) (lastOf m deltas) ≡ noteDeltas (lastOf m kinds′) (lastOf m deltas′)
-  same-tail i = noteDeltas (c .kind-alike i) (c .delta-alike i)
+  same-tail i = noteDeltas (c .kinds-alike i) (c .values-alike i)
 
   pub same-count : tailNotes m kinds deltas ≡ tailNotes m kinds′ deltas′
   unfolding tailNotes
@@ -48,14 +49,14 @@ module _ {m : ℕ} {kinds : List ℕ} {deltas : List Float} {kinds′ : List ℕ
 
   pub notes-alike : lastOf (tailNotes m kinds deltas) (noteDeltas kinds deltas) ≡ lastOf (tailNotes m kinds deltas) (noteDeltas kinds′ deltas′)
   notes-alike =
-      notes-last m kinds deltas (c .whole) (c .fits) ∙ same-tail ∙ sym (notes-last m kinds′ deltas′ (c .whole′) (c .fits′))
+      notes-last m kinds deltas (c .whole) (c .inside) ∙ same-tail ∙ sym (notes-last m kinds′ deltas′ (c .whole′) (c .inside′))
       ∙ ap (λ (n : ℕ). lastOf n (noteDeltas kinds′ deltas′)) (sym same-count)
 
   -- ---- objects of the tail that are counterparts
 
-  module _ (o o′ : ℕ) (h : length kinds ≤ o + m) (l : o < length kinds) (e : length kinds + o′ ≡ length kinds′ + o) where
+  module _ (o o′ : ℕ) (h : length kinds ≤ o + m) (l : o < length kinds) (e : Counterparts kinds kinds′ o o′) where
     pub same-kind : isNote (getD kinds o 0) ≡ isNote (getD kinds′ o′ 0)
-    same-kind = ap isNote (same-at kinds kinds′ m (c .fits) (c .fits′) (c .kind-alike) o o′ h e 0)
+    same-kind = ap isNote (same-at kinds kinds′ m (c .inside) (c .inside′) (c .kinds-alike) o o′ h e 0)
 
     pub note-counterparts : isNote (getD kinds o 0) ≡ true → Counterparts (noteDeltas kinds deltas) (noteDeltas kinds′ deltas′) (noteIdx kinds o) (noteIdx kinds′ o′)
     note-counterparts n =
@@ -67,5 +68,5 @@ module _ {m : ℕ} {kinds : List ℕ} {deltas : List Float} {kinds′ : List ℕ
           length-note-deltas kinds′ deltas′ (c .whole′),
           notes-split kinds o,
           notes-split kinds′ o′,
-          ap (λ (ks : List ℕ). length (notes ks)) (same-behind kinds kinds′ m (c .fits) (c .fits′) (c .kind-alike) o o′ h e),
+          ap (λ (ks : List ℕ). length (notes ks)) (same-behind kinds kinds′ m (c .inside) (c .inside′) (c .kinds-alike) o o′ h e),
         )

@@ -4,16 +4,15 @@ use mathlib.Core.Logic.{_⊎_, inl, inr}
 use mathlib.Core.Bool.{true}
 use mathlib.Core.List.{List}
 use Prim.Native.Nat.{ℕ, suc, _+_, _-_, _≤_}
-use native.Mathlib.Numerals.{unary-clauses}
 use native.Mathlib.Omega.{arith}
 use lib.ListN.{length, drop, getD}
-use lib.Seq.{drop-drop, getD-drop}
 use lib.Ieee.{Float, nan}
 use Rattle.numeric.specs.Near.{isNear}
 use Rattle.grouping_interval.specs.IntervalGrouping.{marksAfter, intervalMarks}
 use Rattle.grouping_interval.proofs.SyncLaws.{marks-from}
+use Rattle.agreement.specs.CommonTail.{Counterparts, lastOf}
+use Rattle.agreement.proofs.TailLaws.{same-behind, same-at}
 use Rattle.agreement_rhythm.specs.RhythmLandmark.{RhythmLandmark}
-use Rattle.agreement_rhythm.specs.RhythmClaim.{Counterparts, lastOf}
 
 -- the marks from a landmark on
 pub landmark-marks : (margin : Float) (deltas : List Float) (t i : ℕ) → RhythmLandmark margin deltas t i
@@ -24,21 +23,6 @@ landmark-marks margin deltas t i m =
     (marks-from margin deltas (i - 1) (omega (arith, m .next-there)) (ap (λ (n : ℕ). isNear margin (getD deltas (i - 1) nan) (getD deltas n nan)) e ∙ m .near))
 
 -- ---- two lists whose last t elements are alike
-
-module _ {A : Type 0} (xs ys : List A) (t : ℕ) (fits : t ≤ length xs) (fits′ : t ≤ length ys) (alike : lastOf t xs ≡ lastOf t ys) (p q : ℕ) (h : length xs ≤ p + t)
-    (c : length xs + q ≡ length ys + p) where
-  -- counterparts in the tail have the same elements behind them
-  pub same-behind : drop p xs ≡ drop q ys
-  same-behind =
-      let a : p ≡ length xs - t + (p + t - length xs) = omega arith in
-      let b : q ≡ length ys - t + (p + t - length xs) = omega arith in
-      ap (λ (n : ℕ). drop n xs) a ∙ sym (drop-drop (p + t - length xs) (length xs - t) xs)
-      ∙ ap (drop (p + t - length xs)) alike
-      ∙ drop-drop (p + t - length xs) (length ys - t) ys ∙ ap (λ (n : ℕ). drop n ys) (sym b)
-
-  -- and are the same
-  pub same-at : (d : A) → getD xs p d ≡ getD ys q d
-  same-at d = simp unary-clauses at (sym (getD-drop p xs 0 d) ∙ ap (λ (l : List A). getD l 0 d) same-behind ∙ getD-drop q ys 0 d)
 
 module _ (xs ys : List Float) (t : ℕ) (fits : t ≤ length xs) (fits′ : t ≤ length ys) (alike : lastOf t xs ≡ lastOf t ys) where
   same-delta : (p q : ℕ) → length xs ≤ p + t → Counterparts xs ys p q → getD xs p nan ≡ getD ys q nan

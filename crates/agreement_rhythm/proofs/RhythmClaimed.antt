@@ -14,8 +14,9 @@ use Rattle.grouping_marks.proofs.NumberLaws.{number-opens, numbers-rise, number
 use Rattle.grouping_interval.specs.IntervalGrouping.{rises, marksAfter, intervalMarks}
 use Rattle.grouping_interval.proofs.IntervalLaws.{marks-rise, marks-neither, length-marks}
 use Rattle.grouping_chart.specs.Notes.{noteDeltas}
+use Rattle.agreement.specs.CommonTail.{Counterparts, lastOf, CommonTail}
 use Rattle.agreement_rhythm.specs.RhythmLandmark.{RhythmLandmark}
-use Rattle.agreement_rhythm.specs.RhythmClaim.{Counterparts, groupAt, OpensAt, RhythmClaim, lastOf, CommonTail, tailNotes, RhythmHalf}
+use Rattle.agreement_rhythm.specs.RhythmClaim.{groupAt, OpensAt, RhythmClaim, tailNotes, RhythmHalf}
 use Rattle.agreement_rhythm.proofs.RhythmAgree.{landmark-marks, either-list, rhythm-marks}
 use Rattle.agreement_rhythm.proofs.NoteLaws.{notes-fit, same-count, notes-alike, same-kind, note-counterparts}
 
@@ -173,7 +174,7 @@ rhythm-half margin m kinds deltas kinds′ deltas′ c = record {
   both-notes = same-kind c;
   note-counterparts = note-counterparts c;
   from-landmark = λ i i′ d x.
-      rhythm-claim margin (noteDeltas kinds deltas) (noteDeltas kinds′ deltas′) (tailNotes m kinds deltas) (notes-fit m kinds deltas (c .whole) (c .fits))
-      (omega (arith, same-count c, notes-fit m kinds′ deltas′ (c .whole′) (c .fits′))) (notes-alike c) i i′ d
+      rhythm-claim margin (noteDeltas kinds deltas) (noteDeltas kinds′ deltas′) (tailNotes m kinds deltas) (notes-fit m kinds deltas (c .whole) (c .inside))
+      (omega (arith, same-count c, notes-fit m kinds′ deltas′ (c .whole′) (c .inside′))) (notes-alike c) i i′ d
       (subst (λ (n : ℕ). RhythmLandmark margin (noteDeltas kinds deltas) (tailNotes m kinds deltas) i ⊎ RhythmLandmark margin (noteDeltas kinds′ deltas′) n i′) (sym (same-count c)) x);
 }

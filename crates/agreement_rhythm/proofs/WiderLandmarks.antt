@@ -15,7 +15,8 @@ use Rattle.numeric.specs.Near.{absOf, isNear}
 use Rattle.grouping_marks.specs.Scan.{scan}
 use Rattle.grouping_marks.specs.Marks.{opened, groupNumbers}
 use Rattle.grouping_interval.specs.IntervalGrouping.{rises, marksAfter, intervalMarks}
-use Rattle.agreement_rhythm.specs.RhythmClaim.{Counterparts, groupAt, OpensAt, RhythmClaim, lastOf}
+use Rattle.agreement.specs.CommonTail.{Counterparts, lastOf}
+use Rattle.agreement_rhythm.specs.RhythmClaim.{groupAt, OpensAt, RhythmClaim}
 use Rattle.agreement_rhythm.proofs.RhythmClaimed.{group-rise, rhythm-claim}
 use Rattle.agreement_rhythm.proofs.LandmarkLaws.{both}
 

@@ -1,23 +1,20 @@
 -- Document 00, demand 3, what it says of rhythm: "A rhythm group opens at a note at or after a rhythm landmark exactly when one opens at its counterpart, and the two hold
 -- the same notes." The groups are those that `intervalMarks` gives, over the deltas of a chart's notes. Notes are given by their numbers, from 0.
-use Prim.Native.Nat.{ℕ, _+_, _-_, _≤_, _<_}
+use Prim.Native.Nat.{ℕ, _+_, _≤_, _<_}
 use mathlib.Core.Path.{_≡_}
 use mathlib.Core.Logic.{_↔_, _⊎_}
 use mathlib.Core.Bool.{true}
 use mathlib.Core.List.{List}
-use lib.ListN.{length, drop, getD}
+use lib.ListN.{length, getD}
 use lib.Ieee.{Float}
 use Rattle.grouping_marks.specs.Marks.{groupNumbers}
 use Rattle.grouping_chart.specs.Object.{isNote, noteIdx}
 use Rattle.grouping_interval.specs.IntervalGrouping.{intervalMarks}
 use Rattle.grouping_chart.specs.Notes.{noteDeltas}
+use Rattle.agreement.specs.CommonTail.{Counterparts, lastOf}
 use Rattle.agreement_rhythm.specs.RhythmLandmark.{RhythmLandmark}
 
 -- ---- two lists of notes, given by their deltas
-
--- note p of the one and note q of the other are equally far from the ends
-abbrev pub Counterparts : List Float → List Float → ℕ → ℕ → Type 0
-Counterparts deltas deltas′ p q = length deltas + q ≡ length deltas′ + p
 
 -- the number of note p's rhythm group
 unfoldable pub groupAt : Float → List Float → ℕ → ℕ
@@ -48,22 +45,6 @@ pub record RhythmClaim (margin : Float) (deltas : List Float) (i : ℕ) (deltas�
 
 -- ---- two charts
 
--- the last m of them
-abbrev pub lastOf : {A : Type 0} → ℕ → List A → List A
-lastOf m xs = drop (length xs - m) xs
-
--- "The common tail is the last m objects of both charts, for any m for which each is alike to its counterpart": what of it concerns the rhythm groups
-pub record CommonTail (m : ℕ) (kinds : List ℕ) (deltas : List Float) (kinds′ : List ℕ) (deltas′ : List Float) : Type 0 where
-  -- each object has a kind and a delta
-  pub whole : length deltas ≡ length kinds
-  pub whole′ : length deltas′ ≡ length kinds′
-  -- both charts have m objects
-  pub fits : m ≤ length kinds
-  pub fits′ : m ≤ length kinds′
-  -- and their last m are alike in kind and in delta
-  pub kind-alike : lastOf m kinds ≡ lastOf m kinds′
-  pub delta-alike : lastOf m deltas ≡ lastOf m deltas′
-
 -- how many notes the last m objects hold
 unfoldable pub tailNotes : ℕ → List ℕ → List Float → ℕ
 tailNotes m kinds deltas = length (noteDeltas (lastOf m kinds) (lastOf m deltas))
@@ -71,8 +52,8 @@ tailNotes m kinds deltas = length (noteDeltas (lastOf m kinds) (lastOf m deltas)
 -- the rhythm half of demand 3 for two charts with a common tail of m objects
 pub record RhythmHalf (margin : Float) (m : ℕ) (kinds : List ℕ) (deltas : List Float) (kinds′ : List ℕ) (deltas′ : List Float) : Type 0 where
   -- objects of the tail that are counterparts are notes both or neither, and as notes they are counterparts too
-  pub both-notes : (o o′ : ℕ) → length kinds ≤ o + m → o < length kinds → length kinds + o′ ≡ length kinds′ + o → isNote (getD kinds o 0) ≡ isNote (getD kinds′ o′ 0)
-  pub note-counterparts : (o o′ : ℕ) → length kinds ≤ o + m → o < length kinds → length kinds + o′ ≡ length kinds′ + o → isNote (getD kinds o 0) ≡ true
+  pub both-notes : (o o′ : ℕ) → length kinds ≤ o + m → o < length kinds → Counterparts kinds kinds′ o o′ → isNote (getD kinds o 0) ≡ isNote (getD kinds′ o′ 0)
+  pub note-counterparts : (o o′ : ℕ) → length kinds ≤ o + m → o < length kinds → Counterparts kinds kinds′ o o′ → isNote (getD kinds o 0) ≡ true
       → Counterparts (noteDeltas kinds deltas) (noteDeltas kinds′ deltas′) (noteIdx kinds o) (noteIdx kinds′ o′)
   -- from every rhythm landmark in the tail, read in either chart
   pub from-landmark : (i i′ : ℕ) → Counterparts (noteDeltas kinds deltas) (noteDeltas kinds′ deltas′) i i′
