@@ -1,7 +1,7 @@
 -- Document 01, evaluators/rhythm.rs, `repeated_interval_penalty`: "threshold 0.1. Walk 3 groups back from a group, itself included; if all 3 exist with own intervals and some pair
 -- newer ÷ older is within 0.1 of 1.0, 0.8, else 1.0. The same with 4 if the group has fewer than 6 notes, else 1.0. The smaller, times the larger of
 -- 1.0 − duration × 2.0 / window and 0.5, duration being last start minus first." The 0.1 is a parameter, the threshold, as in the source.
-use Prim.Native.Nat.{ℕ}
+use Prim.Native.Nat.{ℕ, _≤_}
 use mathlib.Core.Bool.{Bool, false, cond, _||_}
 use mathlib.Core.List.{List, [], _∷_}
 use lib.Dec.{ltb}
@@ -42,6 +42,11 @@ somePair threshold (newer ∷ older) = similarTo threshold newer older || somePa
 unfoldable pub walkPenalty : Float → ℕ → List Own → Float
 walkPenalty threshold k owns =
     cond (ltb (length (present (take k owns))) k) one (cond (somePair threshold (present (take k owns))) eightTenths one)
+
+-- what a walk is asked for
+pub record ThreeOrFour (k : ℕ) : Type 0 where
+  pub least : 3 ≤ k
+  pub most : k ≤ 4
 
 -- a group's own interval and those of the three groups before it
 unfoldable pub newestFirst : Recent → List Own

@@ -4,7 +4,7 @@ ghost use mathlib.Core.Bool.{cond};
 ghost use mathlib.Core.List.{[], _∷_};
 ghost use lib.Dec.{ltb};
 ghost use Rattle.grouping_same_rhythm.specs.Own.{one};
-ghost use Rattle.evaluator_rhythm.specs.RepeatedInterval.{eightTenths, similar, somePair, walkPenalty, newestFirst, smaller, larger, durationPenalty, repeatedIntervalPenalty};
+ghost use Rattle.evaluator_rhythm.specs.RepeatedInterval.{eightTenths, similar, somePair, walkPenalty, ThreeOrFour, newestFirst, smaller, larger, durationPenalty, repeatedIntervalPenalty};
 use grouping_same_rhythm::own::Own;
 use grouping_same_rhythm::owns::Recent;
 use numeric::near::near;
@@ -49,46 +49,31 @@ fn penalty_if(similar: bool) -> f64
     if similar { 0.8 } else { 1.0 }
 }
 
-// The walk over a group and the two before it.
-fn walk_three(owns: Recent, threshold: f64) -> f64
-    ensures { λ r. ⌜ r ≡ walkPenalty threshold 3 (newestFirst owns) ⌝ }
-{
-    let newest = owns.newest;
-    let second = owns.second;
-    let third = owns.third;
-    match newest {
-        Own::Absent => 1.0,
-        Own::Millis(a) => match second {
-            Own::Absent => 1.0,
-            Own::Millis(b) => match third {
-                Own::Absent => 1.0,
-                Own::Millis(c) => penalty_if(similar_three(a, b, c, threshold)),
-            },
-        },
-    }
-}
-
-// The walk over a group and the three before it.
-fn walk_four(owns: Recent, threshold: f64) -> f64
-    ensures { λ r. ⌜ r ≡ walkPenalty threshold 4 (newestFirst owns) ⌝ }
+// The walk over k groups, a group and the ones before it.
+fn walk(owns: Recent, k: usize, threshold: f64) -> f64
+    requires { ⌜ ThreeOrFour k ⌝ }
+    ensures { λ r. ⌜ r ≡ walkPenalty threshold k (newestFirst owns) ⌝ }
 {
     let newest = owns.newest;
     let second = owns.second;
     let third = owns.third;
     let fourth = owns.fourth;
-    match newest {
-        Own::Absent => 1.0,
-        Own::Millis(a) => match second {
-            Own::Absent => 1.0,
-            Own::Millis(b) => match third {
-                Own::Absent => 1.0,
-                Own::Millis(c) => match fourth {
-                    Own::Absent => 1.0,
-                    Own::Millis(d) => penalty_if(similar_four(a, b, c, d, threshold)),
-                },
-            },
-        },
+    let Own::Millis(a) = newest else {
+        return 1.0;
+    };
+    let Own::Millis(b) = second else {
+        return 1.0;
+    };
+    let Own::Millis(c) = third else {
+        return 1.0;
+    };
+    if k == 3 {
+        return penalty_if(similar_three(a, b, c, threshold));
     }
+    let Own::Millis(d) = fourth else {
+        return 1.0;
+    };
+    penalty_if(similar_four(a, b, c, d, threshold))
 }
 
 // A group of six notes or more takes no penalty from the walk over four.
@@ -96,7 +81,7 @@ fn short_penalty(owns: Recent, notes: usize, threshold: f64) -> f64
     ensures { λ r. ⌜ r ≡ cond (ltb notes 6) (walkPenalty threshold 4 (newestFirst owns)) one ⌝ }
 {
     if notes < 6 {
-        return walk_four(owns, threshold);
+        return walk(owns, 4, threshold);
     }
     1.0
 }
@@ -129,7 +114,7 @@ pub fn repeated_interval_penalty(
 ) -> f64
     ensures { λ r. ⌜ r ≡ repeatedIntervalPenalty threshold owns notes duration window ⌝ }
 {
-    let long = walk_three(owns, threshold);
+    let long = walk(owns, 3, threshold);
     let short = short_penalty(owns, notes, threshold);
     smaller_of(long, short) * duration_penalty(duration, window)
 }

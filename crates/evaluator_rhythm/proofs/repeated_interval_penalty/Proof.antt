@@ -18,8 +18,8 @@ multiplied : (threshold : Float) (owns : Recent) (notes : ℕ) (duration window 
 unfolding repeatedIntervalPenalty
 multiplied threshold owns notes duration window l s w d = cc
 
-walk-three-requires : tie.Need-walk-three-requires
-walk-three-requires c κs = search needs
+walk-requires : tie.Need-walk-requires
+walk-requires c κs = search needs
 
 short-penalty-requires : tie.Need-short-penalty-requires
 short-penalty-requires c κs = search needs
@@ -35,13 +35,13 @@ returns c =
     let long = c .before .before .before in
     let x = long .before .args in
     multiplied (x .threshold) (x .owns) (x .notes) (x .duration) (x .window)
-    (long .walk-three .ensures) (c .before .before .short-penalty .ensures) (c .before .smaller-of .ensures) (c .duration-penalty .ensures)
+    (long .walk .ensures) (c .before .before .short-penalty .ensures) (c .before .smaller-of .ensures) (c .duration-penalty .ensures)
 
 pub repeated-interval-penalty-spec : {M : Type 1} → statement M
 repeated-interval-penalty-spec =
     tie.close
     (tie.spec
-    walk-three-requires
+    walk-requires
     short-penalty-requires
     smaller-of-requires
     duration-penalty-requires

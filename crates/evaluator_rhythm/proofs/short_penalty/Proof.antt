@@ -9,13 +9,13 @@ use Rattle.evaluator_rhythm.specs.RepeatedInterval.{walkPenalty, newestF
 use Rattle.evaluator_rhythm.proofs.short_penalty.Statement.{statement}
 use Rattle.evaluator_rhythm.proofs.short_penalty.Tie as tie
 
-walk-four-requires : tie.Need-walk-four-requires
-walk-four-requires c κs = search needs
+walk-requires : tie.Need-walk-requires
+walk-requires c κs = search needs
 
 returns : tie.Need-returns
 returns c =
     let start = c .before .before in
-    c .walk-four .ensures
+    c .walk .ensures
     ∙ sym (ap (λ (b : Bool). cond b (walkPenalty (start .args .threshold) 4 (newestFirst (start .args .owns))) one) (lt-ltb (start .args .notes) 6 (c .before .if1 .taken)))
 
 returns-2 : tie.Need-returns-2
@@ -25,4 +25,4 @@ returns-2 c =
     sym (ap (λ (b : Bool). cond b (walkPenalty (start .args .threshold) 4 (newestFirst (start .args .owns))) one) (le-ltb (start .args .notes) 6 (c .if1 .left)))
 
 pub short-penalty-spec : {M : Type 1} → statement M
-short-penalty-spec = tie.close (tie.spec walk-four-requires returns returns-2)
+short-penalty-spec = tie.close (tie.spec walk-requires returns returns-2)
