@@ -1,4 +1,4 @@
--- Size of the penalty for the crates above: with a duration up to 2 ^ 25 in size and a window from 1.0 on it is finite, so no NaN. Each formula is bounded by what its parts are. Assumes nothing.
+-- Size of the penalty for the crates above: with a duration up to 2 ^ 25 in size and a window from 1.0 to 1000.0 it is finite, so no NaN. Each formula is bounded by what its parts are. Assumes nothing.
 use mathlib.Core.Bool.{true, false, not, cond}
 use mathlib.Core.List.{List}
 use Prim.Native.Nat.{ℕ, _+_, _*_, _^_}
@@ -37,7 +37,7 @@ unfolding larger
 larger-bounded x y B h g = cond-bounded (le y x) x y B h g
 
 -- ---- a window that passed its test of range, from 1.0 to 1000.0
-abbrev pub thousand : Float
+abbrev thousand : Float
 thousand = fin false 125 (pos 3)
 
 from-one : (w : Float) → T (positive w) → T (le one w) → AtLeast w 1
@@ -46,7 +46,7 @@ from-one (inf s) p h = absurd p
 from-one (fin true m e) p h = absurd p
 from-one (fin false m e) p h = let k = le→cross one (fin false m e) tt p h in omega arith
 
-pub window-at-least : (w : Float) → T (le one w) → T (le w thousand) → AtLeast w 1
+window-at-least : (w : Float) → T (le one w) → T (le w thousand) → AtLeast w 1
 window-at-least w lo hi = from-one w (between one w thousand tt tt lo hi) lo
 
 -- ---- the penalty: a difference of two starts is at most 2 ^ 25 in size
@@ -79,6 +79,6 @@ module _ (threshold : Float) (owns : Recent) (notes : ℕ) (duration window : Fl
   penalty-fits =
       mul-fits binary64 (smaller (walkPenalty threshold 3 (newestFirst owns)) (cond (ltb notes 6) (walkPenalty threshold 4 (newestFirst owns)) one)) (durationPenalty duration window)
 
-  pub penalty-no-nan : Bounded duration (2 ^ 25) → AtLeast window 1 → T (not (isNan (repeatedIntervalPenalty threshold owns notes duration window)))
-  penalty-no-nan d w =
-      number-no-nan (bounded-number (repeatedIntervalPenalty threshold owns notes duration window) (2 ^ 26 + 1) penalty-fits (penalty-bounded d w))
+  pub penalty-no-nan : Bounded duration (2 ^ 25) → T (le one window) → T (le window thousand) → T (not (isNan (repeatedIntervalPenalty threshold owns notes duration window)))
+  penalty-no-nan d lo hi =
+      number-no-nan (bounded-number (repeatedIntervalPenalty threshold owns notes duration window) (2 ^ 26 + 1) penalty-fits (penalty-bounded d (window-at-least window lo hi)))

@@ -1,61 +1,17 @@
--- The own intervals of groups: one for each group, one more group, and the last four as the front of the list turned round.
+-- The own intervals of groups, one group at a time: the last four, and those of the groups left.
 use mathlib.Core.Path.{_≡_, refl, sym, ap, _∙_}
-use mathlib.Core.List.{List, [], _∷_, reverse, reverse-append}
-use Prim.Native.Nat.{ℕ, zero, suc, _+_, _<_}
+use mathlib.Core.List.{List, _∷_}
+use Prim.Native.Nat.{ℕ, suc, _+_}
 use native.Mathlib.Numerals.{add-one}
 use native.Mathlib.Omega.{arith}
-use lib.ListN.{length, take, drop, getD}
-use lib.Seq.{take-suc, drop-drop, getD-drop}
+use lib.ListN.{drop, getD}
+use lib.Seq.{drop-drop, getD-drop}
 use lib.Ieee.{Float}
 use Rattle.grouping_same_rhythm.specs.declared.own.Own.{Own}
 use Rattle.grouping_same_rhythm.specs.declared.own.Own.the-variants.{Absent}
 use Rattle.grouping_same_rhythm.specs.declared.owns.Recent.{Recent}
 use Rattle.grouping_same_rhythm.specs.Own.{modalDelta, snapped, ownsAfter, ownsOf}
 use Rattle.grouping_same_rhythm.specs.Passes.{ownBefore, recentOf}
-
--- ---- how many
-
-length-after : (margin : Float) (previous : Own) (groups : List (List Float)) → length (ownsAfter margin previous groups) ≡ length groups
-unfolding ownsAfter
-length-after margin previous [] = refl
-length-after margin previous (group ∷ groups) = ap suc (length-after margin (snapped margin (modalDelta margin group) previous) groups)
-
-pub length-owns : (margin : Float) (groups : List (List Float)) → length (ownsOf margin groups) ≡ length groups
-unfolding ownsOf
-length-owns margin groups = length-after margin Absent groups
-
--- ---- the last four
-
-before-turned : (owns : List Own) (g j : ℕ) → g < length owns → ownBefore owns g j ≡ getD (reverse (take (g + 1) owns)) j Absent
-unfolding ownBefore
-before-turned owns g j h = by g j h ∙ ap (λ (l : List Own). getD l j Absent) (sym (turned g h)) ∙ ap (λ (n : ℕ). getD (reverse (take n owns)) j Absent) (sym (add-one g))
-  where
-    turned : (g : ℕ) → g < length owns → reverse (take (suc g) owns) ≡ getD owns g Absent ∷ reverse (take g owns)
-    turned g h = ap reverse (take-suc owns g Absent h) ∙ reverse-append (take g owns) (getD owns g Absent ∷ [])
-
-    by : (g j : ℕ) → g < length owns → ownBefore owns g j ≡ getD (getD owns g Absent ∷ reverse (take g owns)) j Absent
-    by g zero h = refl
-    by zero (suc j) h = refl
-    by (suc g) (suc j) h = by g j (omega arith) ∙ ap (λ (l : List Own). getD l j Absent) (sym (turned g (omega arith)))
-
-module _ (owns : List Own) (g : ℕ) (h : g < length owns) where
-  pub recent-newest : recentOf owns g .newest ≡ getD (reverse (take (g + 1) owns)) 0 Absent
-  unfolding recentOf
-  recent-newest = before-turned owns g 0 h
-
-  pub recent-second : recentOf owns g .second ≡ getD (reverse (take (g + 1) owns)) 1 Absent
-  unfolding recentOf
-  recent-second = before-turned owns g 1 h
-
-  pub recent-third : recentOf owns g .third ≡ getD (reverse (take (g + 1) owns)) 2 Absent
-  unfolding recentOf
-  recent-third = before-turned owns g 2 h
-
-  pub recent-fourth : recentOf owns g .fourth ≡ getD (reverse (take (g + 1) owns)) 3 Absent
-  unfolding recentOf
-  recent-fourth = before-turned owns g 3 h
-
--- ---- one more group
 
 -- the own intervals of the four groups before group k
 unfoldable pub recentBefore : List Own → ℕ → Recent

@@ -74,15 +74,6 @@ pub letter-n : (k : ℕ) → (k ≡ 0 → ⊥) → (k ≡ 1 → ⊥) → 110 ≡
 unfolding letterOf
 letter-n k a b = rw (ne-eqb _ _ a, ne-eqb _ _ b)
 
-pub kind-small : (b : ℕ) → kindOf b ≤ 2
-unfolding kindOf
-kind-small b = go (eqb b 100) (eqb b 107)
-  where
-    go : (d k : Bool) → cond d 0 (cond k 1 2) ≤ 2
-    go true k = omega arith
-    go false true = omega arith
-    go false false = omega arith
-
 -- the letter of a letter's kind is that letter
 pub letter-again : (b : ℕ) → isLetter b ≡ true → letterOf (kindOf b) ≡ b
 unfolding isLetter kindOf letterOf
@@ -108,12 +99,6 @@ length-kinds t = length-map t kindOf
 pub kind-at : (t : List ℕ) (i : ℕ) (k : ℕ) → i < length t → k ≡ kindOf (getD t i 0) → k ≡ getD (kindsOf t) i 0
 unfolding kindsOf
 kind-at t i k h e = e ∙ sym (getD-map kindOf t i 0 0 h)
-
-pub kinds-small : (t : List ℕ) (i : ℕ) → getD (kindsOf t) i 0 ≤ 2
-unfolding kindsOf
-kinds-small [] i = omega arith
-kinds-small (b ∷ t) zero = kind-small b
-kinds-small (b ∷ t) (suc i) = kinds-small t i
 
 -- ---- the first byte that is no letter
 

@@ -13,7 +13,7 @@ use Rattle.grouping_marks.proofs.FillLaws.{length-tabulate, getD-tabulate}
 use Rattle.letters_text.specs.declared.Object.{Object}
 use Rattle.letters_text.specs.Letters.{letterOf}
 use Rattle.letters_text.specs.Decimal.{decimal}
-use Rattle.letters_text.specs.Lines.{Columns, objectAt, objects, lineHead, parting, firstLetter, nextLetter, linesAfter, linesOf, lines, badLine}
+use Rattle.letters_text.specs.Lines.{Columns, objectAt, objects, lineHead, parting, firstLetter, nextLetter, linesAfter, linesOf, lines}
 use Rattle.letters_text.specs.Memory.{Wrote, Written, LinesFit}
 use Rattle.letters_text.proofs.DecimalLaws.{decimal-two}
 use Rattle.letters_text.proofs.WroteLaws.{wrote-nothing, wrote-same, wrote-more, wrote-length, written, Progress, progress-start, progress-room, progress-turn, progress-end}
@@ -38,10 +38,6 @@ module _ (p o : Object) where
   parting-none a b d = rw (eq-eqb _ _ a, eq-eqb _ _ b, eq-eqb _ _ d)
 
 -- ---- how long the lines are
-
-pub bad-length : (p : ℕ) → length (badLine p) ≡ length (decimal p) + 5
-unfolding badLine
-bad-length p = simp length-append (omega arith)
 
 pub head-length : (o : Object) → length (lineHead o) ≡ length (decimal (o .interval)) + 1
 unfolding lineHead
