@@ -1,11 +1,11 @@
 // Groups of neighbouring values by their intervals: where a group ends, and each value's group number.
 ghost use mathlib.Core.Path.{_≡_};
 ghost use Prim.Native.Nat.{_+_, _≤_};
-ghost use lib.ListN.{length, replicate};
-ghost use Rattle.grouping_marks.specs.Over.{put};
+ghost use lib.ListN.{length};
 ghost use Rattle.grouping_interval.specs.IntervalGrouping.{rises};
 ghost use Rattle.grouping_interval.specs.GroupEnd.{endAfter, groupEnd};
 ghost use Rattle.grouping_interval.specs.Grouped.{Places, Grouped};
+use grouping_marks::fill;
 use numeric::near::near;
 
 pub mod walk;
@@ -58,18 +58,6 @@ pub fn group_end(values: &[f64], margin: f64, at: usize) -> usize
     last_end(values, margin, i)
 }
 
-// Writes the number of a group of m values, the first of them at `at`.
-fn number_group(group: &mut [u16], at: usize, m: usize, number: u16)
-    requires { ⌜ at + m ≤ length (now group) ⌝ }
-    ensures { λ r. ⌜ now (group .exit) ≡ put at (replicate m number) (now (group .entry)) ⌝ }
-{
-    let mut i = 0;
-    while i < m {
-        group[at + i] = number;
-        i += 1;
-    }
-}
-
 // Each value's group number, over the front of `group`; the result is how many groups there are.
 pub fn group_by_interval(values: &[f64], margin: f64, group: &mut [u16]) -> usize
     requires { ⌜ Places (now values) (now group) ⌝ }
@@ -80,7 +68,7 @@ pub fn group_by_interval(values: &[f64], margin: f64, group: &mut [u16]) -> usiz
     let mut at = 0;
     while at < n {
         let end = walk::next_end(values, margin, at);
-        number_group(group, at, end - at, count);
+        fill::store_all(group, at, end - at, count);
         count += 1;
         at = end;
     }

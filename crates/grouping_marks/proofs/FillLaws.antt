@@ -93,6 +93,7 @@ module _ {B : Type 0} (f : ℕ → B) where
       (λ l. List·getD-append (tabulate f n) (f n ∷ []) d i (rw length-tabulate l) ∙ getD-tabulate n i d l)
       (eq-or-lt-of-le (le-of-suc-le-suc h))
 
+-- functions that are equal below n make equal lists
 pub tabulate-agree : {B : Type 0} (f g : ℕ → B) (n : ℕ) → ((i : ℕ) → i < n → f i ≡ g i) → tabulate f n ≡ tabulate g n
 unfolding tabulate
 tabulate-agree f g zero e = refl

@@ -7,13 +7,7 @@ use native.Mathlib.Omega.{arith}
 use lib.ListN.{length, getD, length-append}
 use lib.Seq.{getD-append-add}
 use Rattle.grouping_marks.specs.Scan.{tabulate, gathered}
-use Rattle.grouping_marks.proofs.FillLaws.{getD-map}
-
--- functions that are equal below n make equal lists
-tabulate-same : {B : Type 0} (f g : ℕ → B) (n : ℕ) → ((i : ℕ) → i < n → f i ≡ g i) → tabulate f n ≡ tabulate g n
-unfolding tabulate
-tabulate-same f g zero h = refl
-tabulate-same f g (suc n) h = λ j. tabulate-same f g n (λ i l. h i (omega arith)) j ++ (h n (omega arith) j ∷ [])
+use Rattle.grouping_marks.proofs.FillLaws.{tabulate-agree, getD-map}
 
 tabulate-split : {B : Type 0} (f : ℕ → B) (a b : ℕ) → tabulate f (a + b) ≡ tabulate f a ++ tabulate (λ i. f (a + i)) b
 unfolding tabulate
@@ -28,13 +22,13 @@ pub tabulate-cut : {A B : Type 0} (f g : ℕ → B) (xs ys : List A) → ((i : �
     → tabulate f (length (xs ++ ys)) ≡ tabulate f (length xs) ++ tabulate g (length ys)
 tabulate-cut {B} f g xs ys h =
     ap (tabulate f) (length-append xs ys) ∙ tabulate-split f (length xs) (length ys)
-    ∙ ap (λ (l : List B). tabulate f (length xs) ++ l) (tabulate-same (λ i. f (length xs + i)) g (length ys) h)
+    ∙ ap (λ (l : List B). tabulate f (length xs) ++ l) (tabulate-agree (λ i. f (length xs + i)) g (length ys) h)
 
 -- the same, with the part for xs made by another function too
 pub tabulate-cut₂ : {A B : Type 0} (f e g : ℕ → B) (xs ys : List A) → ((i : ℕ) → i < length xs → f i ≡ e i) → ((i : ℕ) → i < length ys → f (length xs + i) ≡ g i)
     → tabulate f (length (xs ++ ys)) ≡ tabulate e (length xs) ++ tabulate g (length ys)
 tabulate-cut₂ {B} f e g xs ys h k =
-    tabulate-cut f g xs ys k ∙ ap (λ (l : List B). l ++ tabulate g (length ys)) (tabulate-same f e (length xs) h)
+    tabulate-cut f g xs ys k ∙ ap (λ (l : List B). l ++ tabulate g (length ys)) (tabulate-agree f e (length xs) h)
 
 -- ---- tables
 

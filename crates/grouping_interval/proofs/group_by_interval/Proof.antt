@@ -19,13 +19,13 @@ loop-holds c = walked-start _ _ _ _ refl (c .before .before .pre .room)
 next-end-requires : tie.Need-next-end-requires Inv-loop μ-loop
 next-end-requires c κs = search needs
 
-sub-number-group : tie.Need-sub-number-group Inv-loop μ-loop
-sub-number-group c =
+sub-store-all : tie.Need-sub-store-all Inv-loop μ-loop
+sub-store-all c =
     let l = c .before .before .before in
     omega (arith, walked-on (l .loop .inv) (c .before .before .loop-test .taken) (c .before .next-end .result) (c .before .next-end .ensures))
 
-number-group-requires : tie.Need-number-group-requires Inv-loop μ-loop
-number-group-requires c κs =
+store-all-requires : tie.Need-store-all-requires Inv-loop μ-loop
+store-all-requires c κs =
     let l = c .before .before .before in
     walked-on (l .loop .inv) (c .before .before .loop-test .taken) (c .before .next-end .result) (c .before .next-end .ensures) .room
 
@@ -40,7 +40,7 @@ loop-less c =
 loop-again : tie.Need-loop-again Inv-loop μ-loop
 loop-again c =
     let g = c .before .before .before .before in
-    walked-group (g .before .before .loop .inv) (g .before .loop-test .taken) (g .next-end .result) (g .next-end .ensures) _ (c .before .before .number-group .ensures)
+    walked-group (g .before .before .loop .inv) (g .before .loop-test .taken) (g .next-end .result) (g .next-end .ensures) _ (c .before .before .store-all .ensures)
 
 cast-result : tie.Need-cast-result Inv-loop μ-loop
 cast-result c = omega arith
@@ -59,8 +59,8 @@ group-by-interval-spec =
     μ-loop
     loop-holds
     next-end-requires
-    sub-number-group
-    number-group-requires
+    sub-store-all
+    store-all-requires
     add-count
     loop-less
     loop-again
