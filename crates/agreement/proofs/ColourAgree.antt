@@ -17,12 +17,12 @@ use Rattle.grouping_marks.proofs.NumberLaws.{numbers-rise}
 use Rattle.grouping_marks.proofs.SplitLaws.{Split, split-numbers, split-length, split-at, split-before}
 use Rattle.grouping_chart.specs.Object.{isNote}
 use Rattle.grouping_color.specs.MonoStreak.{streakMarks, streakOf, streakLengths}
-use Rattle.grouping_color.specs.Preprocessor.{patternsOpen, patternOf}
+use Rattle.grouping_color.specs.Preprocessor.{patternsOpen, coupledPatterns, patternOf}
 use Rattle.grouping_color.proofs.LengthLaws.{length-streakMarks}
 use Rattle.grouping_color.proofs.BoundLaws.{length-streakOf, length-patternsOpen, length-patternOf, streak-below, patternOf-looked}
 use Rattle.grouping_color.proofs.MadeLaws.{streakOf-made}
 use Rattle.grouping_color.proofs.StreakCutLaws.{HasNote, streakMarksAfter, streakMarks-cut, streakMarks-agree}
-use Rattle.agreement.specs.Landmark.{coupledPatterns, Landmark}
+use Rattle.agreement.specs.Landmark.{Landmark}
 use Rattle.agreement.specs.Agreement.{Agree, Agreement}
 use Rattle.agreement.proofs.AgreementLaws.{agreement-sym}
 use Rattle.agreement.proofs.PartLaws.{Parted, backPattern, patterns-split, objects-back, parted-agree}

@@ -8,8 +8,8 @@ use Rattle.grouping_marks.specs.Marks.{opened, groupCount, groupNumbers, sizesF
 use Rattle.grouping_chart.specs.Object.{isNote, notes, noteIdx, noteBefore, previousNote}
 use Rattle.grouping_color.specs.MonoStreak.{continues, opensStreak, streakMarks, streakOf, streakLengths, streakTypes}
 use Rattle.grouping_color.specs.AlternatingMonoPattern.{opensPattern, patternMarks, coupledAt, coupled}
-use Rattle.grouping_color.specs.Preprocessor.{patternsOpen, firstLengths, streakCounts, patternTypes, patternOf}
-use Rattle.agreement.specs.Landmark.{coupledPatterns, Landmark}
+use Rattle.grouping_color.specs.Preprocessor.{patternsOpen, firstLengths, streakCounts, patternTypes, coupledPatterns, patternOf}
+use Rattle.agreement.specs.Landmark.{Landmark}
 use Rattle.agreement.specs.LandmarkTest.{anyBelow, allTrue, objectServes, streakServes, patternServes, endsAt, landmarkBy, isLandmark, landmarksBelow, landmarks}
 use Rattle.agreement.proofs.LandmarkLaws.{test-landmark}
 

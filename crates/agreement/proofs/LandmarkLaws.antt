@@ -12,8 +12,8 @@ use borrow.Author.Tests.{ltb-true, leb-true, eqb-true, eqb-false, lt-ltb, le-leb
 use Rattle.grouping_marks.specs.Marks.{groupNumbers}
 use Rattle.grouping_chart.specs.Object.{isNote}
 use Rattle.grouping_color.specs.MonoStreak.{streakMarks, streakOf, streakLengths}
-use Rattle.grouping_color.specs.Preprocessor.{patternsOpen, patternOf}
-use Rattle.agreement.specs.Landmark.{coupledPatterns, Landmark}
+use Rattle.grouping_color.specs.Preprocessor.{patternsOpen, coupledPatterns, patternOf}
+use Rattle.agreement.specs.Landmark.{Landmark}
 use Rattle.agreement.specs.LandmarkTest.{anyBelow, allTrue, objectServes, streakServes, patternServes, endsAt, landmarkBy, isLandmark}
 
 -- ---- all of some tests, and a test of some number

@@ -16,13 +16,12 @@ use Rattle.grouping_marks.proofs.SplitLaws.{CutAt, cut-at}
 use Rattle.grouping_color.specs.MonoStreak.{streakMarks, streakLengths, streakTypes}
 use Rattle.grouping_color.specs.AlternatingMonoPattern.{patternMarks, coupledAt, coupled}
 use Rattle.grouping_color.specs.RepeatingHitPatterns.{hitMarks}
-use Rattle.grouping_color.specs.Preprocessor.{patternsOpen, firstLengths, streakCounts, patternTypes, hitsOpen}
+use Rattle.grouping_color.specs.Preprocessor.{patternsOpen, firstLengths, streakCounts, patternTypes, coupledPatterns, hitsOpen}
 use Rattle.grouping_color.proofs.LengthLaws.{length-streakMarks, length-patternMarks, length-coupled, length-hitMarks}
 use Rattle.grouping_color.proofs.MadeLaws.{streakLengths-made, streakTypes-made, patternsOpen-made, firstLengths-made, streakCounts-made, patternTypes-made, hitsOpen-made}
 use Rattle.grouping_color.proofs.StreakCutLaws.{streakMarksAfter, length-marksAfter, streakMarks-cut, streakLengths-cut, streakTypes-cut}
 use Rattle.grouping_color.proofs.PatternCutLaws.{Uneven, patternMarks-cut, patternMarks-opening, counts-cut, listed-cut}
 use Rattle.grouping_color.proofs.HitCutLaws.{coupled-cut, hitMarks-cut, hitMarks-opening}
-use Rattle.agreement.specs.Landmark.{coupledPatterns}
 use Rattle.agreement.proofs.PartLaws.{Back, Parted}
 
 -- ---- (a) a cut before a streak, after `position` objects: `marks` and `types` are the objects' marks and the streaks' types behind it

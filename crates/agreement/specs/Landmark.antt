@@ -9,12 +9,7 @@ use lib.ListN.{length, getD}
 use Rattle.grouping_marks.specs.Marks.{groupCount, groupNumbers}
 use Rattle.grouping_chart.specs.Object.{isNote}
 use Rattle.grouping_color.specs.MonoStreak.{streakMarks, streakOf, streakLengths}
-use Rattle.grouping_color.specs.AlternatingMonoPattern.{coupled}
-use Rattle.grouping_color.specs.Preprocessor.{patternsOpen, firstLengths, streakCounts, patternTypes, patternOf}
-
--- 1 for each alternating pattern that is coupled, else 0
-unfoldable pub coupledPatterns : List ℕ → List ℕ
-coupledPatterns kinds = coupled (firstLengths kinds) (streakCounts kinds) (patternTypes kinds)
+use Rattle.grouping_color.specs.Preprocessor.{patternsOpen, coupledPatterns, patternOf}
 
 -- a colour landmark of a chart with these kinds, where its last m objects are the common tail: `position` objects stand before the landmark.
 -- Objects, streaks and patterns are given by their numbers in the chart, from 0.

@@ -7,8 +7,7 @@ use lib.ListN.{length, getD}
 use Rattle.grouping_marks.specs.Marks.{groupCount, groupNumbers}
 use Rattle.grouping_chart.specs.Object.{isNote}
 use Rattle.grouping_color.specs.MonoStreak.{streakMarks, streakOf, streakLengths}
-use Rattle.grouping_color.specs.Preprocessor.{patternsOpen, patternOf}
-use Rattle.agreement.specs.Landmark.{coupledPatterns}
+use Rattle.grouping_color.specs.Preprocessor.{patternsOpen, coupledPatterns, patternOf}
 
 -- some number below n passes the test
 unfoldable pub anyBelow : ℕ → (ℕ → Bool) → Bool

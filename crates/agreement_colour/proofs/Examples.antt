@@ -14,13 +14,13 @@ use Rattle.grouping_chart.specs.Object.{isNote, notes, noteIdx, noteBefore, pre
 use Rattle.grouping_color.specs.MonoStreak.{continues, opensStreak, streakMarks, streakOf, streakLengths, streakTypes}
 use Rattle.grouping_color.specs.AlternatingMonoPattern.{opensPattern, patternMarks, coupledAt, coupled}
 use Rattle.grouping_color.specs.RepeatingHitPatterns.{stageAfter, opensHit, hitMarks}
-use Rattle.grouping_color.specs.Preprocessor.{patternsOpen, firstLengths, streakCounts, patternTypes, hitsOpen, patternOf, hitOf}
+use Rattle.grouping_color.specs.Preprocessor.{patternsOpen, firstLengths, streakCounts, patternTypes, coupledPatterns, hitsOpen, patternOf, hitOf}
 use Rattle.grouping_encode.specs.Encode.{searchLimit}
 use Rattle.evaluator_calls.specs.Colour.{colourAt, colourValues}
 use Rattle.evaluator_calls.specs.Stretch.{meanOf}
 use Rattle.evaluator_calls.specs.Calls.{baseTolerance}
 use Rattle.agreement.specs.CommonTail.{CommonTail}
-use Rattle.agreement.specs.Landmark.{coupledPatterns, Landmark}
+use Rattle.agreement.specs.Landmark.{Landmark}
 use Rattle.agreement_colour.specs.ColourClaim.{Settled, ColourClaim}
 use Rattle.agreement_colour.proofs.RiseLaws.{pattern-rises}
 use Rattle.agreement_colour.proofs.ColourClaimed.{colour-claim}

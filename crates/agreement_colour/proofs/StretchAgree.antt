@@ -7,11 +7,11 @@ use lib.IntN.{pos}
 use lib.ListN.{length, getD}
 use lib.Seq.{ext-getD}
 use lib.Ieee.{Float, nan, binary64, div, ofInt}
+use Rattle.numeric.specs.Constants.{zero}
 use Rattle.numeric.specs.Tenths.{tenthsOf}
 use Rattle.grouping_marks.specs.Over.{part}
 use Rattle.grouping_marks.proofs.OverLaws.{length-part, getD-part}
 use Rattle.grouping_color.specs.Preprocessor.{hitOf}
-use Rattle.evaluator_color.specs.Color.{zero}
 use Rattle.evaluator_calls.specs.Colour.{colourAt, colourValues}
 use Rattle.evaluator_calls.specs.Stretch.{sumFrom, meanOf, meanTenths}
 use Rattle.evaluator_calls.proofs.LookLaws.{length-values, value-of}

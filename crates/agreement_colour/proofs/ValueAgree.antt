@@ -8,10 +8,11 @@ use lib.Dec.{ltb}
 use lib.ListN.{length, getD}
 use lib.Ieee.{Float, nan, binary64, mul, div}
 use borrow.Author.Tests.{le-ltb}
+use Rattle.numeric.specs.Constants.{one}
 use Rattle.numeric.specs.Near.{isNear}
 use Rattle.grouping_color.specs.MonoStreak.{streakOf}
 use Rattle.grouping_color.specs.Preprocessor.{patternOf, hitOf}
-use Rattle.evaluator_color.specs.Color.{one, objectSum}
+use Rattle.evaluator_color.specs.Color.{objectSum}
 use Rattle.evaluator_color.specs.RatioPenalty.{lowered, ratioPenalty}
 use Rattle.evaluator_calls.specs.Colour.{isFirst, lookedAt, colourAt}
 use Rattle.evaluator_calls.proofs.LookLaws.{change-first}

@@ -13,6 +13,7 @@ use lib.Ieee.{Float, nan, inf, fin, binary64, fits, up, down, unlike, isNan, le,
 use lib.Ieee.Fits.{up-pos, down-pos, mul-fits, div-fits}
 use lib.Ieee.Exact.{HasValue}
 use lib.Ieee.Back.{round-whole}
+use Rattle.numeric.specs.Constants as constant
 use Rattle.numeric.specs.Tenths.{InTenthsRange}
 use Rattle.numeric.proofs.Values.{Number, number-no-nan}
 use Rattle.numeric.proofs.Bounded.{Bounded, bounded-more, bounded-number, bounded-tenths, round-bounded, add-bounded}
@@ -24,7 +25,6 @@ use Rattle.grouping_chart.specs.declared.chart.Verdict.the-variants.{Accepted}
 use Rattle.grouping_chart.proofs.AcceptedLaws.{GoodChart, accepted-good}
 use Rattle.grouping_chart.proofs.RangeLaws.{ratio-range}
 use Rattle.grouping_encode.specs.Encode.{searchLimit}
-use Rattle.evaluator_color.specs.Color as color
 use Rattle.evaluator_color.specs.Color.{objectSum}
 use Rattle.evaluator_color.specs.RatioPenalty.{ratioPenalty}
 use Rattle.evaluator_color.proofs.BoundLaws as formulas
@@ -128,16 +128,16 @@ module _ (c : Chart) (beside : ℕ) (accepted : verdict c beside ≡ Accepted) w
         let l : i < b - a = omega (arith, length-stretch) in
         subst (λ (x : Float). Bounded x largestColour) (sym (getD-part a (b - a) (valuesOf c) i nan l)) (value-bounded (a + i) (omega arith))
 
-    total-bounded : Bounded (sumFrom color.zero (part a (b - a) (valuesOf c))) ((b - a) * largestColour)
+    total-bounded : Bounded (sumFrom constant.zero (part a (b - a) (valuesOf c))) ((b - a) * largestColour)
     total-bounded =
-        subst (λ (n : ℕ). Bounded (sumFrom color.zero (part a (b - a) (valuesOf c))) (n * largestColour)) length-stretch
-        (subst (λ (n : ℕ). Bounded (sumFrom color.zero (part a (b - a) (valuesOf c))) n) (zero-add (length (part a (b - a) (valuesOf c)) * largestColour))
-        (sum-bounded largestColour 0 color.zero (part a (b - a) (valuesOf c)) (omega (arith, length-stretch, good .few)) (leb→le 0 0 tt) stretch-bounded))
+        subst (λ (n : ℕ). Bounded (sumFrom constant.zero (part a (b - a) (valuesOf c))) (n * largestColour)) length-stretch
+        (subst (λ (n : ℕ). Bounded (sumFrom constant.zero (part a (b - a) (valuesOf c))) n) (zero-add (length (part a (b - a) (valuesOf c)) * largestColour))
+        (sum-bounded largestColour 0 constant.zero (part a (b - a) (valuesOf c)) (omega (arith, length-stretch, good .few)) (leb→le 0 0 tt) stretch-bounded))
 
     pub mean-bounded : Bounded (meanOf (valuesOf c) a b) largestColour
     unfolding meanOf
     mean-bounded =
-        quotient-bounded (sumFrom color.zero (part a (b - a) (valuesOf c))) (ofInt binary64 (pos (b - a))) (b - a) largestColour (omega arith) (lit≤ tt) total-bounded
+        quotient-bounded (sumFrom constant.zero (part a (b - a) (valuesOf c))) (ofInt binary64 (pos (b - a))) (b - a) largestColour (omega arith) (lit≤ tt) total-bounded
         (whole-value (b - a) (omega (arith, good .few)))
 
     pub mean-number : Number (meanOf (valuesOf c) a b)

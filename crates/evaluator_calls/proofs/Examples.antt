@@ -6,6 +6,7 @@ use Prim.Native.Nat.{ℕ, _*_}
 use lib.IntN.{pos}
 use lib.ListN.{length, replicate}
 use lib.Ieee.{inf, binary64, round, add, sub, mul, div, le, ofInt, ofBits, toBits}
+use Rattle.numeric.specs.Constants.{zero, one, eightTenths}
 use Rattle.numeric.specs.Logistic.{tableBits, logisticAt}
 use Rattle.numeric.specs.Near.{isNear}
 use Rattle.numeric.specs.Tenths.{tenthsOf}
@@ -19,9 +20,9 @@ use Rattle.grouping_chart.specs.Refusal.{within, timeGood, ratioGood, objectRef
 use Rattle.grouping_color.specs.MonoStreak.{continues, opensStreak, streakMarks, streakOf, streakLengths, streakTypes}
 use Rattle.grouping_color.specs.AlternatingMonoPattern.{opensPattern, patternMarks, coupledAt, coupled}
 use Rattle.grouping_color.specs.RepeatingHitPatterns.{stageAfter, opensHit, hitMarks, secondAt, secondLengths, matches, nearestMatch, intervalAt, intervals}
-use Rattle.grouping_color.specs.Preprocessor.{patternsOpen, firstLengths, streakCounts, patternTypes, hitsOpen, hitCount, hitSizes, hitFirsts, hitSeconds, hitIntervals, streakPlaceOf, patternOf, patternPlaceOf, hitOf, intervalOf}
-use Rattle.evaluator_color.specs.Color.{zero, one, hitValue, altValue, monoValue, addIf, objectSum}
-use Rattle.evaluator_color.specs.RatioPenalty.{eightTenths, lowered, ratioPenalty}
+use Rattle.grouping_color.specs.Preprocessor.{patternsOpen, firstLengths, streakCounts, patternTypes, coupledPatterns, hitsOpen, hitCount, hitSizes, hitFirsts, hitSeconds, hitIntervals, streakPlaceOf, patternOf, patternPlaceOf, hitOf, intervalOf}
+use Rattle.evaluator_color.specs.Color.{hitValue, altValue, monoValue, addIf, objectSum}
+use Rattle.evaluator_color.specs.RatioPenalty.{lowered, ratioPenalty}
 use Rattle.evaluator_calls.specs.declared.Colouring.{Colouring}
 use Rattle.evaluator_calls.specs.declared.Colouring.the-variants as colouring
 use Rattle.evaluator_calls.specs.declared.Stretching.{Stretching}
@@ -94,5 +95,5 @@ stretches =
 -- every one of the two lists comes out as it says
 pub examples-right : (map (λ (e : Example). shown (colourOutcome (chart (e .kinds)) (lent (length (e .kinds))))) examples ≡ map (λ (e : Example). e .outcome) examples)
     × (map (λ (e : StretchExample). shown (stretchOutcome (chart (e .kinds)) (e .a) (e .b) (lent (length (e .kinds))))) stretches ≡ map (λ (e : StretchExample). e .outcome) stretches)
-unfolding examples stretches chart lent shown colourOutcome colourBy stretchOutcome stretchBy stretchVerdict meanTenths tenthsOf meanOf sumFrom part ofInt beside anyShort shortRefusal verdict even firstRefused objectRefusal timeGood ratioGood within filled valuesOf baseTolerance colourValues colourAt lookedAt isFirst over tabulate scan after gathered opened groupCount groupNumbers placeAt groupPlaces sizesFrom groupSizes firstsFrom groupFirsts isNote notes noteIdx noteBefore previousNote continues opensStreak streakMarks streakOf streakLengths streakTypes opensPattern patternMarks coupledAt coupled stageAfter opensHit hitMarks secondAt secondLengths matches nearestMatch intervalAt intervals patternsOpen firstLengths streakCounts patternTypes hitsOpen hitCount hitSizes hitFirsts hitSeconds hitIntervals streakPlaceOf patternOf patternPlaceOf hitOf intervalOf objectSum hitValue altValue monoValue addIf ratioPenalty lowered eightTenths logisticAt tableBits isNear round add sub mul div le ofBits toBits
+unfolding examples stretches chart lent shown colourOutcome colourBy stretchOutcome stretchBy stretchVerdict meanTenths tenthsOf meanOf sumFrom part ofInt beside anyShort shortRefusal verdict even firstRefused objectRefusal timeGood ratioGood within filled valuesOf baseTolerance colourValues colourAt lookedAt isFirst over tabulate scan after gathered opened groupCount groupNumbers placeAt groupPlaces sizesFrom groupSizes firstsFrom groupFirsts isNote notes noteIdx noteBefore previousNote continues opensStreak streakMarks streakOf streakLengths streakTypes opensPattern patternMarks coupledAt coupled stageAfter opensHit hitMarks secondAt secondLengths matches nearestMatch intervalAt intervals patternsOpen firstLengths streakCounts patternTypes coupledPatterns hitsOpen hitCount hitSizes hitFirsts hitSeconds hitIntervals streakPlaceOf patternOf patternPlaceOf hitOf intervalOf objectSum hitValue altValue monoValue addIf ratioPenalty lowered eightTenths logisticAt tableBits isNear round add sub mul div le ofBits toBits
 examples-right = (refl, refl)

@@ -7,12 +7,12 @@ use lib.IntN.{pos}
 use lib.ListN.{length, take, drop, getD}
 use lib.Seq.{getD-take, ext-getD}
 use lib.Ieee.{Float, nan, binary64, div, ofInt}
+use Rattle.numeric.specs.Constants.{zero}
 use Rattle.numeric.specs.Tenths.{InTenthsRange}
 use Rattle.grouping_marks.specs.Over.{over, part}
 use Rattle.grouping_marks.proofs.OverLaws.{length-over, front, length-part, getD-part, lent-part}
 use Rattle.grouping_chart.specs.Chart.{Chart, size}
 use Rattle.grouping_encode.specs.Encode.{searchLimit}
-use Rattle.evaluator_color.specs.Color.{zero}
 use Rattle.evaluator_calls.specs.Stretch.{sumFrom, meanOf}
 use Rattle.evaluator_calls.specs.Calls.{Memory, baseTolerance, beside, valuesOf}
 use Rattle.evaluator_calls.specs.Passes.{Coloured}

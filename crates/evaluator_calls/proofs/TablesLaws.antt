@@ -11,8 +11,8 @@ use Rattle.grouping_marks.proofs.OverLaws.{getD-part, over-agree}
 use Rattle.grouping_marks.proofs.FillLaws.{getD-gathered}
 use Rattle.grouping_color.specs.MonoStreak.{streakOf}
 use Rattle.grouping_color.specs.Preprocessor.{hitIntervals, streakPlaceOf, patternOf, patternPlaceOf, hitOf, intervalOf}
-use Rattle.grouping_color.specs.Passes.{Regions, Tables}
-use Rattle.grouping_color.specs.declared.preprocessor.Counts.{Counts}
+use Rattle.grouping_preprocessor.specs.Passes.{Regions, Tables}
+use Rattle.grouping_preprocessor.specs.declared.Counts.{Counts}
 use Rattle.grouping_color.proofs.BoundLaws.{streakPlaceOf-looked, patternOf-looked, patternPlaceOf-looked, hitOf-looked, intervalOf-looked, length-streakOf, length-patternOf, length-hitOf, streak-below, patternOf-below, hitOf-below}
 use Rattle.evaluator_calls.specs.Colour.{colourValues}
 use Rattle.evaluator_calls.specs.Passes.{Tabled, ObjectIn, NumbersAt, Coloured}

@@ -8,8 +8,8 @@ use Rattle.numeric.specs.Logistic.{logisticTable}
 use Rattle.grouping_marks.specs.Over.{over}
 use Rattle.grouping_color.specs.MonoStreak.{streakOf}
 use Rattle.grouping_color.specs.Preprocessor.{streakPlaceOf, patternOf, patternPlaceOf, hitOf, intervalOf}
-use Rattle.grouping_color.specs.Passes.{Regions, Tables}
-use Rattle.grouping_color.specs.declared.preprocessor.Counts.{Counts}
+use Rattle.grouping_preprocessor.specs.Passes.{Regions, Tables}
+use Rattle.grouping_preprocessor.specs.declared.Counts.{Counts}
 use Rattle.evaluator_color.specs.declared.Looked.{Looked}
 use Rattle.evaluator_calls.specs.Colour.{isFirst, colourValues}
 use Rattle.evaluator_calls.specs.declared.tables.Numbers.{Numbers}

@@ -4,9 +4,9 @@ use Prim.Native.Nat.{ℕ, _-_}
 use mathlib.Core.List.{List, [], _∷_}
 use lib.IntN.{ℤ, pos}
 use lib.Ieee.{Float, binary64, add, div, ofInt}
+use Rattle.numeric.specs.Constants.{zero}
 use Rattle.numeric.specs.Tenths.{tenthsOf}
 use Rattle.grouping_marks.specs.Over.{part}
-use Rattle.evaluator_color.specs.Color.{zero}
 
 -- each sum rounded
 unfoldable pub sumFrom : Float → List Float → Float

@@ -39,7 +39,7 @@ fn fill_chart(
     ensures { λ r. ⌜ Coloured limit tolerance (now (kind .entry)) (now (ratio .entry)) (now (value .entry)) (now (value .exit)) (now (work .entry)) (now (work .exit)) (now (scratch .entry)) (now (scratch .exit)) ⌝ }
 {
     let n = kind.len();
-    let k = grouping_color::preprocessor::encode_colors(kind, work, limit);
+    let k = grouping_preprocessor::encode_colors(kind, work, limit);
     let table = numeric::logistic::table();
     tables::fill_values(&table, kind, ratio, work, k, tolerance, value);
     fill::clear(work, 8 * n);

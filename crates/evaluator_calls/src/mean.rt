@@ -5,7 +5,7 @@ ghost use lib.IntN.{pos};
 ghost use lib.ListN.{length};
 ghost use lib.Ieee as Ieee;
 ghost use lib.Ieee.{binary64};
-ghost use Rattle.evaluator_color.specs.Color.{zero};
+ghost use Rattle.numeric.specs.Constants.{zero};
 ghost use Rattle.evaluator_calls.specs.Stretch.{sumFrom};
 ghost use Rattle.evaluator_calls.specs.Calls.{stretchVerdict};
 use grouping_chart::chart::Verdict;

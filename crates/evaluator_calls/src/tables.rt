@@ -7,7 +7,7 @@ ghost use Rattle.grouping_marks.specs.Over.{over};
 ghost use Rattle.evaluator_calls.specs.Colour.{colourAt, colourValues};
 ghost use Rattle.evaluator_calls.specs.Passes.{ObjectIn, NumbersAt, LookedIs, Lent};
 use evaluator_color::Looked;
-use grouping_color::preprocessor::Counts;
+use grouping_preprocessor::Counts;
 
 // An object's group number on each level.
 pub struct Numbers {

@@ -8,13 +8,14 @@ use lib.Dec.{T, ltb, leb→le}
 use lib.Ieee.{Float, nan, inf, fin, binary64, up, down, unlike, le, sub, mul, div}
 use lib.Ieee.Fits.{down-pos}
 use lib.Ieee.Positive.{positive, between, le→cross}
+use Rattle.numeric.specs.Constants.{zero, half, one, two, eightTenths}
 use Rattle.numeric.specs.Logistic.{logisticAt}
 use Rattle.numeric.specs.Near.{isNear}
 use Rattle.numeric.proofs.Bounded.{Bounded, bounded-more, round-bounded, add-bounded, sub-bounded, mul-bounded, div-bounded}
 use Rattle.numeric.proofs.logistic.Bounds.{logistic-bounded, rest-bounded}
 use Rattle.evaluator_color.specs.declared.Looked.{Looked}
-use Rattle.evaluator_color.specs.Color.{zero, half, one, two, hitValue, altValue, monoValue, addIf, objectSum}
-use Rattle.evaluator_color.specs.RatioPenalty.{eightTenths, lowered, ratioPenalty}
+use Rattle.evaluator_color.specs.Color.{hitValue, altValue, monoValue, addIf, objectSum}
+use Rattle.evaluator_color.specs.RatioPenalty.{lowered, ratioPenalty}
 
 -- ---- an object's sum
 pub hit-bounded : (interval : ℕ) → Bounded (hitValue interval) 2

@@ -5,11 +5,12 @@ use mathlib.Core.List.{List, [], _∷_, map}
 use Prim.Native.Nat.{ℕ}
 use lib.IntN.{negsuc}
 use lib.Ieee.{Float, fin, binary64, round, add, sub, mul, div, le, ofBits, toBits}
+use Rattle.numeric.specs.Constants.{half, one, two, eightTenths}
 use Rattle.numeric.specs.Logistic.{tableBits, logisticAt}
 use Rattle.numeric.specs.Near.{isNear}
 use Rattle.evaluator_color.specs.declared.Looked.{Looked}
-use Rattle.evaluator_color.specs.Color.{half, one, two, hitValue, altValue, monoValue, addIf, objectSum}
-use Rattle.evaluator_color.specs.RatioPenalty.{eightTenths, lowered, ratioPenalty}
+use Rattle.evaluator_color.specs.Color.{hitValue, altValue, monoValue, addIf, objectSum}
+use Rattle.evaluator_color.specs.RatioPenalty.{lowered, ratioPenalty}
 
 abbrev looked : ℕ → ℕ → ℕ → Bool → Bool → Bool → Looked
 looked interval outer inner streak pattern hit = record { interval = interval; outer = outer; inner = inner; streak = streak; pattern = pattern; hit = hit }

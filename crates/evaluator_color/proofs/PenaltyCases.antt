@@ -4,8 +4,8 @@ use mathlib.Core.Bool.{Bool, cond}
 use Prim.Native.Nat.{ℕ}
 use lib.Dec.{ltb}
 use lib.Ieee.{Float, binary64, div}
+use Rattle.numeric.specs.Constants.{one}
 use Rattle.numeric.specs.Near.{isNear}
-use Rattle.evaluator_color.specs.Color.{one}
 use Rattle.evaluator_color.specs.RatioPenalty.{lowered, ratioPenalty}
 
 module _ (tolerance : Float) (idx : ℕ) (c p : Float) where

@@ -10,10 +10,10 @@ use lib.Ieee.{Float, nan, inf, fin, binary64, fits, up, down, le, round, div}
 use lib.Ieee.Fits.{up-pos, down-pos}
 use lib.Ieee.Positive.{positive, between}
 use lib.Ieee.Scale.{round-same}
+use Rattle.numeric.specs.Constants.{one}
 use Rattle.numeric.specs.Near.{isNear}
 use Rattle.numeric.proofs.Values.{Number, zero64}
 use Rattle.numeric.proofs.near.Laws.{near-self}
-use Rattle.evaluator_color.specs.Color.{one}
 use Rattle.evaluator_color.proofs.BoundLaws.{lowest, highest}
 
 one-rounded : round binary64 false 1 1 ≡ one

@@ -1,22 +1,10 @@
 -- Document 01, evaluators/color.rs: "Operations in this order, each rounded" (IEEE 754-2019, 5.4.1), in binary64.
-use mathlib.Core.Bool.{Bool, false, cond}
+use mathlib.Core.Bool.{Bool, cond}
 use Prim.Native.Nat.{ℕ}
-use lib.IntN.{pos, negsuc}
-use lib.Ieee.{Float, fin, binary64, add, sub, mul}
+use lib.Ieee.{Float, binary64, add, sub, mul}
+use Rattle.numeric.specs.Constants.{zero, half, one, two}
 use Rattle.numeric.specs.Logistic.{logisticAt}
 use Rattle.evaluator_color.specs.declared.Looked.{Looked}
-
-abbrev pub zero : Float
-zero = fin false 0 (pos 0)
-
-abbrev pub half : Float
-half = fin false 1 (negsuc 0)
-
-abbrev pub one : Float
-one = fin false 1 (pos 0)
-
-abbrev pub two : Float
-two = fin false 1 (pos 1)
 
 -- "hit = 2.0 × (1.0 − T(interval))"
 unfoldable pub hitValue : ℕ → Float

@@ -1,15 +1,11 @@
 -- Document 01, evaluators/color.rs: "Ratio penalty: idx below 2 gives 1.0. Let c be its ratio and p that of idx − 2. If |1.0 − c / p| ≤ 0.01, it is 1.0 − c / 2.0 × 0.8.
 -- Else idx below 4 gives 1.0, and all others 1.0 − p / 2.0 × 0.8." The 0.01 is a parameter, the tolerance, as the source's threshold is.
-use mathlib.Core.Bool.{false, cond}
+use mathlib.Core.Bool.{cond}
 use Prim.Native.Nat.{ℕ}
 use lib.Dec.{ltb}
-use lib.Ieee.{Float, binary64, round, sub, mul, div}
+use lib.Ieee.{Float, binary64, sub, mul, div}
+use Rattle.numeric.specs.Constants.{one, two, eightTenths}
 use Rattle.numeric.specs.Near.{isNear}
-use Rattle.evaluator_color.specs.Color.{one, two}
-
--- 0.8, the f64 nearest to 8 / 10
-unfoldable pub eightTenths : Float
-eightTenths = round binary64 false 8 10
 
 -- 1.0 − r / 2.0 × 0.8
 unfoldable pub lowered : Float → Float

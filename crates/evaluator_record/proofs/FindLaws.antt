@@ -1,14 +1,14 @@
 -- All of a group, over the promises of the passes that find it: the intervals are made from the first objects that lie in region 1 and cover the front of the float slice;
 -- then both slices are cleared, and what is past the regions is as it was. Assumes nothing.
 use mathlib.Core.Path.{_≡_, sym, ap, _∙_, subst}
-use mathlib.Core.List.{List}
+use mathlib.Core.List.{List, [], _∷_}
 use Prim.Native.Nat.{ℕ, _+_, _-_, _*_, _≤_, _<_}
 use native.Mathlib.Omega.{arith}
 use lib.ListN.{length, take, drop, getD, replicate, length-replicate}
 use lib.Seq.{getD-take}
 use lib.Ieee.{Float, nan, binary64, ofBits}
-use Rattle.grouping_marks.specs.Over.{over}
-use Rattle.grouping_marks.proofs.OverLaws.{length-over, front, drop-over, over-agree, lent-part}
+use Rattle.grouping_marks.specs.Over.{over, put, write, written}
+use Rattle.grouping_marks.proofs.OverLaws.{length-over, front, drop-over, put-front, over-agree, lent-part, written-append}
 use Rattle.grouping_same_rhythm.specs.Own.{ratioOf}
 use Rattle.grouping_same_rhythm.specs.SameRhythm.{groupObjects, firstsOf, startsOf, intervalsOf, groupIntervals}
 use Rattle.grouping_same_rhythm.specs.SamePatterns.{patternOf}
@@ -17,7 +17,7 @@ use Rattle.grouping_same_rhythm.specs.declared.patterns.Pattern.{Pattern}
 use Rattle.grouping_same_rhythm.proofs.MadeLaws.{groupIntervals-made}
 use Rattle.evaluator_rhythm.specs.RepeatedInterval.{repeatedIntervalPenalty}
 use Rattle.evaluator_record.specs.Record.{recordOf}
-use Rattle.evaluator_record.specs.Passes.{GroupRoom, LocatedIs, FoundIs, Recorded}
+use Rattle.evaluator_record.specs.Passes.{GroupRoom, LocatedIs, locateWrites, findWrites, FoundIs, Recorded}
 use Rattle.evaluator_record.specs.declared.found.Located.{Located}
 use Rattle.evaluator_record.specs.declared.found.Found.{Found}
 use Rattle.grouping_rhythm.proofs.TablesLaws.{length-first-objects, length-group-intervals, first-object-below}
@@ -59,19 +59,19 @@ module _ {margin : Float} {kinds : List ℕ} {starts deltas : List Float} {g : �
     long : length intervals ≡ r .groups
     long = length-group-intervals margin kinds deltas (room .whole) starts ∙ sym (at .groups)
 
-    written : scratch ≡ over intervals scratch₁
-    written =
+    filled-is : scratch ≡ over intervals scratch₁
+    filled-is =
         filled ∙ ap (λ (l : List ℕ). over (intervalsOf margin (startsOf starts l)) scratch₁) lent
         ∙ ap (λ (l : List Float). over l scratch₁) (sym (groupIntervals-made margin kinds deltas starts))
 
     floats-left : length scratch ≡ length scratch₀
-    floats-left = ap length written ∙ length-over intervals scratch₁ (omega (arith, long, few, at .floats, room .floats)) ∙ at .floats
+    floats-left = ap length filled-is ∙ length-over intervals scratch₁ (omega (arith, long, few, at .floats, room .floats)) ∙ at .floats
 
     pub intervals-inside : r .groups ≤ length scratch
     intervals-inside = omega (arith, few, floats-left, room .floats)
 
     intervals-front : take (r .groups) scratch ≡ intervals
-    intervals-front = ap (take (r .groups)) written ∙ front intervals scratch₁ (r .groups) long
+    intervals-front = ap (take (r .groups)) filled-is ∙ front intervals scratch₁ (r .groups) long
 
     pub intervals-counted : r .groups ≡ length (take (r .groups) scratch)
     intervals-counted = sym long ∙ ap length (sym intervals-front)
@@ -80,6 +80,7 @@ module _ {margin : Float} {kinds : List ℕ} {starts deltas : List Float} {g : �
         → FoundIs margin kinds starts deltas g work₀ work scratch₀ scratch (
         record { first = r .first; notes = r .notes; owns = r .owns; duration = r .duration; interval = getD scratch g nan; pattern = p }
         )
+    unfolding written findWrites
     found p e = record {
       first = at .first;
       notes = at .notes;
@@ -87,10 +88,14 @@ module _ {margin : Float} {kinds : List ℕ} {starts deltas : List Float} {g : �
       duration = at .duration;
       interval = sym (getD-take (r .groups) scratch g nan group-below) ∙ ap (λ (l : List Float). getD l g nan) intervals-front;
       pattern = e ∙ ap (λ (l : List Float). patternOf margin l g) intervals-front;
+      memory = at .memory;
+      scratch-memory =
+          filled-is ∙ sym (put-front intervals scratch₁) ∙ ap (put 0 intervals) (at .scratch-memory)
+          ∙ sym (written-append (locateWrites margin kinds deltas g) (write 0 intervals ∷ []) scratch₀);
       regions = at .regions;
       floats = floats-left;
       past = at .past;
-      past-floats = ap (drop (length kinds)) written ∙ drop-over intervals scratch₁ (length kinds) (omega (arith, long, few)) ∙ at .past-floats;
+      past-floats = ap (drop (length kinds)) filled-is ∙ drop-over intervals scratch₁ (length kinds) (omega (arith, long, few)) ∙ at .past-floats;
     }
 
 -- ---- the group is found, and both slices are cleared

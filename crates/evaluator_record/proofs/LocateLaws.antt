@@ -2,30 +2,30 @@
 -- the groups' first objects behind them, so what is read at the group's ends is what the definition has there. Assumes nothing.
 use mathlib.Core.Path.{_≡_, sym, ap, _∙_, subst}
 use mathlib.Core.List.{List, [], _++_}
-use Prim.Native.Nat.{ℕ, _+_, _-_, _*_, _≤_, _<_}
+use Prim.Native.Nat.{ℕ, suc, _+_, _-_, _*_, _≤_, _<_}
 use native.Mathlib.Omega.{arith}
 use lib.Dec.{T}
 use lib.ListN.{length, take, drop, getD}
 use lib.Seq.{getD-take}
 use lib.Ieee.{Float, nan, binary64, sub}
 use lib.Ieee.Scale.{finite}
-use Rattle.grouping_marks.specs.Over.{over, put, part}
+use Rattle.grouping_marks.specs.Over.{over, put, part, written}
 use Rattle.grouping_marks.specs.Marks.{groupCount}
 use Rattle.grouping_marks.specs.Parted.{parted}
-use Rattle.grouping_marks.proofs.OverLaws.{length-over, front, drop-over, length-part, getD-part, length-put, drop-put, part-put-same, getD-put-before}
+use Rattle.grouping_marks.proofs.OverLaws.{length-over, front, drop-over, put-front, length-part, getD-part, length-put, drop-put, part-put-same, getD-put-before}
 use Rattle.grouping_marks.proofs.PieceLaws.{over-pieces}
 use Rattle.grouping_chart.specs.Notes.{noteObjects, noteDeltas}
 use Rattle.grouping_chart.proofs.NoteLaws.{object-below, note-deltas-all}
 use Rattle.grouping_interval.specs.IntervalGrouping.{intervalMarks}
 use Rattle.grouping_notes.specs.Notes.{NotesListed}
-use Rattle.grouping_same_rhythm.specs.SameRhythm.{groupObjects, firstsOf}
+use Rattle.grouping_same_rhythm.specs.SameRhythm.{groupObjects, groupDeltas, firstsOf}
 use Rattle.grouping_same_rhythm.specs.Own.{ownsOf}
-use Rattle.grouping_same_rhythm.specs.Passes.{GroupThere, ReachedIs, FirstsRoom, FirstsListed, recentOf}
+use Rattle.grouping_same_rhythm.specs.Passes.{GroupThere, ReachedIs, FirstsRoom, FirstsListed, settledUpTo, recentOf}
 use Rattle.grouping_same_rhythm.specs.declared.owns.Reached.{Reached}
 use Rattle.grouping_same_rhythm.proofs.MadeLaws.{rhythmMarks-made, groupObjects-made, groupDeltas-made}
 use Rattle.grouping_rhythm.specs.Rhythm.{groupsIn}
 use Rattle.evaluator_record.specs.Record.{objectsIn, ownsAt, durationOf}
-use Rattle.evaluator_record.specs.Passes.{GroupRoom, LocatedIs}
+use Rattle.evaluator_record.specs.Passes.{GroupRoom, workWrites, locateWrites, LocatedIs}
 use Rattle.grouping_rhythm.proofs.TablesLaws.{groups-counted, length-first-objects}
 use Rattle.evaluator_record.proofs.GroupLaws.{objects-few, deltas-noted, groups-few}
 
@@ -88,8 +88,8 @@ module _ {margin : Float} {kinds : List ℕ} {starts deltas : List Float} {g : �
     counted : groups ≡ groupsIn margin kinds deltas
     counted = firsts .count ∙ (λ t. groupCount (intervalMarks margin (deltas-front t))) ∙ sym (groups-counted margin kinds deltas (room .whole))
 
-    written : work₂ ≡ put (length kinds) (firstsOf (groupObjects margin kinds deltas)) work₁
-    written =
+    firsts-written : work₂ ≡ put (length kinds) (firstsOf (groupObjects margin kinds deltas)) work₁
+    firsts-written =
         firsts .objects
         ∙ ap (λ (n : ℕ). put (length kinds) (firstsOf (parted (intervalMarks margin (take m scratch₁)) (take n work₁))) work₁) front-long
         ∙ (λ t. put (length kinds) (firstsOf (parted (intervalMarks margin (deltas-front t)) (objects-front t))) work₁)
@@ -103,13 +103,13 @@ module _ {margin : Float} {kinds : List ℕ} {starts deltas : List Float} {g : �
 
     regions-left : length work₂ ≡ length work₀
     regions-left =
-        ap length written
+        ap length firsts-written
         ∙ length-put (length kinds) (firstsOf (groupObjects margin kinds deltas)) work₁ (omega (arith, firsts-long, firsts-few, notes-few, work-long, room .regions))
         ∙ work-long
 
     object-at : (i : ℕ) → i < m → getD work₂ i 0 ≡ getD (noteObjects kinds) i 0
     object-at i h =
-        ap (λ (l : List ℕ). getD l i 0) written
+        ap (λ (l : List ℕ). getD l i 0) firsts-written
         ∙ getD-put-before (length kinds) (firstsOf (groupObjects margin kinds deltas)) work₁ i 0 (omega (arith, work-long, room .regions)) (omega (arith, notes-few))
         ∙ sym (getD-take m work₁ i 0 h)
         ∙ ap (λ (l : List ℕ). getD l i 0) objects-front
@@ -158,12 +158,17 @@ module _ {margin : Float} {kinds : List ℕ} {starts deltas : List Float} {g : �
           ∙ sym (noted-at (r .end - r .at - 1) (omega (arith, reached .from)))
           ∙ ap (λ (n : ℕ). getD (objectsIn margin kinds deltas g) (n - 1) 0) (sym noted-long)
 
+      deltas-grouped : parted (intervalMarks margin (take m scratch₁)) (take m scratch₁) ≡ groupDeltas margin kinds deltas
+      deltas-grouped =
+          (λ t. parted (intervalMarks margin (deltas-front t)) (deltas-front t))
+          ∙ sym (groupDeltas-made margin kinds deltas ∙ ap (λ (ms : List ℕ). parted ms (noteDeltas kinds deltas)) (rhythmMarks-made margin kinds deltas))
+
       owns-is : r .owns ≡ ownsAt margin kinds deltas g
       unfolding ownsAt
-      owns-is =
-          reached .owns ∙ (λ t. recentOf (ownsOf margin (parted (intervalMarks margin (deltas-front t)) (deltas-front t))) g)
-          ∙ ap (λ (l : List (List Float)). recentOf (ownsOf margin l) g)
-          (sym (groupDeltas-made margin kinds deltas ∙ ap (λ (ms : List ℕ). parted ms (noteDeltas kinds deltas)) (rhythmMarks-made margin kinds deltas)))
+      owns-is = reached .owns ∙ ap (λ (l : List (List Float)). recentOf (ownsOf margin l) g) deltas-grouped
+
+      left-is : left ≡ settledUpTo (suc g) (groupDeltas margin kinds deltas)
+      left-is = reached .left ∙ ap (settledUpTo (suc g)) deltas-grouped
 
       pub located : length left ≡ length (take m scratch₁)
           → LocatedIs margin kinds starts deltas g work₀ work₂ scratch₀ (left ++ drop m scratch₁) (
@@ -175,7 +180,7 @@ module _ {margin : Float} {kinds : List ℕ} {starts deltas : List Float} {g : �
             groups = groups;
           }
           )
-      unfolding durationOf
+      unfolding durationOf written workWrites locateWrites
       located kept =
           let long : length left ≡ m = kept ∙ front-long in
           let back : left ++ drop m scratch₁ ≡ over left scratch₁ = over-pieces left scratch₁ m long in
@@ -185,14 +190,17 @@ module _ {margin : Float} {kinds : List ℕ} {starts deltas : List Float} {g : �
             owns = owns-is;
             duration = (λ t. sub binary64 (getD starts (last-is t) nan) (getD starts (first-is t) nan));
             groups = counted;
+            memory = firsts-written ∙ ap (put (length kinds) (firstsOf (groupObjects margin kinds deltas))) (listed .numbers ∙ sym (put-front (noteObjects kinds) work₀));
+            scratch-memory =
+                back ∙ sym (put-front left scratch₁) ∙ (λ t. put 0 (left-is t) ((listed .floats ∙ sym (put-front (noteDeltas kinds deltas) scratch₀)) t));
             firsts =
-                ap (part (length kinds) groups) written
+                ap (part (length kinds) groups) firsts-written
                 ∙ part-put-same (length kinds) groups (firstsOf (groupObjects margin kinds deltas)) work₁ firsts-long
                 (omega (arith, firsts-few, notes-few, work-long, room .regions));
             regions = regions-left;
             floats = ap length back ∙ length-over left scratch₁ (omega (arith, long, notes-inside)) ∙ scratch-long;
             past =
-                ap (drop (8 * length kinds)) written
+                ap (drop (8 * length kinds)) firsts-written
                 ∙ drop-put (8 * length kinds) (length kinds) (firstsOf (groupObjects margin kinds deltas)) work₁ (omega (arith, firsts-long, firsts-few, notes-few))
                 ∙ ap (drop (8 * length kinds)) (listed .numbers)
                 ∙ drop-over (noteObjects kinds) work₀ (8 * length kinds) (omega (arith, objects-few kinds));

@@ -6,6 +6,7 @@ use lib.Dec.{ltb}
 use lib.IntN.{pos}
 use lib.ListN.{length, replicate}
 use lib.Ieee.{Float, fin, binary64, ofBits, round}
+use Rattle.numeric.specs.Constants.{one}
 use Rattle.grouping_marks.specs.Over.{over}
 use Rattle.grouping_chart.specs.Chart.{Chart, size}
 use Rattle.grouping_chart.specs.Refusal.{within, verdict, refused}
@@ -37,7 +38,7 @@ beside n m = shortRefusal (anyShort n []) n (length (m .work)) (length (m .scrat
 
 -- from 1.0 to 1,000.0: a NaN is not
 unfoldable pub windowGood : Float → Bool
-windowGood window = within (fin false 1 (pos 0)) (fin false 125 (pos 3)) window
+windowGood window = within one (fin false 125 (pos 3)) window
 
 -- "8 window not from 1.0 to 1,000.0. 9 group number not below the group count."
 unfoldable pub recordVerdict : Verdict → Float → ℕ → ℕ → Verdict

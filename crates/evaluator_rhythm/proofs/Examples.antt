@@ -5,10 +5,11 @@ use mathlib.Core.List.{List, [], _∷_, map}
 use Prim.Native.Nat.{ℕ}
 use lib.IntN.{pos}
 use lib.Ieee.{Float, binary64, round, sub, div, le, ofInt, toBits}
+use Rattle.numeric.specs.Constants.{eightTenths}
 use Rattle.numeric.specs.Near.{isNear}
 use Rattle.grouping_same_rhythm.specs.declared.own.Own.{Own}
 use Rattle.grouping_same_rhythm.specs.declared.own.Own.the-variants.{Absent, Millis}
-use Rattle.evaluator_rhythm.specs.RepeatedInterval.{eightTenths, present, similar, similarTo, somePair, walkPenalty}
+use Rattle.evaluator_rhythm.specs.RepeatedInterval.{present, similar, similarTo, somePair, walkPenalty}
 
 -- 0.1, the f64 nearest to 1 / 10
 tenth : Float

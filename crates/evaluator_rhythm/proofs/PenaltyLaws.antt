@@ -10,12 +10,12 @@ use lib.ListN.{length, take}
 use lib.Ieee.{Float, nan, inf, fin, binary64, fits, isNan, le, sub, mul, div}
 use lib.Ieee.Fits.{mul-fits}
 use lib.Ieee.Positive.{positive, between, le→cross}
+use Rattle.numeric.specs.Constants.{one, eightTenths}
 use Rattle.numeric.proofs.Values.{number-no-nan}
 use Rattle.numeric.proofs.Bounded.{Bounded, AtLeast, bounded-number, round-bounded, cond-bounded, sub-bounded, mul-bounded, div-bounded}
-use Rattle.grouping_same_rhythm.specs.Own.{one}
 use Rattle.grouping_same_rhythm.specs.declared.own.Own.{Own}
 use Rattle.grouping_same_rhythm.specs.declared.owns.Recent.{Recent}
-use Rattle.evaluator_rhythm.specs.RepeatedInterval.{eightTenths, present, somePair, walkPenalty, newestFirst, smaller, larger, durationPenalty, repeatedIntervalPenalty}
+use Rattle.evaluator_rhythm.specs.RepeatedInterval.{present, somePair, walkPenalty, newestFirst, smaller, larger, durationPenalty, repeatedIntervalPenalty}
 
 -- ---- the walks: 0.8 or 1.0
 one-bounded : Bounded one 1

@@ -9,10 +9,10 @@ use borrow.Author.Tests.{lt-ltb, le-ltb}
 use lib.Dec.{ltb}
 use lib.ListN.{length, getD, take}
 use lib.Ieee.{Float}
-use Rattle.grouping_same_rhythm.specs.Own.{one}
+use Rattle.numeric.specs.Constants.{one, eightTenths}
 use Rattle.grouping_same_rhythm.specs.declared.own.Own.{Own}
 use Rattle.grouping_same_rhythm.specs.declared.own.Own.the-variants.{Absent, Millis}
-use Rattle.evaluator_rhythm.specs.RepeatedInterval.{eightTenths, present, somePair, walkPenalty}
+use Rattle.evaluator_rhythm.specs.RepeatedInterval.{present, somePair, walkPenalty}
 
 -- of k own intervals at most k exist
 present-most : (k : ℕ) (owns : List Own) → length (present (take k owns)) ≤ k

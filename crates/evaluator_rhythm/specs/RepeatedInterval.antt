@@ -5,18 +5,13 @@ use Prim.Native.Nat.{ℕ, _≤_}
 use mathlib.Core.Bool.{Bool, false, cond, _||_}
 use mathlib.Core.List.{List, [], _∷_}
 use lib.Dec.{ltb}
-use lib.IntN.{pos, negsuc}
 use lib.ListN.{length, take}
-use lib.Ieee.{Float, fin, binary64, round, sub, mul, div, le}
+use lib.Ieee.{Float, binary64, sub, mul, div, le}
+use Rattle.numeric.specs.Constants.{half, one, two, eightTenths}
 use Rattle.numeric.specs.Near.{isNear}
-use Rattle.grouping_same_rhythm.specs.Own.{one}
 use Rattle.grouping_same_rhythm.specs.declared.own.Own.{Own}
 use Rattle.grouping_same_rhythm.specs.declared.own.Own.the-variants.{Absent, Millis}
 use Rattle.grouping_same_rhythm.specs.declared.owns.Recent.{Recent}
-
--- 0.8, the f64 nearest to 8 / 10
-unfoldable pub eightTenths : Float
-eightTenths = round binary64 false 8 10
 
 -- the own intervals that exist
 unfoldable pub present : List Own → List Float
@@ -60,7 +55,7 @@ larger x y = cond (le y x) x y
 
 -- "the larger of 1.0 − duration × 2.0 / window and 0.5"
 unfoldable pub durationPenalty : Float → Float → Float
-durationPenalty duration window = larger (sub binary64 one (div binary64 (mul binary64 duration (fin false 1 (pos 1))) window)) (fin false 1 (negsuc 0))
+durationPenalty duration window = larger (sub binary64 one (div binary64 (mul binary64 duration two) window)) half
 
 -- of a group with this many notes
 unfoldable pub repeatedIntervalPenalty : Float → Recent → ℕ → Float → Float → Float

@@ -2,6 +2,7 @@
 use mathlib.Core.Path.{_≡_, refl}
 use mathlib.Core.List.{map}
 use lib.Ieee.{round, add, sub, mul, div, le, lt, eq, ofInt, ofBits, toBits}
+use Rattle.numeric.specs.Constants.{eightTenths}
 use Rattle.numeric.specs.Logistic.{tableBits, logisticAt}
 use Rattle.numeric.specs.Near.{absOf, isNear}
 use Rattle.numeric.specs.TotalOrder.{totalOrder}
@@ -16,7 +17,7 @@ use Rattle.grouping_chart.specs.Refusal.{within, timeGood, ratioGood, objectRef
 use Rattle.grouping_color.specs.MonoStreak.{continues, opensStreak, streakMarks, streakOf, streakLengths, streakTypes}
 use Rattle.grouping_color.specs.AlternatingMonoPattern.{opensPattern, patternMarks, coupledAt, coupled}
 use Rattle.grouping_color.specs.RepeatingHitPatterns.{stageAfter, opensHit, hitMarks, secondAt, secondLengths, matches, nearestMatch, intervalAt, intervals}
-use Rattle.grouping_color.specs.Preprocessor.{patternsOpen, firstLengths, streakCounts, patternTypes, hitsOpen, hitCount, hitSizes, hitFirsts, hitSeconds, hitIntervals, streakPlaceOf, patternOf, patternPlaceOf, hitOf, intervalOf}
+use Rattle.grouping_color.specs.Preprocessor.{patternsOpen, firstLengths, streakCounts, patternTypes, coupledPatterns, hitsOpen, hitCount, hitSizes, hitFirsts, hitSeconds, hitIntervals, streakPlaceOf, patternOf, patternPlaceOf, hitOf, intervalOf}
 use Rattle.grouping_encode.specs.Encode as encode
 use Rattle.grouping_interval.specs.IntervalGrouping.{rises, marksAfter, intervalMarks}
 use Rattle.grouping_normalizer.specs.Ordered.{insert, ordered}
@@ -25,10 +26,10 @@ use Rattle.evaluator_color.specs.Color.{hitValue, altValue, monoValue, addIf, o
 use Rattle.evaluator_color.specs.RatioPenalty as ratio
 use Rattle.evaluator_calls.specs.Colour.{isFirst, lookedAt, colourAt, colourValues}
 use Rattle.evaluator_calls.specs.Calls as calls
-use Rattle.evaluator_rhythm.specs.RepeatedInterval.{eightTenths, present, similar, similarTo, somePair, walkPenalty}
+use Rattle.evaluator_rhythm.specs.RepeatedInterval.{present, similar, similarTo, somePair, walkPenalty}
 use Rattle.examples.specs.Question.{whole, bitsOf, chart, encodeMemory, colourMemory, encodeAnswer, colourAnswer, encodeShown, colourShown, margin, threshold, millis, answer}
 use Rattle.examples.specs.Starred.{Example, encoding, starred}
 
 pub starred-right : map (λ (e : Example). answer (e .question)) starred ≡ map (λ (e : Example). e .outcome) starred
-unfolding starred encoding answer whole bitsOf chart encodeMemory colourMemory encodeAnswer colourAnswer encodeShown colourShown margin threshold millis encode.encodeOutcome encode.outcomeBy encode.beside encode.filled calls.colourOutcome calls.colourBy calls.beside anyShort shortRefusal calls.filled calls.valuesOf calls.baseTolerance verdict even firstRefused objectRefusal timeGood ratioGood within colourValues colourAt lookedAt isFirst over tabulate scan after gathered opened groupCount groupNumbers placeAt groupPlaces sizesFrom groupSizes firstsFrom groupFirsts isNote notes noteIdx noteBefore previousNote continues opensStreak streakMarks streakOf streakLengths streakTypes opensPattern patternMarks coupledAt coupled stageAfter opensHit hitMarks secondAt secondLengths matches nearestMatch intervalAt intervals patternsOpen firstLengths streakCounts patternTypes hitsOpen hitCount hitSizes hitFirsts hitSeconds hitIntervals streakPlaceOf patternOf patternPlaceOf hitOf intervalOf intervalMarks marksAfter rises normalized normalOf middleOf middle holds sets setsAfter distinct unrepeated alike ordered insert totalOrder walkPenalty somePair similarTo similar present eightTenths objectSum hitValue altValue monoValue addIf ratio.ratioPenalty ratio.lowered ratio.eightTenths logisticAt tableBits roundTiesEven isNear absOf round add sub mul div le lt eq ofInt ofBits toBits
+unfolding starred encoding answer whole bitsOf chart encodeMemory colourMemory encodeAnswer colourAnswer encodeShown colourShown margin threshold millis encode.encodeOutcome encode.outcomeBy encode.beside encode.filled calls.colourOutcome calls.colourBy calls.beside anyShort shortRefusal calls.filled calls.valuesOf calls.baseTolerance verdict even firstRefused objectRefusal timeGood ratioGood within colourValues colourAt lookedAt isFirst over tabulate scan after gathered opened groupCount groupNumbers placeAt groupPlaces sizesFrom groupSizes firstsFrom groupFirsts isNote notes noteIdx noteBefore previousNote continues opensStreak streakMarks streakOf streakLengths streakTypes opensPattern patternMarks coupledAt coupled stageAfter opensHit hitMarks secondAt secondLengths matches nearestMatch intervalAt intervals patternsOpen firstLengths streakCounts patternTypes coupledPatterns hitsOpen hitCount hitSizes hitFirsts hitSeconds hitIntervals streakPlaceOf patternOf patternPlaceOf hitOf intervalOf intervalMarks marksAfter rises normalized normalOf middleOf middle holds sets setsAfter distinct unrepeated alike ordered insert totalOrder walkPenalty somePair similarTo similar present eightTenths objectSum hitValue altValue monoValue addIf ratio.ratioPenalty ratio.lowered logisticAt tableBits roundTiesEven isNear absOf round add sub mul div le lt eq ofInt ofBits toBits
 starred-right = refl

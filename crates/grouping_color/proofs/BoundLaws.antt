@@ -15,7 +15,7 @@ use Rattle.grouping_marks.proofs.MarksLaws.{length-numbers, numbers-below, leng
 use Rattle.grouping_color.specs.MonoStreak.{streakMarks, streakOf, streakLengths}
 use Rattle.grouping_color.specs.AlternatingMonoPattern.{coupled}
 use Rattle.grouping_color.specs.RepeatingHitPatterns.{matches, nearestMatch, intervalAt, intervals}
-use Rattle.grouping_color.specs.Preprocessor.{patternsOpen, firstLengths, streakCounts, patternTypes, hitsOpen, hitCount, hitSizes, hitFirsts, hitSeconds, hitIntervals, streakPlaceOf, patternOf, patternPlaceOf, hitOf, intervalOf}
+use Rattle.grouping_color.specs.Preprocessor.{patternsOpen, firstLengths, streakCounts, patternTypes, coupledPatterns, hitsOpen, hitCount, hitSizes, hitFirsts, hitSeconds, hitIntervals, streakPlaceOf, patternOf, patternPlaceOf, hitOf, intervalOf}
 use Rattle.grouping_color.proofs.LengthLaws.{length-streakMarks, length-patternMarks, length-coupled, length-hitMarks, length-intervals}
 
 -- ---- intervals
@@ -69,7 +69,7 @@ module _ (kinds : List ℕ) where
   length-patternsOpen = lengths-even ∙ length-sizes (streakMarks kinds)
 
   pub length-hitsOpen : length (hitsOpen kinds) ≡ groupCount (patternsOpen kinds)
-  unfolding hitsOpen firstLengths
+  unfolding coupledPatterns hitsOpen firstLengths
   length-hitsOpen =
       length-hitMarks (coupled (firstLengths kinds) (streakCounts kinds) (patternTypes kinds)) ∙ length-coupled (firstLengths kinds) (streakCounts kinds) (patternTypes kinds)
       ∙ length-firsts (patternsOpen kinds) (streakLengths kinds) (omega (arith, lengths-even))

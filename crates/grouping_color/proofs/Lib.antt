@@ -4,7 +4,6 @@ pub mod StreakLaws
 pub mod PatternLaws
 pub mod HitLaws
 pub mod IntervalLaws
-pub mod ComposeLaws
 pub mod BoundLaws
 pub mod SearchLaws
 pub mod MadeLaws

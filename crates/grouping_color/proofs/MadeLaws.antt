@@ -6,7 +6,7 @@ use Rattle.grouping_marks.specs.Marks.{groupCount, groupNumbers, groupSizes, gr
 use Rattle.grouping_color.specs.MonoStreak.{streakMarks, streakOf, streakLengths, streakTypes}
 use Rattle.grouping_color.specs.AlternatingMonoPattern.{patternMarks, coupled}
 use Rattle.grouping_color.specs.RepeatingHitPatterns.{hitMarks, secondLengths, intervals}
-use Rattle.grouping_color.specs.Preprocessor.{patternsOpen, firstLengths, streakCounts, patternTypes, hitsOpen, hitCount, hitSizes, hitFirsts, hitSeconds, hitIntervals}
+use Rattle.grouping_color.specs.Preprocessor.{patternsOpen, firstLengths, streakCounts, patternTypes, coupledPatterns, hitsOpen, hitCount, hitSizes, hitFirsts, hitSeconds, hitIntervals}
 
 module _ (kinds : List ℕ) where
   pub streakOf-made : streakOf kinds ≡ groupNumbers (streakMarks kinds)
@@ -38,7 +38,7 @@ module _ (kinds : List ℕ) where
   patternTypes-made = refl
 
   pub hitsOpen-made : hitsOpen kinds ≡ hitMarks (coupled (firstLengths kinds) (streakCounts kinds) (patternTypes kinds))
-  unfolding hitsOpen
+  unfolding coupledPatterns hitsOpen
   hitsOpen-made = refl
 
   pub hitCount-made : hitCount kinds ≡ groupCount (hitsOpen kinds)

@@ -20,9 +20,12 @@ streakCounts kinds = groupSizes (patternsOpen kinds)
 unfoldable pub patternTypes : List ℕ → List ℕ
 patternTypes kinds = groupFirsts (patternsOpen kinds) (streakTypes kinds)
 
--- which patterns open a hit pattern
+-- which patterns are coupled, and which open a hit pattern
+unfoldable pub coupledPatterns : List ℕ → List ℕ
+coupledPatterns kinds = coupled (firstLengths kinds) (streakCounts kinds) (patternTypes kinds)
+
 unfoldable pub hitsOpen : List ℕ → List ℕ
-hitsOpen kinds = hitMarks (coupled (firstLengths kinds) (streakCounts kinds) (patternTypes kinds))
+hitsOpen kinds = hitMarks (coupledPatterns kinds)
 
 unfoldable pub hitCount : List ℕ → ℕ
 hitCount kinds = groupCount (hitsOpen kinds)

@@ -1,5 +1,4 @@
 // The colour encoder: streaks, alternating patterns, hit patterns and their repetition intervals, inside one work slice.
 pub mod alternating_mono_pattern;
 pub mod mono_streak;
-pub mod preprocessor;
 pub mod repeating_hit_patterns;

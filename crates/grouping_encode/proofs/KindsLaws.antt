@@ -9,8 +9,8 @@ use Rattle.grouping_marks.specs.Marks.{groupCount, groupNumbers}
 use Rattle.grouping_marks.proofs.OverLaws.{over-agree}
 use Rattle.grouping_color.specs.MonoStreak.{streakMarks, streakOf}
 use Rattle.grouping_color.specs.Preprocessor.{patternsOpen, hitsOpen, hitCount, streakPlaceOf, patternOf, patternPlaceOf, hitOf, intervalOf}
-use Rattle.grouping_color.specs.Passes.{Tables}
-use Rattle.grouping_color.specs.declared.preprocessor.Counts.{Counts}
+use Rattle.grouping_preprocessor.specs.Passes.{Tables}
+use Rattle.grouping_preprocessor.specs.declared.Counts.{Counts}
 use Rattle.grouping_color.proofs.BoundLaws.{streakPlaceOf-looked, patternOf-looked, patternPlaceOf-looked, hitOf-looked, intervalOf-looked, length-patternOf, streak-below, hit-below, patternOf-below, hit-interval-byte}
 use Rattle.grouping_encode.specs.Passes.{Below, PatternsRoom, PatternsSpread, HitsRoom, HitsSpread, AnswerRoom, Encoded}
 use Rattle.grouping_encode.proofs.SpreadLaws.{written-front}

@@ -7,7 +7,7 @@ use Rattle.grouping_marks.specs.Over.{over, part}
 use Rattle.grouping_marks.specs.Scan.{gathered}
 use Rattle.grouping_color.specs.MonoStreak.{streakOf}
 use Rattle.grouping_color.specs.Preprocessor.{streakPlaceOf, patternOf, patternPlaceOf, hitOf, intervalOf, hitCount}
-use Rattle.grouping_color.specs.declared.preprocessor.Counts.{Counts}
+use Rattle.grouping_preprocessor.specs.declared.Counts.{Counts}
 
 -- every one of the first n numbers is below k
 pub record Below (n : ℕ) (numbers : List ℕ) (k : ℕ) : Type 0 where

@@ -8,8 +8,8 @@ ghost use Rattle.grouping_encode.specs.Passes.{PatternsRoom, PatternsSpr
 use grouping_chart::chart::Verdict;
 use grouping_chart::object::ObjectIndex;
 use grouping_chart::room::short_refusal;
-use grouping_color::preprocessor::Counts;
 use grouping_marks::fill;
+use grouping_preprocessor::Counts;
 
 // The number of hit patterns, or the first refusal that applies and its place.
 pub enum Encoding {
@@ -101,7 +101,7 @@ pub fn encode_kinds(
     ensures { λ r. ⌜ Encoded limit (now (kind .entry)) (now (streak .entry)) (now (streak .exit)) (now (inner .entry)) (now (inner .exit)) (now (pattern .entry)) (now (pattern .exit)) (now (outer .entry)) (now (outer .exit)) (now (hit .entry)) (now (hit .exit)) (now (interval .entry)) (now (interval .exit)) (now (work .entry)) (now (work .exit)) r ⌝ }
 {
     let n = kind.len();
-    let k = grouping_color::preprocessor::encode_colors(kind, work, limit);
+    let k = grouping_preprocessor::encode_colors(kind, work, limit);
     spread_patterns(n, k, work, streak, inner, pattern);
     spread_hits(n, k, work, pattern, outer, hit, interval);
     fill::clear(work, 8 * n);

@@ -8,7 +8,7 @@ use native.Mathlib.Numerals.{add-one}
 use native.Mathlib.Omega.{arith}
 use lib.ListN.{length, take, drop, getD, set, length-append, length-drop, take-append-drop}
 use lib.Seq.{length-take-le, take-at, drop-at, drop-append-add, drop-drop, take-append-le, take-take, take-length, getD-take, getD-drop, set-getD}
-use Rattle.grouping_marks.specs.Over.{over, put, part}
+use Rattle.grouping_marks.specs.Over.{over, put, part, Write, written}
 
 module _ {A : Type 0} where
   -- ---- the front
@@ -172,3 +172,8 @@ module _ {A : Type 0} where
   pub lent-front : (n : ℕ) (w : List A) → take n w ≡ part 0 n w
   unfolding part
   lent-front n w = refl
+
+  pub written-append : (xs ys : List (Write A)) (w : List A) → written (xs ++ ys) w ≡ written ys (written xs w)
+  unfolding written
+  written-append [] ys w = refl
+  written-append (x ∷ xs) ys w = written-append xs ys (put (x .place) (x .items) w)

@@ -55,6 +55,7 @@ module _ {kinds : List ℕ} {k : Counts} {work group₀ pattern₀ : List ℕ} (
       record {
         groups = g ∙ ap (λ (xs : List ℕ). over (listed xs kinds) group₀) (lent-part (2 * n) (k .notes) work);
         patterns = p ∙ ap (λ (xs : List ℕ). over (listed xs kinds) pattern₀) t;
+        memory = w;
         same = ap length w ∙ length-put (2 * n) numbers work (omega arith);
         past = ap (drop (8 * n)) w ∙ drop-put (8 * n) (2 * n) numbers work (omega arith);
       }

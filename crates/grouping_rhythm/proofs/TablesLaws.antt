@@ -6,10 +6,10 @@ use native.Mathlib.Omega.{arith}
 use lib.ListN.{length, take, drop, getD}
 use lib.Seq.{length-take-le}
 use lib.Ieee.{Float}
-use Rattle.grouping_marks.specs.Over.{over, put, part}
+use Rattle.grouping_marks.specs.Over.{over, put, part, written}
 use Rattle.grouping_marks.specs.Marks.{groupCount, groupNumbers}
 use Rattle.grouping_marks.specs.Parted.{parted}
-use Rattle.grouping_marks.proofs.OverLaws.{length-over, front, drop-over, length-put, drop-put, part-put-same, part-put-before}
+use Rattle.grouping_marks.proofs.OverLaws.{length-over, front, drop-over, put-front, length-put, drop-put, part-put-same, part-put-before}
 use Rattle.grouping_marks.proofs.MarksLaws.{count-le, length-numbers}
 use Rattle.grouping_marks.proofs.PartedLaws.{length-parted}
 use Rattle.grouping_chart.specs.Object.{notes}
@@ -23,7 +23,7 @@ use Rattle.grouping_same_rhythm.specs.SameRhythm.{firstsOf, startsOf, intervals
 use Rattle.grouping_same_rhythm.proofs.MadeLaws.{rhythmMarks-made, groupObjects-made, groupIntervals-made}
 use Rattle.grouping_same_rhythm.proofs.GroupsLaws.{length-starts, length-intervals, length-firsts, firsts-inside}
 use Rattle.grouping_rhythm.specs.Rhythm.{groupsIn, patternGroupsIn}
-use Rattle.grouping_rhythm.specs.Passes.{NumbersRoom, NotesNumbered, FirstsThere, GroupsNumbered, TablesRoom, Tabled}
+use Rattle.grouping_rhythm.specs.Passes.{NumbersRoom, NotesNumbered, FirstsThere, GroupsNumbered, TablesRoom, workWrites, scratchWrites, Tabled}
 use Rattle.grouping_rhythm.proofs.RegionLaws.{length-group-numbers}
 
 -- ---- how many there are
@@ -73,6 +73,8 @@ module _ (margin : Float) (kinds : List ℕ) (deltas : List Float) (e : length d
 pub record Noted (margin : Float) (kinds : List ℕ) (deltas : List Float) (work₀ work : List ℕ) (scratch₀ scratch : List Float) (m groups : ℕ) : Type 0 where
   pub noted : m ≡ length (notes kinds)
   pub grouped : groups ≡ groupsIn margin kinds deltas
+  pub memory : work ≡ put (2 * length kinds) (groupNumbers (rhythmMarks margin kinds deltas)) (put (length kinds) (firstsOf (groupObjects margin kinds deltas)) (put 0 (noteObjects kinds) work₀))
+  pub scratch-memory : scratch ≡ put 0 (noteDeltas kinds deltas) scratch₀
   pub firsts : part (length kinds) groups work ≡ firstsOf (groupObjects margin kinds deltas)
   pub note-groups : part (2 * length kinds) m work ≡ groupNumbers (rhythmMarks margin kinds deltas)
   pub regions : length work ≡ length work₀
@@ -133,6 +135,8 @@ module _ {kinds : List ℕ} {starts deltas : List Float} {work₀ : List ℕ} {s
         record {
           noted = noted-count;
           grouped = c;
+          memory = w ∙ ap (λ (l : List ℕ). put (2 * n) numbers (put n firsts l)) (l .numbers ∙ sym (put-front (noteObjects kinds) work₀));
+          scratch-memory = l .floats ∙ sym (put-front (noteDeltas kinds deltas) scratch₀);
           firsts = ap (part n groups) w ∙ part-put-before n groups (2 * n) numbers mid (omega arith) (omega arith) ∙ part-put-same n groups firsts work₁ lf (omega arith);
           note-groups = ap (part (2 * n) m) w ∙ part-put-same (2 * n) m numbers mid ln (omega arith);
           regions = ap length w ∙ length-put (2 * n) numbers mid (omega arith) ∙ same ∙ work-same;
@@ -165,7 +169,7 @@ module _ {kinds : List ℕ} {starts deltas : List Float} {work₀ : List ℕ} {s
 
     pub tabled : {work : List ℕ} {scratch : List Float} {patterns : ℕ} → GroupsNumbered margin starts (length kinds) groups work₁ work scratch₁ scratch patterns
         → Tabled margin kinds starts deltas work₀ work scratch₀ scratch (record { notes = m; groups = groups; patterns = patterns })
-    unfolding patternGroupsIn
+    unfolding patternGroupsIn written workWrites scratchWrites
     tabled {work} {scratch} {patterns} b =
         let n : ℕ = length kinds in
         let values : List Float = groupIntervals margin kinds starts deltas in
@@ -184,6 +188,8 @@ module _ {kinds : List ℕ} {starts deltas : List Float} {work₀ : List ℕ} {s
           noted = a .noted;
           grouped = a .grouped;
           patterned = b .count ∙ ap (λ (vs : List Float). groupCount (intervalMarks margin vs)) v;
+          memory = w ∙ ap (put (3 * n) numbers) (a .memory);
+          scratch-memory = f ∙ sym (put-front values scratch₁) ∙ ap (put 0 values) (a .scratch-memory);
           note-groups = ap (part (2 * n) m) w ∙ part-put-before (2 * n) m (3 * n) numbers work₁ (omega arith) (omega arith) ∙ a .note-groups;
           group-patterns = ap (part (3 * n) groups) w ∙ part-put-same (3 * n) groups numbers work₁ ln (omega arith);
           regions = ap length w ∙ length-put (3 * n) numbers work₁ (omega arith) ∙ a .regions;

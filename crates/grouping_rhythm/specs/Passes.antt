@@ -1,16 +1,17 @@
 -- What the passes of rhythm ask and leave: tables of the notes' and of the groups' numbers in the work slice, looked up object by object.
 use mathlib.Core.Path.{_≡_}
 use Prim.Native.Nat.{ℕ, _+_, _*_, _≤_, _<_}
-use mathlib.Core.List.{List}
+use mathlib.Core.List.{List, [], _∷_}
 use lib.ListN.{length, take, drop, getD, replicate}
 use lib.Ieee.{Float, binary64, ofBits}
-use Rattle.grouping_marks.specs.Over.{over, put, part}
+use Rattle.grouping_marks.specs.Over.{over, put, part, Write, write, written}
 use Rattle.grouping_marks.specs.Scan.{gathered}
 use Rattle.grouping_marks.specs.Marks.{groupCount, groupNumbers}
 use Rattle.grouping_marks.specs.Parted.{parted}
 use Rattle.grouping_chart.specs.Object.{notes}
+use Rattle.grouping_chart.specs.Notes.{noteObjects, noteDeltas}
 use Rattle.grouping_interval.specs.IntervalGrouping.{intervalMarks}
-use Rattle.grouping_same_rhythm.specs.SameRhythm.{firstsOf, startsOf, intervalsOf, rhythmMarks, groupIntervals}
+use Rattle.grouping_same_rhythm.specs.SameRhythm.{firstsOf, startsOf, intervalsOf, rhythmMarks, groupObjects, groupIntervals}
 use Rattle.grouping_rhythm.specs.Rhythm.{perNote, groupOf, patternGroupOf, groupsIn, patternGroupsIn}
 use Rattle.grouping_rhythm.specs.declared.tables.Counts.{Counts}
 
@@ -47,11 +48,24 @@ pub record TablesRoom (kinds : List ℕ) (starts deltas : List Float) (work : Li
   pub regions : 8 * length kinds ≤ length work
   pub floats : length kinds ≤ length scratch
 
--- each note's group in region 2, each group's pattern in region 3; nothing is written past the regions
+-- what is written, list by list: in the work slice the notes' objects, each group's first object, each note's group and each group's pattern, each in a region of n places,
+unfoldable pub workWrites : Float → List ℕ → List Float → List Float → List (Write ℕ)
+workWrites margin kinds starts deltas =
+    let n = length kinds in
+    write 0 (noteObjects kinds) ∷ write n (firstsOf (groupObjects margin kinds deltas)) ∷ write (2 * n) (groupNumbers (rhythmMarks margin kinds deltas))
+    ∷ write (3 * n) (groupNumbers (intervalMarks margin (groupIntervals margin kinds starts deltas))) ∷ []
+
+-- in the scratch slice the notes' deltas, and over them the groups' intervals
+unfoldable pub scratchWrites : Float → List ℕ → List Float → List Float → List (Write Float)
+scratchWrites margin kinds starts deltas = write 0 (noteDeltas kinds deltas) ∷ write 0 (groupIntervals margin kinds starts deltas) ∷ []
+
+-- what the tables' passes leave, and of it what is read: each note's group in region 2, each group's pattern in region 3; nothing is written past the regions
 pub record Tabled (margin : Float) (kinds : List ℕ) (starts deltas : List Float) (work₀ work : List ℕ) (scratch₀ scratch : List Float) (r : Counts) : Type 0 where
   pub noted : r .notes ≡ length (notes kinds)
   pub grouped : r .groups ≡ groupsIn margin kinds deltas
   pub patterned : r .patterns ≡ patternGroupsIn margin kinds starts deltas
+  pub memory : work ≡ written (workWrites margin kinds starts deltas) work₀
+  pub scratch-memory : scratch ≡ written (scratchWrites margin kinds starts deltas) scratch₀
   pub note-groups : part (2 * length kinds) (r .notes) work ≡ groupNumbers (rhythmMarks margin kinds deltas)
   pub group-patterns : part (3 * length kinds) (r .groups) work ≡ groupNumbers (intervalMarks margin (groupIntervals margin kinds starts deltas))
   pub regions : length work ≡ length work₀
@@ -96,9 +110,10 @@ pub record TablesThere (kinds : List ℕ) (k : Counts) (work group pattern : Lis
   pub group-room : length kinds ≤ length group
   pub pattern-room : length kinds ≤ length pattern
 
--- what stands in regions 2 and 3, by objects
+-- what stands in regions 2 and 3, by objects; each note's group has its pattern written over it
 pub record Answered (kinds : List ℕ) (k : Counts) (work₀ work group₀ group pattern₀ pattern : List ℕ) : Type 0 where
   pub groups : group ≡ over (perNote (λ (j : ℕ). getD (part (2 * length kinds) (k .notes) work₀) j 0) kinds) group₀
   pub patterns : pattern ≡ over (perNote (λ (j : ℕ). getD (gathered (part (3 * length kinds) (k .groups) work₀) (part (2 * length kinds) (k .notes) work₀)) j 0) kinds) pattern₀
+  pub memory : work ≡ put (2 * length kinds) (gathered (part (3 * length kinds) (k .groups) work₀) (part (2 * length kinds) (k .notes) work₀)) work₀
   pub same : length work ≡ length work₀
   pub past : drop (8 * length kinds) work ≡ drop (8 * length kinds) work₀

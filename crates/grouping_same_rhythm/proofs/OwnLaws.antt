@@ -6,13 +6,14 @@ use Prim.Native.Nat.{_≤_, _<_}
 use native.Mathlib.Omega.{arith}
 use lib.ListN.{length, getD}
 use lib.Ieee.{Float, nan, binary64, div}
+use Rattle.numeric.specs.Constants.{one}
 use Rattle.numeric.specs.Near.{isNear}
 use Rattle.numeric.specs.RoundTiesEven.{roundTiesEven}
 use Rattle.grouping_normalizer.specs.Normalizer.{normalOf, NormalOf}
 use Rattle.grouping_normalizer.proofs.DistinctLaws.{few-left}
 use Rattle.grouping_same_rhythm.specs.declared.own.Own.{Own}
 use Rattle.grouping_same_rhythm.specs.declared.own.Own.the-variants.{Absent, Millis}
-use Rattle.grouping_same_rhythm.specs.Own.{one, modalDelta, snapped, ratioOf}
+use Rattle.grouping_same_rhythm.specs.Own.{modalDelta, snapped, ratioOf}
 use Rattle.grouping_same_rhythm.specs.Passes.{settled, Modal}
 
 -- ---- found

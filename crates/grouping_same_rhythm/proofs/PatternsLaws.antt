@@ -8,6 +8,7 @@ use lib.Dec.{ltb}
 use lib.ListN.{length, take, drop, getD, replicate, length-replicate, getD-replicate, take-append-drop}
 use lib.Seq.{length-take-le, drop-drop, getD-drop}
 use lib.Ieee.{Float, nan, binary64, div}
+use Rattle.numeric.specs.Constants.{one}
 use Rattle.grouping_marks.specs.Over.{over, put, part}
 use Rattle.grouping_marks.specs.Marks.{groupNumbers}
 use Rattle.grouping_marks.specs.Parted.{parted}
@@ -18,7 +19,6 @@ use Rattle.grouping_interval.specs.GroupEnd.{groupEnd, marksFrom}
 use Rattle.grouping_interval.proofs.IntervalLaws.{length-marks}
 use Rattle.grouping_interval.proofs.NumberLaws.{Walked, walked-start, walked-group}
 use Rattle.grouping_interval.proofs.EndLaws.{end-after, end-within, marks-all, parted-end}
-use Rattle.grouping_same_rhythm.specs.Own.{one}
 use Rattle.grouping_same_rhythm.specs.SamePatterns.{patternInterval, patternRatio, patternNumber, patternOf}
 use Rattle.grouping_same_rhythm.specs.declared.patterns.Pattern.{Pattern}
 

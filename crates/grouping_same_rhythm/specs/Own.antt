@@ -1,18 +1,15 @@
 -- Document 01, same_rhythm_hit_object_grouping.rs: "A group's own interval is either absent (one note) or a number of milliseconds: its second note's normalised delta
 -- rounded to whole, ties to even, replaced by the previous group's own if that exists within 5.0. Ratio: own ÷ previous own if both exist, else 1.0."
 -- A group is the list of its notes' deltas. The 5.0 is a parameter, the margin.
-use mathlib.Core.Bool.{false, cond}
+use mathlib.Core.Bool.{cond}
 use mathlib.Core.List.{List, [], _∷_}
-use lib.IntN.{pos}
-use lib.Ieee.{Float, fin, binary64, div}
+use lib.Ieee.{Float, binary64, div}
+use Rattle.numeric.specs.Constants.{one}
 use Rattle.numeric.specs.Near.{isNear}
 use Rattle.numeric.specs.RoundTiesEven.{roundTiesEven}
 use Rattle.grouping_normalizer.specs.Normalizer.{normalOf}
 use Rattle.grouping_same_rhythm.specs.declared.own.Own.{Own}
 use Rattle.grouping_same_rhythm.specs.declared.own.Own.the-variants.{Absent, Millis}
-
-abbrev pub one : Float
-one = fin false 1 (pos 0)
 
 -- "its second note's normalised delta rounded to whole"
 unfoldable pub modalDelta : Float → List Float → Own

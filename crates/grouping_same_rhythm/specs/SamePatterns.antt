@@ -4,10 +4,10 @@ use Prim.Native.Nat.{ℕ, zero, suc}
 use mathlib.Core.List.{List, [], _∷_}
 use lib.ListN.{getD}
 use lib.Ieee.{Float, nan, binary64, div}
+use Rattle.numeric.specs.Constants.{one}
 use Rattle.grouping_marks.specs.Marks.{groupNumbers}
 use Rattle.grouping_marks.specs.Parted.{parted}
 use Rattle.grouping_interval.specs.IntervalGrouping.{intervalMarks}
-use Rattle.grouping_same_rhythm.specs.Own.{one}
 use Rattle.grouping_same_rhythm.specs.declared.patterns.Pattern.{Pattern}
 
 -- a pattern has a first group

@@ -1,3 +1,4 @@
+pub mod Constants
 pub mod Near
 pub mod TotalOrder
 pub mod RoundTiesEven

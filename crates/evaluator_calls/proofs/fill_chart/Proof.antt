@@ -17,7 +17,7 @@ fill-values-requires : tie.Need-fill-values-requires
 fill-values-requires c κs =
     let e = c .before .before .before .before .before .before in
     let s = e .before .before .before .before .before .before .before in
-    (record { steps = c .before .before .before .table .ensures; tabled = tabled (s .pre .regions) (e .encode-colors .ensures); ratio = s .pre .values .ratio }, s .pre .values .room)
+    (record { steps = c .before .before .before .table .ensures; tabled = tabled (s .pre .regions) (e .encode-colors .ensures .tables); ratio = s .pre .values .ratio }, s .pre .values .room)
 
 mul-clear : tie.Need-mul-clear
 mul-clear c = search needs
@@ -40,7 +40,7 @@ same-length-3 c = search needs
 returns : tie.Need-returns
 returns c =
     let f = c .before .before .before .before .before .before .before .before .before .before in
-    coloured _ (f .before .before .before .before .before .before .before .encode-colors .ensures) (f .fill-values .ensures) (c .before .before .before .before .before .before .clear .ensures) (c .before .before .clear-floats .ensures)
+    coloured _ (f .before .before .before .before .before .before .before .encode-colors .ensures .tables) (f .fill-values .ensures) (c .before .before .before .before .before .before .clear .ensures) (c .before .before .clear-floats .ensures)
 
 pub fill-chart-spec : {M : Type 1} → statement M
 fill-chart-spec =

@@ -2,7 +2,8 @@
 use mathlib.Core.Path.{ap}
 use borrow.Author.Needs.{needs}
 use lib.Ieee.{Float, binary64, ofBits, sub, mul}
-use Rattle.evaluator_color.specs.Color.{one, two, hitValue}
+use Rattle.numeric.specs.Constants.{one, two}
+use Rattle.evaluator_color.specs.Color.{hitValue}
 use Rattle.evaluator_color.proofs.hit_value.Statement.{statement}
 use Rattle.evaluator_color.proofs.hit_value.Tie as tie
 

@@ -1,7 +1,8 @@
 -- `lower` meets its contract: each literal computes to its value. Assumes nothing.
 use mathlib.Core.Path.{refl}
 use lib.Ieee.{ofBits, round}
-use Rattle.evaluator_color.specs.RatioPenalty.{lowered, eightTenths}
+use Rattle.numeric.specs.Constants.{eightTenths}
+use Rattle.evaluator_color.specs.RatioPenalty.{lowered}
 use Rattle.evaluator_color.proofs.lower.Statement.{statement}
 use Rattle.evaluator_color.proofs.lower.Tie as tie
 

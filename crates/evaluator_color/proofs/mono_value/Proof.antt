@@ -2,7 +2,8 @@
 use mathlib.Core.Path.{ap}
 use borrow.Author.Needs.{needs}
 use lib.Ieee.{Float, binary64, ofBits, mul}
-use Rattle.evaluator_color.specs.Color.{half, monoValue}
+use Rattle.numeric.specs.Constants.{half}
+use Rattle.evaluator_color.specs.Color.{monoValue}
 use Rattle.evaluator_color.proofs.mono_value.Statement.{statement}
 use Rattle.evaluator_color.proofs.mono_value.Tie as tie
 

@@ -2,8 +2,9 @@
 use mathlib.Core.Path.{_≡_}
 use borrow.Author.Needs.{needs}
 use lib.Ieee.{Float, ofBits}
+use Rattle.numeric.specs.Constants.{zero}
 use Rattle.evaluator_color.specs.declared.Looked.{Looked}
-use Rattle.evaluator_color.specs.Color.{zero, hitValue, altValue, monoValue, addIf, objectSum}
+use Rattle.evaluator_color.specs.Color.{hitValue, altValue, monoValue, addIf, objectSum}
 use Rattle.evaluator_color.proofs.object_sum.Statement.{statement}
 use Rattle.evaluator_color.proofs.object_sum.Tie as tie
 

@@ -2,8 +2,7 @@
 use mathlib.Core.Path.{sym, ap}
 use mathlib.Core.Bool.{Bool, cond}
 use lib.Ieee.{ofBits, round}
-use Rattle.grouping_same_rhythm.specs.Own.{one}
-use Rattle.evaluator_rhythm.specs.RepeatedInterval.{eightTenths}
+use Rattle.numeric.specs.Constants.{one, eightTenths}
 use Rattle.evaluator_rhythm.proofs.penalty_if.Statement.{statement}
 use Rattle.evaluator_rhythm.proofs.penalty_if.Tie as tie
 

@@ -5,7 +5,7 @@ use Prim.Native.Nat.{ℕ}
 use mathlib.Core.Bool.{cond}
 use lib.Dec.{ltb}
 use lib.Ieee.{Float, binary64, mul}
-use Rattle.grouping_same_rhythm.specs.Own.{one}
+use Rattle.numeric.specs.Constants.{one}
 use Rattle.grouping_same_rhythm.specs.declared.owns.Recent.{Recent}
 use Rattle.evaluator_rhythm.specs.RepeatedInterval.{walkPenalty, newestFirst, smaller, durationPenalty, repeatedIntervalPenalty}
 use Rattle.evaluator_rhythm.proofs.repeated_interval_penalty.Statement.{statement}

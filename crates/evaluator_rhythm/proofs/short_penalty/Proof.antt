@@ -4,7 +4,7 @@ use mathlib.Core.Bool.{Bool, cond}
 use borrow.Author.Needs.{needs}
 use borrow.Author.Tests.{lt-ltb, le-ltb}
 use lib.Ieee.{ofBits}
-use Rattle.grouping_same_rhythm.specs.Own.{one}
+use Rattle.numeric.specs.Constants.{one}
 use Rattle.evaluator_rhythm.specs.RepeatedInterval.{walkPenalty, newestFirst}
 use Rattle.evaluator_rhythm.proofs.short_penalty.Statement.{statement}
 use Rattle.evaluator_rhythm.proofs.short_penalty.Tie as tie

@@ -9,16 +9,16 @@ encode-colors-requires : tie.Need-encode-colors-requires
 encode-colors-requires c κs = search needs
 
 spread-patterns-requires : tie.Need-spread-patterns-requires
-spread-patterns-requires c κs = patterns-room _ _ _ _ _ (c .before .before .before .before .before .before .encode-colors .ensures) _ _ _ _ _ _ (c .before .before .before .before .before .before .before .before .before .before .before .before .before .before .before .before .pre)
+spread-patterns-requires c κs = patterns-room _ _ _ _ _ (c .before .before .before .before .before .before .encode-colors .ensures .tables) _ _ _ _ _ _ (c .before .before .before .before .before .before .before .before .before .before .before .before .before .before .before .before .pre)
 
 spread-hits-requires : tie.Need-spread-hits-requires
-spread-hits-requires c κs = hits-room _ _ _ _ _ (c .before .before .before .before .before .before .before .before .before .before .before .before .before .before .before .before .before .before .encode-colors .ensures) _ _ _ _ _ _ (c .before .before .before .before .before .before .before .before .before .before .before .spread-patterns .ensures) _ _ _ (c .before .before .before .before .before .before .before .before .before .before .before .before .before .before .before .before .before .before .before .before .before .before .before .before .before .before .before .before .pre) (c .before .before .before .before .before .before .before .before .before .before .before .spread-patterns .kept .1 .1 .1 .1 .1 .0)
+spread-hits-requires c κs = hits-room _ _ _ _ _ (c .before .before .before .before .before .before .before .before .before .before .before .before .before .before .before .before .before .before .encode-colors .ensures .tables) _ _ _ _ _ _ (c .before .before .before .before .before .before .before .before .before .before .before .spread-patterns .ensures) _ _ _ (c .before .before .before .before .before .before .before .before .before .before .before .before .before .before .before .before .before .before .before .before .before .before .before .before .before .before .before .before .pre) (c .before .before .before .before .before .before .before .before .before .before .before .spread-patterns .kept .1 .1 .1 .1 .1 .0)
 
 mul-clear : tie.Need-mul-clear
 mul-clear c = omega (arith, c .before .before .before .before .before .before .before .before .before .before .before .before .before .before .before .before .before .before .before .before .before .before .before .before .before .before .before .before .before .before .before .before .before .before .before .before .pre)
 
 clear-requires : tie.Need-clear-requires
-clear-requires c κs = omega (arith, c .before .before .before .before .before .before .before .before .before .before .before .before .before .before .before .before .before .before .before .before .before .before .before .before .before .before .before .before .before .before .before .before .before .before .before .before .pre, c .before .before .before .before .before .before .before .before .before .before .before .before .before .before .before .before .before .before .before .before .before .before .before .before .before .before .encode-colors .ensures .outside)
+clear-requires c κs = omega (arith, c .before .before .before .before .before .before .before .before .before .before .before .before .before .before .before .before .before .before .before .before .before .before .before .before .before .before .before .before .before .before .before .before .before .before .before .before .pre, c .before .before .before .before .before .before .before .before .before .before .before .before .before .before .before .before .before .before .before .before .before .before .before .before .before .before .encode-colors .ensures .tables .outside)
 
 same-length : tie.Need-same-length
 same-length c = search needs
@@ -42,7 +42,7 @@ same-length-7 : tie.Need-same-length-7
 same-length-7 c = search needs
 
 returns : tie.Need-returns
-returns c = encoded _ _ _ _ _ (c .before .before .before .before .before .before .before .before .before .before .before .before .before .before .before .before .before .before .before .before .before .before .before .before .before .before .before .before .before .encode-colors .ensures) _ _ _ _ _ _ (c .before .before .before .before .before .before .before .before .before .before .before .before .before .before .before .before .before .before .before .before .before .before .spread-patterns .ensures) _ _ _ _ _ _ _ (c .before .before .before .before .before .before .before .before .before .before .spread-hits .ensures) (c .before .before .clear .ensures)
+returns c = encoded _ _ _ _ _ (c .before .before .before .before .before .before .before .before .before .before .before .before .before .before .before .before .before .before .before .before .before .before .before .before .before .before .before .before .before .encode-colors .ensures .tables) _ _ _ _ _ _ (c .before .before .before .before .before .before .before .before .before .before .before .before .before .before .before .before .before .before .before .before .before .before .spread-patterns .ensures) _ _ _ _ _ _ _ (c .before .before .before .before .before .before .before .before .before .before .spread-hits .ensures) (c .before .before .clear .ensures)
 
 pub encode-kinds-spec : {M : Type 1} → statement M
 encode-kinds-spec =

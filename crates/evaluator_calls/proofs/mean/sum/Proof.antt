@@ -8,7 +8,7 @@ use borrow.Author.Needs.{needs}
 use lib.ListN.{length, drop, getD, drop-of-length-le}
 use lib.Seq.{drop-cons}
 use lib.Ieee.{Float, nan, binary64, add, ofBits}
-use Rattle.evaluator_color.specs.Color.{zero}
+use Rattle.numeric.specs.Constants.{zero}
 use Rattle.evaluator_calls.specs.Stretch.{sumFrom}
 use Rattle.evaluator_calls.proofs.mean.sum.Statement.{statement}
 use Rattle.evaluator_calls.proofs.mean.sum.Tie as tie

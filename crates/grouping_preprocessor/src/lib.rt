@@ -2,12 +2,11 @@
 ghost use Prim.Native.Nat.{_*_, _≤_, _<_};
 ghost use lib.ListN.{length};
 ghost use Rattle.grouping_marks.specs.Over.{part};
 ghost use Rattle.grouping_color.specs.AlternatingMonoPattern.{coupled};
-ghost use Rattle.grouping_color.specs.RepeatingHitPatterns.{hitMarks};
-ghost use Rattle.grouping_color.specs.Passes.{Regions, Streaks, Patterns, HitMarks, Hits, Tables};
-use crate::alternating_mono_pattern;
-use crate::mono_streak;
-use crate::repeating_hit_patterns;
+ghost use Rattle.grouping_preprocessor.specs.Passes.{Regions, Streaks, Patterns, HitMarks, Hits, Encodes};
+use grouping_color::alternating_mono_pattern;
+use grouping_color::mono_streak;
+use grouping_color::repeating_hit_patterns;
 
 // How many streaks, alternating patterns and hit patterns there are, and the search limit of the intervals.
 pub struct Counts {
@@ -45,7 +44,7 @@ fn find_patterns(w: &mut [u16], n: usize, s: usize) -> usize
 // Marks in region 6 the patterns that open a hit pattern, and leaves their second lengths in region 2.
 fn find_hit_marks(w: &mut [u16], n: usize, p: usize)
     requires { ⌜ Regions n (now w) ⌝ ∗ ⌜ p ≤ n ⌝ }
-    ensures { λ r. ⌜ HitMarks n p (part n p (now (w .entry))) (hitMarks (coupled (part n p (now (w .entry))) (part (5 * n) p (now (w .entry))) (part (2 * n) p (now (w .entry))))) (now (w .entry)) (now (w .exit)) ⌝ }
+    ensures { λ r. ⌜ HitMarks n p (part n p (now (w .entry))) (coupled (part n p (now (w .entry))) (part (5 * n) p (now (w .entry))) (part (2 * n) p (now (w .entry)))) (now (w .entry)) (now (w .exit)) ⌝ }
 {
     alternating_mono_pattern::mark_coupled(w, n, 5 * n, 2 * n, p, 6 * n);
     repeating_hit_patterns::mark_hits(w, 6 * n, p);
@@ -55,7 +54,7 @@ fn find_hit_marks(w: &mut [u16], n: usize, p: usize)
 // From p alternating patterns to hit patterns and their intervals; the result is their count.
 fn find_hits(w: &mut [u16], n: usize, p: usize, limit: u16) -> usize
     requires { ⌜ Regions n (now w) ⌝ ∗ ⌜ p ≤ n ⌝ ∗ ⌜ 1 ≤ limit ⌝ ∗ ⌜ limit < 65535 ⌝ }
-    ensures { λ r. ⌜ Hits limit n p (part n p (now (w .entry))) (hitMarks (coupled (part n p (now (w .entry))) (part (5 * n) p (now (w .entry))) (part (2 * n) p (now (w .entry))))) (now (w .entry)) (now (w .exit)) r ⌝ }
+    ensures { λ r. ⌜ Hits limit n p (part n p (now (w .entry))) (coupled (part n p (now (w .entry))) (part (5 * n) p (now (w .entry))) (part (2 * n) p (now (w .entry)))) (now (w .entry)) (now (w .exit)) r ⌝ }
 {
     find_hit_marks(w, n, p);
     let h = grouping_marks::group_sizes(w, 6 * n, p, 5 * n);
@@ -67,10 +66,10 @@ fn find_hits(w: &mut [u16], n: usize, p: usize, limit: u16) -> usize
     h
 }
 
-// Finds all levels; their tables are in the work slice.
+// Finds all levels. Their tables are in the work slice, in eight regions of n places.
 pub fn encode_colors(kind: &[u8], w: &mut [u16], limit: u16) -> Counts
     requires { ⌜ Regions (length (now kind)) (now w) ⌝ ∗ ⌜ 1 ≤ limit ⌝ ∗ ⌜ limit < 65535 ⌝ }
-    ensures { λ r. ⌜ Tables limit (now (kind .entry)) (now (w .entry)) (now (w .exit)) r ⌝ }
+    ensures { λ r. ⌜ Encodes limit (now (kind .entry)) (now (w .entry)) (now (w .exit)) r ⌝ }
 {
     let n = kind.len();
     let s = find_streaks(kind, w);

@@ -1,8 +1,8 @@
--- `preprocessor::find_hit_marks` meets its contract, by what its calls ensure.
-use Rattle.grouping_color.proofs.ComposeLaws.{room-behind, apart-before, apart-after, hit-marks-made}
+-- `find_hit_marks` meets its contract, by what its calls ensure.
+use Rattle.grouping_preprocessor.proofs.ComposeLaws.{room-behind, apart-before, apart-after, hit-marks-made}
 use native.Mathlib.Omega.{arith}
-use Rattle.grouping_color.proofs.preprocessor.find_hit_marks.Statement.{statement}
-use Rattle.grouping_color.proofs.preprocessor.find_hit_marks.Tie as tie
+use Rattle.grouping_preprocessor.proofs.find_hit_marks.Statement.{statement}
+use Rattle.grouping_preprocessor.proofs.find_hit_marks.Tie as tie
 
 mul-mark-coupled : tie.Need-mul-mark-coupled
 mul-mark-coupled c = omega arith

@@ -1,22 +1,24 @@
 -- What each pass left, put together: every law takes the equations that the calls ensure, over plain lists, and gives the caller's promise.
 use mathlib.Core.Path.{_≡_, refl, sym, ap, _∙_, subst}
 use mathlib.Core.Logic.{inl, inr}
-use mathlib.Core.List.{List}
+use mathlib.Core.List.{List, _++_}
 use Prim.Native.Nat.{ℕ, _+_, _*_, _≤_}
 use native.Mathlib.Omega.{arith}
 use lib.ListN.{length, drop}
-use Rattle.grouping_marks.specs.Over.{put, part}
+use Rattle.grouping_marks.specs.Over.{put, part, Write, written}
 use Rattle.grouping_marks.specs.Marks.{groupCount, groupNumbers, groupPlaces, groupSizes, groupFirsts}
 use Rattle.grouping_marks.specs.Passes.{Room}
-use Rattle.grouping_marks.proofs.OverLaws.{length-part, length-put, part-put-same, part-put-before, part-put-after, drop-put}
+use Rattle.grouping_marks.proofs.OverLaws.{length-part, length-put, part-put-same, part-put-before, part-put-after, drop-put, written-append}
 use Rattle.grouping_marks.proofs.PieceLaws.{part-shorter}
 use Rattle.grouping_marks.proofs.MarksLaws.{length-numbers, length-places, length-sizes, length-firsts, count-le}
 use Rattle.grouping_color.specs.MonoStreak.{streakMarks, streakOf, streakLengths, streakTypes}
 use Rattle.grouping_color.specs.AlternatingMonoPattern.{patternMarks, coupled}
 use Rattle.grouping_color.specs.RepeatingHitPatterns.{hitMarks, secondLengths, intervals}
-use Rattle.grouping_color.specs.Preprocessor.{patternsOpen, firstLengths, streakCounts, patternTypes, hitsOpen, hitCount, hitSizes, hitFirsts, hitSeconds, hitIntervals}
-use Rattle.grouping_color.specs.Passes.{Apart, Regions, Outside, Streaks, Patterns, Kept, HitMarks, Hits, Tables}
+use Rattle.grouping_color.specs.Preprocessor.{patternsOpen, firstLengths, streakCounts, patternTypes, coupledPatterns, hitsOpen, hitCount, hitSizes, hitFirsts, hitSeconds, hitIntervals}
+use Rattle.grouping_color.specs.Passes.{Apart}
 use Rattle.grouping_color.proofs.LengthLaws.{length-streakMarks, length-patternMarks, length-coupled, length-hitMarks, length-secondLengths, length-intervals}
+use Rattle.grouping_preprocessor.specs.Writes.{streakWrites, patternWrites, hitMarkWrites, hitWrites, coupledWrites, encoderWrites}
+use Rattle.grouping_preprocessor.specs.Passes.{Regions, Outside, Streaks, Patterns, Kept, HitMarks, Hits, Encodes}
 
 -- ---- the regions of a call
 
@@ -92,7 +94,7 @@ pub streaks-made : (kinds w₀ w₁ w₂ w₃ w : List ℕ) (s : ℕ) → Region
     → w₃ ≡ put (2 * length kinds) (groupFirsts (part (7 * length kinds) (length kinds) w₂) kinds) w₂
     → (s ≡ groupCount (part (7 * length kinds) (length kinds) w₃)) × (w ≡ put (length kinds) (groupSizes (part (7 * length kinds) (length kinds) w₃)) w₃)
     → Streaks kinds w₀ w s
-unfolding streakOf streakLengths streakTypes
+unfolding streakOf streakLengths streakTypes written streakWrites
 streaks-made kinds w₀ w₁ w₂ w₃ w s r e₁ e₂ e₃ e₄ =
     let n : ℕ = length kinds in
     let m : List ℕ = streakMarks kinds in
@@ -112,6 +114,8 @@ streaks-made kinds w₀ w₁ w₂ w₃ w s r e₁ e₂ e₃ e₄ =
     let o₄ : Wrote n q (groupSizes m) w₃ w = record { is = e₄ .1 ∙ ap (λ (l : List ℕ). put n (groupSizes l) w₃) m₃; size = length-sizes m; room = omega arith } in
     let made : Streaks kinds w₀ w q = record {
       counted = refl;
+      memory =
+          o₄ .is ∙ ap (put n (groupSizes m)) (o₃ .is ∙ ap (put (2 * n) (groupFirsts m kinds)) (o₂ .is ∙ ap (put 0 (groupNumbers m)) (o₁ .is)));
       few = few;
       streak = below o₄ 0 n (omega arith) ∙ below o₃ 0 n (omega arith) ∙ here o₂;
       lengths = here o₄;
@@ -131,6 +135,7 @@ pub patterns-made : (n s : ℕ) (w₀ w₁ w₂ w₃ w₄ w₅ w : List ℕ) (p 
     → w₅ ≡ put (2 * n) (groupFirsts (part (7 * n) s w₄) (part (2 * n) s w₄)) w₄
     → (p ≡ groupCount (part (7 * n) s w₅)) × (w ≡ put (5 * n) (groupSizes (part (7 * n) s w₅)) w₅)
     → Patterns n s (part n s w₀) (part (2 * n) s w₀) w₀ w p
+unfolding written patternWrites
 patterns-made n s w₀ w₁ w₂ w₃ w₄ w₅ w p r hs e₁ e₂ e₃ e₄ e₅ e₆ =
     let x : List ℕ = part n s w₀ in
     let t : List ℕ = part (2 * n) s w₀ in
@@ -165,6 +170,12 @@ patterns-made n s w₀ w₁ w₂ w₃ w₄ w₅ w p r hs e₁ e₂ e₃ e₄ e�
     record { is = e₆ .1 ∙ ap (λ (l : List ℕ). put (5 * n) (groupSizes l) w₅) m₅; size = length-sizes m; room = omega arith } in
     let made : Patterns n s x t w₀ w q = record {
       counted = refl;
+      memory =
+          o₆ .is
+          ∙ ap (put (5 * n) (groupSizes m))
+          (o₅ .is
+          ∙ ap (put (2 * n) (groupFirsts m t))
+          (o₄ .is ∙ ap (put n (groupFirsts m x)) (o₃ .is ∙ ap (put (4 * n) (groupPlaces m)) (o₂ .is ∙ ap (put (3 * n) (groupNumbers m)) (o₁ .is)))));
       few = few;
       firsts = below o₆ n q (omega arith) ∙ below o₅ n q (omega arith) ∙ here o₄;
       types-of = below o₆ (2 * n) q (omega arith) ∙ here o₅;
@@ -187,7 +198,8 @@ pub hit-marks-made : (n p : ℕ) (w₀ w₁ w₂ w : List ℕ) → Regions n w�
     → w₁ ≡ put (6 * n) (coupled (part n p w₀) (part (5 * n) p w₀) (part (2 * n) p w₀)) w₀
     → w₂ ≡ put (6 * n) (hitMarks (part (6 * n) p w₁)) w₁
     → w ≡ put (2 * n) (secondLengths (part n p w₂) (part (6 * n) p w₂)) w₂
-    → HitMarks n p (part n p w₀) (hitMarks (coupled (part n p w₀) (part (5 * n) p w₀) (part (2 * n) p w₀))) w₀ w
+    → HitMarks n p (part n p w₀) (coupled (part n p w₀) (part (5 * n) p w₀) (part (2 * n) p w₀)) w₀ w
+unfolding written hitMarkWrites
 hit-marks-made n p w₀ w₁ w₂ w r hp e₁ e₂ e₃ =
     let x : List ℕ = part n p w₀ in
     let f : List ℕ = coupled x (part (5 * n) p w₀) (part (2 * n) p w₀) in
@@ -203,22 +215,25 @@ hit-marks-made n p w₀ w₁ w₂ w r hp e₁ e₂ e₃ =
     let o₃ : Wrote (2 * n) p (secondLengths x m) w₂ w =
     record { is = e₃ ∙ (λ i. put (2 * n) (secondLengths (x₂ i) (m₂ i)) w₂); size = length-secondLengths x m ∙ lx; room = omega arith } in
     record {
+      memory = o₃ .is ∙ ap (put (2 * n) (secondLengths x m)) (o₂ .is ∙ ap (put (6 * n) m) (o₁ .is));
       opening = above o₃ (6 * n) p (omega arith) ∙ m₂;
       first = below o₃ n p (omega arith) ∙ x₂;
       second = here o₃;
       kept = kept-then (kept-high o₁ n (omega arith) (omega arith)) (kept-then (kept-high o₂ n (omega arith) (omega arith)) (kept-low o₃ n (omega arith) (omega arith)));
     }
 
-pub hits-made : (limit n p : ℕ) (x m w₀ w₁ w₂ w₃ w₄ w₅ w₆ w : List ℕ) (h : ℕ) → Regions n w₀ → p ≤ n
-    → HitMarks n p x m w₀ w₁
+pub hits-made : (limit n p : ℕ) (x f w₀ w₁ w₂ w₃ w₄ w₅ w₆ w : List ℕ) (h : ℕ) → Regions n w₀ → p ≤ n
+    → HitMarks n p x f w₀ w₁
     → (h ≡ groupCount (part (6 * n) p w₁)) × (w₂ ≡ put (5 * n) (groupSizes (part (6 * n) p w₁)) w₁)
     → w₃ ≡ put n (groupFirsts (part (6 * n) p w₂) (part n p w₂)) w₂
     → w₄ ≡ put (2 * n) (groupFirsts (part (6 * n) p w₃) (part (2 * n) p w₃)) w₃
     → w₅ ≡ put (7 * n) (intervals limit (part (5 * n) h w₄) (part n h w₄) (part (2 * n) h w₄)) w₄
     → w₆ ≡ put n (groupNumbers (part (6 * n) p w₅)) w₅
     → w ≡ put (2 * n) (groupPlaces (part (6 * n) p w₆)) w₆
-    → Hits limit n p x m w₀ w h
-hits-made limit n p x m w₀ w₁ w₂ w₃ w₄ w₅ w₆ w h r hp k e₂ e₃ e₄ e₅ e₆ e₇ =
+    → Hits limit n p x f w₀ w h
+unfolding written hitWrites coupledWrites
+hits-made limit n p x f w₀ w₁ w₂ w₃ w₄ w₅ w₆ w h r hp k e₂ e₃ e₄ e₅ e₆ e₇ =
+    let m : List ℕ = hitMarks f in
     let q : ℕ = groupCount m in
     let y : List ℕ = secondLengths x m in
     let v : List ℕ = intervals limit (groupSizes m) (groupFirsts m x) (groupFirsts m y) in
@@ -259,8 +274,15 @@ hits-made limit n p x m w₀ w₁ w₂ w₃ w₄ w₅ w₆ w h r hp k e₂ e₃ 
     let m₆ : part (6 * n) p w₆ ≡ m = above o₆ (6 * n) p (omega arith) ∙ m₅ in
     let o₇ : Wrote (2 * n) p (groupPlaces m) w₆ w =
     record { is = e₇ ∙ ap (λ (l : List ℕ). put (2 * n) (groupPlaces l) w₆) m₆; size = length-places m ∙ lm; room = omega arith } in
-    let made : Hits limit n p x m w₀ w q = record {
+    let made : Hits limit n p x f w₀ w q = record {
       counted = refl;
+      memory =
+          o₇ .is
+          ∙ ap (put (2 * n) (groupPlaces m))
+          (o₆ .is
+          ∙ ap (put n (groupNumbers m))
+          (o₅ .is ∙ ap (put (7 * n) v) (o₄ .is ∙ ap (put (2 * n) (groupFirsts m y)) (o₃ .is ∙ ap (put n (groupFirsts m x)) (o₂ .is ∙ ap (put (5 * n) (groupSizes m)) (k .memory))))))
+          ∙ sym (written-append (hitMarkWrites n x f) (hitWrites limit n x y m) w₀);
       few = few;
       numbers = below o₇ n p (omega arith) ∙ here o₆;
       places = here o₇;
@@ -273,17 +295,16 @@ hits-made limit n p x m w₀ w₁ w₂ w₃ w₄ w₅ w₆ w h r hp k e₂ e₃ 
           (kept-then (kept-high o₅ n (omega arith) (omega arith))
           (kept-then (kept-low o₆ n (omega arith) (omega arith)) (kept-low o₇ n (omega arith) (omega arith)))))));
     } in
-    subst (Hits limit n p x m w₀ w) (sym eh) made
+    subst (Hits limit n p x f w₀ w) (sym eh) made
 
 -- ---- all levels
 
-pub tables-made : (limit : ℕ) (kinds w₀ w₁ w₂ w : List ℕ) (s p h : ℕ) → Streaks kinds w₀ w₁ s
+pub encoded : (limit : ℕ) (kinds w₀ w₁ w₂ w : List ℕ) (s p h : ℕ) → Streaks kinds w₀ w₁ s
     → Patterns (length kinds) s (part (length kinds) s w₁) (part (2 * length kinds) s w₁) w₁ w₂ p
-    → Hits limit (length kinds) p (part (length kinds) p w₂)
-    (hitMarks (coupled (part (length kinds) p w₂) (part (5 * length kinds) p w₂) (part (2 * length kinds) p w₂))) w₂ w h
-    → Tables limit kinds w₀ w (record { streaks = s; patterns = p; hits = h; limit = limit })
-unfolding patternsOpen firstLengths streakCounts patternTypes hitsOpen hitCount hitSizes hitFirsts hitSeconds hitIntervals
-tables-made limit kinds w₀ w₁ w₂ w s p h S P H =
+    → Hits limit (length kinds) p (part (length kinds) p w₂) (coupled (part (length kinds) p w₂) (part (5 * length kinds) p w₂) (part (2 * length kinds) p w₂)) w₂ w h
+    → Encodes limit kinds w₀ w (record { streaks = s; patterns = p; hits = h; limit = limit })
+unfolding patternsOpen firstLengths streakCounts patternTypes coupledPatterns hitsOpen hitCount hitSizes hitFirsts hitSeconds hitIntervals encoderWrites
+encoded limit kinds w₀ w₁ w₂ w s p h S P H =
     let n : ℕ = length kinds in
     let x : part n s w₁ ≡ streakLengths kinds = S .lengths in
     let t : part (2 * n) s w₁ ≡ streakTypes kinds = S .types in
@@ -291,20 +312,29 @@ tables-made limit kinds w₀ w₁ w₂ w s p h S P H =
     let y : part n p w₂ ≡ firstLengths kinds = P .firsts ∙ (λ i. groupFirsts (m i) (x i)) in
     let c : part (5 * n) p w₂ ≡ streakCounts kinds = P .counts ∙ ap groupSizes m in
     let u : part (2 * n) p w₂ ≡ patternTypes kinds = P .types-of ∙ (λ i. groupFirsts (m i) (t i)) in
-    let g : hitMarks (coupled (part n p w₂) (part (5 * n) p w₂) (part (2 * n) p w₂)) ≡ hitsOpen kinds = λ i. hitMarks (coupled (y i) (c i) (u i)) in
+    let f : coupled (part n p w₂) (part (5 * n) p w₂) (part (2 * n) p w₂) ≡ coupledPatterns kinds = λ i. coupled (y i) (c i) (u i) in
+    let g : hitMarks (coupled (part n p w₂) (part (5 * n) p w₂) (part (2 * n) p w₂)) ≡ hitsOpen kinds = ap hitMarks f in
+    let a : List (Write ℕ) = patternWrites n (streakLengths kinds) (streakTypes kinds) in
+    let b : List (Write ℕ) = coupledWrites limit n (firstLengths kinds) (coupledPatterns kinds) in
     record {
-      count-s = S .counted;
-      count-p = P .counted ∙ ap groupCount m;
-      count-h = H .counted ∙ ap groupCount g;
-      searched = refl;
-      few-s = S .few;
-      few-p = omega arith;
-      few-h = omega arith;
-      streak = H .kept .streak ∙ P .streak ∙ S .streak;
-      pattern = part-shorter (3 * n) s n w₂ w (S .few) (H .kept .pattern) ∙ P .numbers ∙ ap groupNumbers m;
-      streak-place = part-shorter (4 * n) s n w₂ w (S .few) (H .kept .place) ∙ P .places ∙ ap groupPlaces m;
-      hit = H .numbers ∙ ap groupNumbers g;
-      pattern-place = H .places ∙ ap groupPlaces g;
-      interval = H .interval ∙ (λ i. intervals limit (groupSizes (g i)) (groupFirsts (g i) (y i)) (groupFirsts (g i) (secondLengths (y i) (g i))));
-      outside = outside-then (S .outside) (outside-then (P .outside) (H .kept .outside));
+      memory =
+          H .memory ∙ (λ i. written (coupledWrites limit n (y i) (f i)) w₂)
+          ∙ ap (written b) (P .memory ∙ (λ i. written (patternWrites n (x i) (t i)) w₁) ∙ ap (written a) (S .memory))
+          ∙ sym (written-append (streakWrites kinds) (a ++ b) w₀ ∙ written-append a b (written (streakWrites kinds) w₀));
+      tables = record {
+        count-s = S .counted;
+        count-p = P .counted ∙ ap groupCount m;
+        count-h = H .counted ∙ ap groupCount g;
+        searched = refl;
+        few-s = S .few;
+        few-p = omega arith;
+        few-h = omega arith;
+        streak = H .kept .streak ∙ P .streak ∙ S .streak;
+        pattern = part-shorter (3 * n) s n w₂ w (S .few) (H .kept .pattern) ∙ P .numbers ∙ ap groupNumbers m;
+        streak-place = part-shorter (4 * n) s n w₂ w (S .few) (H .kept .place) ∙ P .places ∙ ap groupPlaces m;
+        hit = H .numbers ∙ ap groupNumbers g;
+        pattern-place = H .places ∙ ap groupPlaces g;
+        interval = H .interval ∙ (λ i. intervals limit (groupSizes (g i)) (groupFirsts (g i) (y i)) (groupFirsts (g i) (secondLengths (y i) (g i))));
+        outside = outside-then (S .outside) (outside-then (P .outside) (H .kept .outside));
+      };
     }

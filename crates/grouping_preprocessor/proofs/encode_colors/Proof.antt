@@ -1,9 +1,9 @@
--- `preprocessor::encode_colors` meets its contract, by what its calls ensure.
-use Rattle.grouping_color.proofs.ComposeLaws.{tables-made}
+-- `encode_colors` meets its contract, by what its calls ensure.
+use Rattle.grouping_preprocessor.proofs.ComposeLaws.{encoded}
 use native.Mathlib.Omega.{arith}
 use borrow.Author.Needs.{needs}
-use Rattle.grouping_color.proofs.preprocessor.encode_colors.Statement.{statement}
-use Rattle.grouping_color.proofs.preprocessor.encode_colors.Tie as tie
+use Rattle.grouping_preprocessor.proofs.encode_colors.Statement.{statement}
+use Rattle.grouping_preprocessor.proofs.encode_colors.Tie as tie
 
 find-streaks-requires : tie.Need-find-streaks-requires
 find-streaks-requires c κs = search needs
@@ -18,7 +18,7 @@ same-length : tie.Need-same-length
 same-length c = omega arith
 
 returns : tie.Need-returns
-returns c = tables-made _ _ _ _ _ _ _ _ _ (c .before .before .before .before .before .before .before .before .before .before .find-streaks .ensures) (c .before .before .before .before .before .before .find-patterns .ensures) (c .before .before .find-hits .ensures)
+returns c = encoded _ _ _ _ _ _ _ _ _ (c .before .before .before .before .before .before .before .before .before .before .find-streaks .ensures) (c .before .before .before .before .before .before .find-patterns .ensures) (c .before .before .find-hits .ensures)
 
 pub encode-colors-spec : {M : Type 1} → statement M
 encode-colors-spec =

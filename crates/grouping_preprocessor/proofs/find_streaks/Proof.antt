@@ -1,9 +1,9 @@
--- `preprocessor::find_streaks` meets its contract, by what its calls ensure.
-use Rattle.grouping_color.proofs.ComposeLaws.{room-behind, streaks-made}
+-- `find_streaks` meets its contract, by what its calls ensure.
+use Rattle.grouping_preprocessor.proofs.ComposeLaws.{room-behind, streaks-made}
 use native.Mathlib.Omega.{arith}
 use borrow.Author.Needs.{needs}
-use Rattle.grouping_color.proofs.preprocessor.find_streaks.Statement.{statement}
-use Rattle.grouping_color.proofs.preprocessor.find_streaks.Tie as tie
+use Rattle.grouping_preprocessor.proofs.find_streaks.Statement.{statement}
+use Rattle.grouping_preprocessor.proofs.find_streaks.Tie as tie
 
 mul-mark-streaks : tie.Need-mul-mark-streaks
 mul-mark-streaks c = omega arith

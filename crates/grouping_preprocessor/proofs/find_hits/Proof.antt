@@ -1,9 +1,9 @@
--- `preprocessor::find_hits` meets its contract, by what its calls ensure.
-use Rattle.grouping_color.proofs.ComposeLaws.{room-behind, apart-before, groups-few, hits-made}
+-- `find_hits` meets its contract, by what its calls ensure.
+use Rattle.grouping_preprocessor.proofs.ComposeLaws.{room-behind, apart-before, groups-few, hits-made}
 use native.Mathlib.Omega.{arith}
 use borrow.Author.Needs.{needs}
-use Rattle.grouping_color.proofs.preprocessor.find_hits.Statement.{statement}
-use Rattle.grouping_color.proofs.preprocessor.find_hits.Tie as tie
+use Rattle.grouping_preprocessor.proofs.find_hits.Statement.{statement}
+use Rattle.grouping_preprocessor.proofs.find_hits.Tie as tie
 
 find-hit-marks-requires : tie.Need-find-hit-marks-requires
 find-hit-marks-requires c κs = search needs

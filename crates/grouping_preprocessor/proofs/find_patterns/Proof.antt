@@ -1,8 +1,8 @@
--- `preprocessor::find_patterns` meets its contract, by what its calls ensure.
-use Rattle.grouping_color.proofs.ComposeLaws.{room-behind, apart-before, patterns-made}
+-- `find_patterns` meets its contract, by what its calls ensure.
+use Rattle.grouping_preprocessor.proofs.ComposeLaws.{room-behind, apart-before, patterns-made}
 use native.Mathlib.Omega.{arith}
-use Rattle.grouping_color.proofs.preprocessor.find_patterns.Statement.{statement}
-use Rattle.grouping_color.proofs.preprocessor.find_patterns.Tie as tie
+use Rattle.grouping_preprocessor.proofs.find_patterns.Statement.{statement}
+use Rattle.grouping_preprocessor.proofs.find_patterns.Tie as tie
 
 mul-mark-patterns : tie.Need-mul-mark-patterns
 mul-mark-patterns c = omega arith
