@@ -61,9 +61,9 @@ enum {
     DRESSERDUCK_BAD_GROUP = 9    /* dresserduck_record: the group's number is not below the number of groups */
 };
 
-/* How many places the two work slices need for n objects. */
-static inline size_t dresserduck_work_places(size_t n) { return 8 * n; }
-static inline size_t dresserduck_scratch_places(size_t n) { return n; }
+/* How many places the two work slices need for n objects; a constant where n is one. */
+#define DRESSERDUCK_WORK_PLACES(n) (8 * (size_t)(n))
+#define DRESSERDUCK_SCRATCH_PLACES(n) ((size_t)(n))
 
 /* The double of a field whose name ends in `_bits`. */
 static inline double dresserduck_double(uint64_t bits)

@@ -43,7 +43,7 @@ static void each_list_in_its_slice(void)
     }
     CHECK(FILLED(lent.interval, interval));
     CHECK(cleared());
-    CHECK(dresserduck_work_places(N) == 8 * N && dresserduck_scratch_places(N) == N);
+    CHECK(DRESSERDUCK_WORK_PLACES(N + 1) == 8 * (N + 1) && DRESSERDUCK_SCRATCH_PLACES(N + 1) == N + 1);
 }
 
 static void refused(void)
