@@ -1,7 +1,8 @@
+-- The laws of this crate. Those that are public are for the crates above, or are results of their own; the others serve the proofs of this crate alone.
 pub mod TailLaws
-pub mod PartLaws
-pub mod LevelLaws
-pub mod AgreementLaws
 pub mod ColourAgree
 pub mod LandmarkLaws
-pub mod Examples
+mod PartLaws
+mod LevelLaws
+mod AgreementLaws
+mod Examples

@@ -1,6 +1,7 @@
-pub mod ValueAgree
-pub mod RiseLaws
-pub mod StretchAgree
+-- The laws of this crate. Those that are public are for the crates above, or are results of their own; the others serve the proofs of this crate alone.
 pub mod ColourClaimed
 pub mod Calls
-pub mod Examples
+mod ValueAgree
+mod RiseLaws
+mod StretchAgree
+mod Examples

@@ -1,6 +1,7 @@
-pub mod RhythmAgree
-pub mod NoteLaws
+-- The laws of this crate. Those that are public are for the crates above, or are results of their own; the others serve the proofs of this crate alone.
 pub mod RhythmClaimed
 pub mod LandmarkLaws
-pub mod Examples
-pub mod WiderLandmarks
+mod RhythmAgree
+mod NoteLaws
+mod Examples
+mod WiderLandmarks

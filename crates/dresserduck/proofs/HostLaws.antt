@@ -1,4 +1,4 @@
--- A call's own outcome, its answer turned into a record for the host, is the outcome for the host. Assumes nothing.
+-- A call's own outcome, its answer turned into a record for the host, is the outcome for the host.
 use mathlib.Core.Path.{_≡_, ap, _∙_}
 use Rattle.grouping_encode.specs.Encode as encode
 use Rattle.grouping_encode.specs.declared.Encoding.{Encoding}

@@ -1,4 +1,4 @@
--- A record for the host, from the bits of each of its floats. Assumes nothing.
+-- A record for the host, from the bits of each of its floats.
 use mathlib.Core.Path.{_≡_, sym, ap, _∙_}
 use Prim.Native.Nat.{ℕ}
 use lib.Ieee.{binary64, toBits}

@@ -1,22 +1,20 @@
 -- Sizes: every colour value of an accepted chart, and the mean of every stretch of it, is finite, no NaN, and at most `largestColour` in size.
--- A sum of m values is at most m times that, so divided by m it is at most that again. Assumes nothing.
+-- A sum of m values is at most m times that, so divided by m it is at most that again.
 use mathlib.Core.Path.{_≡_, sym, ap, _∙_, subst}
-use mathlib.Core.Bool.{Bool, false, not, cond}
+use mathlib.Core.Bool.{not}
 use mathlib.Core.List.{List, [], _∷_}
 use Prim.Native.Nat.{ℕ, zero, suc, _+_, _-_, _*_, _^_, _≤_, _<_}
-use native.Mathlib.Nat.{le-trans, le-of-eq, mul-one, mul-assoc, mul-comm, mul-right-comm, mul-le-mul-right, mul-pos, zero-mul, zero-add, zero-lt-suc, suc-mul, add-assoc, add-comm}
+use native.Mathlib.Nat.{le-trans, le-of-eq, zero-add, suc-mul, add-assoc, add-comm}
 use native.Mathlib.Omega.{arith}
-use lib.IntN.{ℤ, pos}
-use lib.Dec.{T, leb→le, lit≤, eqb, eqb·suc-zero}
+use lib.Dec.{T, leb→le, lit≤}
 use lib.ListN.{length, getD}
-use lib.Ieee.{Float, nan, inf, fin, binary64, fits, up, down, unlike, isNan, le, round, add, mul, div, ofInt}
-use lib.Ieee.Fits.{up-pos, down-pos, mul-fits, div-fits}
-use lib.Ieee.Exact.{HasValue}
-use lib.Ieee.Back.{round-whole}
+use lib.Ieee.{Float, nan, binary64, fits, isNan, le, add, mul}
+use lib.Ieee.Fits.{mul-fits, div-fits}
 use Rattle.numeric.specs.Constants as constant
 use Rattle.numeric.specs.Tenths.{InTenthsRange}
 use Rattle.numeric.proofs.Values.{Number, number-no-nan}
-use Rattle.numeric.proofs.Bounded.{Bounded, bounded-more, bounded-number, bounded-tenths, round-bounded, add-bounded}
+use Rattle.numeric.proofs.Bounded as bounds
+use Rattle.numeric.proofs.Bounded.{Bounded, bounded-more, bounded-number, bounded-tenths, add-bounded}
 use Rattle.grouping_marks.specs.Over.{part}
 use Rattle.grouping_marks.proofs.OverLaws.{length-part, getD-part}
 use Rattle.grouping_chart.specs.Chart.{Chart, size}
@@ -54,39 +52,6 @@ sum-bounded B C sum (x ∷ xs) k h g =
 
     upto : (p q : ℕ) → p ≤ p + q
     upto p q = omega arith
-
--- ---- divided by how many there are
-whole-value : (m : ℕ) → m ≤ 2 ^ 53 → HasValue (ofInt binary64 (pos m)) false m 1
-unfolding ofInt
-whole-value m h = round-whole binary64 false m h
-
-div-opened : (s : Bool) (m : ℕ) (e : ℤ) (t : Bool) (n : ℕ) (d : ℤ) → div binary64 (fin s m e) (fin t (suc n) d) ≡ round binary64 (unlike s t) (m * up e * down d) (suc n * up d * down e)
-unfolding div
-div-opened s m e t n d = ap (λ (b : Bool). cond b (cond (eqb m 0) nan (inf (unlike s t))) (round binary64 (unlike s t) (m * up e * down d) (suc n * up d * down e))) (eqb·suc-zero n)
-
--- p / E is at most m * B, and q / D is m
-quotient : (p q m B D E : ℕ) → p ≤ m * B * E → q * 1 ≡ m * D → p * D ≤ B * (q * E)
-quotient p q m B D E h v =
-    le-trans (mul-le-mul-right D h)
-    (le-of-eq (ap (λ (z : ℕ). z * E * D) (mul-comm m B) ∙ mul-right-comm (B * m) E D ∙ ap (λ (z : ℕ). z * E) (mul-assoc B m D) ∙ mul-assoc B (m * D) E
-    ∙ ap (λ (z : ℕ). B * (z * E)) (sym v ∙ mul-one q)))
-
-no-zero : (u m D : ℕ) → 0 < m * D → 0 * u * 1 ≡ m * D → ⊥
-no-zero u m D h v = clash (0 * u * 1) (m * D) h v (mul-one (0 * u) ∙ zero-mul u)
-  where
-    clash : (a b : ℕ) → 0 < b → a ≡ b → a ≡ 0 → ⊥
-    clash a b p q r = omega arith
-
-pub quotient-bounded : (x y : Float) (m B : ℕ) → 0 < m → B ≤ 2 ^ 53 → Bounded x (m * B) → HasValue y false m 1 → Bounded (div binary64 x y) B
-quotient-bounded nan y m B l k h v = absurd h
-quotient-bounded (inf s) y m B l k h v = absurd h
-quotient-bounded (fin s p e) nan m B l k h v = absurd v
-quotient-bounded (fin s p e) (inf t) m B l k h v = absurd v
-quotient-bounded (fin s p e) (fin t zero d) m B l k h v = absurd (no-zero (up d) m (down d) (mul-pos l (down-pos d)) (v .1))
-quotient-bounded (fin s p e) (fin t (suc n) d) m B l k h v =
-    subst (λ (z : Float). Bounded z B) (sym (div-opened s p e t n d))
-    (round-bounded (unlike s t) (p * up e * down d) (suc n * up d * down e) B (mul-pos (mul-pos (zero-lt-suc n) (up-pos d)) (down-pos e)) k
-    (quotient (p * up e) (suc n * up d) m B (down d) (down e) h (v .1)))
 
 -- ---- the values of an accepted chart
 module _ (c : Chart) (beside : ℕ) (accepted : verdict c beside ≡ Accepted) where
@@ -136,9 +101,7 @@ module _ (c : Chart) (beside : ℕ) (accepted : verdict c beside ≡ Accepted) w
 
     pub mean-bounded : Bounded (meanOf (valuesOf c) a b) largestColour
     unfolding meanOf
-    mean-bounded =
-        quotient-bounded (sumFrom constant.zero (part a (b - a) (valuesOf c))) (ofInt binary64 (pos (b - a))) (b - a) largestColour (omega arith) (lit≤ tt) total-bounded
-        (whole-value (b - a) (omega (arith, good .few)))
+    mean-bounded = bounds.mean-bounded (sumFrom constant.zero (part a (b - a) (valuesOf c))) (b - a) largestColour (omega arith) (omega (arith, good .few)) (lit≤ tt) total-bounded
 
     pub mean-number : Number (meanOf (valuesOf c) a b)
     unfolding meanOf

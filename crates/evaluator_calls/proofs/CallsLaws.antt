@@ -1,4 +1,4 @@
--- The outcomes of colour and stretch, case by case, over plain lists: a refusal leaves all as lent, and an accepted call has room in every slice. Assumes nothing.
+-- The outcomes of colour and stretch, case by case, over plain lists: a refusal leaves all as lent, and an accepted call has room in every slice.
 use mathlib.Core.Path.{_≡_, refl, sym, ap, _∙_, subst}
 use mathlib.Core.Bool.{Bool, true, false, _||_, cond}
 use mathlib.Core.List.{List}

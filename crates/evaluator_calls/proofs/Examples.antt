@@ -1,4 +1,4 @@
--- Document 01's starred charts "no objects" and "d", run by the definitions: colour and stretch into memory of exactly the size asked, bits and all. Assumes nothing.
+-- Document 01's starred charts "no objects" and "d", run by the definitions: colour and stretch into memory of exactly the size asked, bits and all.
 use mathlib.Core.Path.{_≡_, refl}
 use mathlib.Core.Bool.{false}
 use mathlib.Core.List.{List, [], _∷_, map}

@@ -1,7 +1,7 @@
--- Laws that belong to no one function. Upper crates cite BoundLaws and Examples.
-pub mod TablesLaws
+-- The laws of this crate. Those that are public are for the crates above, or are results of their own; the others serve the proofs of this crate alone.
 pub mod LookLaws
 pub mod CallsLaws
 pub mod BoundLaws
-pub mod StretchLaws
-pub mod Examples
+mod TablesLaws
+mod StretchLaws
+mod Examples

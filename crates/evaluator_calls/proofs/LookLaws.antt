@@ -1,4 +1,4 @@
--- What the evaluator looks at, put together from what was looked up; and the list of values, element by element. Assumes nothing.
+-- What the evaluator looks at, put together from what was looked up; and the list of values, element by element.
 use mathlib.Core.Path.{_≡_, sym, ap, _∙_}
 use mathlib.Core.Bool.{Bool, true, cond, not}
 use mathlib.Core.List.{List}

@@ -1,4 +1,4 @@
--- An accepted stretch, after the values are filled: it lies inside them, their mean is the definition's, and its tenths can be asked. Assumes nothing.
+-- An accepted stretch, after the values are filled: it lies inside them, their mean is the definition's, and its tenths can be asked.
 use mathlib.Core.Path.{_≡_, sym, ap, _∙_, subst}
 use mathlib.Core.List.{List}
 use Prim.Native.Nat.{ℕ, _+_, _-_, _≤_, _<_}

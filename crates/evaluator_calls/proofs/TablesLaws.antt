@@ -1,4 +1,4 @@
--- The encoder's tables, looked up for one object: each number is in range, and what stands there is the definition's. Assumes nothing.
+-- The encoder's tables, looked up for one object: each number is in range, and what stands there is the definition's.
 use mathlib.Core.Path.{_≡_, refl, sym, ap, _∙_}
 use mathlib.Core.List.{List}
 use Prim.Native.Nat.{ℕ, _+_, _*_, _<_}

@@ -1,4 +1,4 @@
--- Sizes for the crates above: an object's sum is at most 5, and with ratios in range a colour value is finite, so no NaN. Each formula is bounded by what its parts are. Assumes nothing.
+-- Sizes for the crates above: an object's sum is at most 5, and with ratios in range a colour value is finite, so no NaN. Each formula is bounded by what its parts are.
 use mathlib.Core.Bool.{Bool, true, false, cond}
 use Prim.Native.Nat.{ℕ, _+_, _*_, _^_, _≤_}
 use native.Mathlib.Nat.{mul-pos, zero-lt-suc}

@@ -1,4 +1,4 @@
--- Worked examples, computed by antt: bits of sums and penalties, from the places and the ratios of single objects. Assumes nothing.
+-- Worked examples, computed by antt: bits of sums and penalties, from the places and the ratios of single objects.
 use mathlib.Core.Path.{_≡_, refl}
 use mathlib.Core.Bool.{Bool, true, false}
 use mathlib.Core.List.{List, [], _∷_, map}

@@ -1,5 +1,5 @@
--- The penalty by its tests, the laws that the crates above cite, and worked examples.
-pub mod PenaltyCases
+-- The laws of this crate. Those that are public are for the crates above, or are results of their own; the others serve the proofs of this crate alone.
 pub mod BoundLaws
 pub mod PenaltyLaws
-pub mod Examples
+mod PenaltyCases
+mod Examples

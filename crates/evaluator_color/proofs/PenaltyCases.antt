@@ -1,4 +1,4 @@
--- The ratio penalty by what its three tests found. Assumes nothing.
+-- The ratio penalty by what its three tests found.
 use mathlib.Core.Path.{_≡_, sym, ap, _∙_}
 use mathlib.Core.Bool.{Bool, cond}
 use Prim.Native.Nat.{ℕ}

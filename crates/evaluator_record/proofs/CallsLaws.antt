@@ -1,4 +1,4 @@
--- The outcomes of record, case by case, over plain lists: a refusal leaves all as lent, and an accepted call has room in both slices and finite deltas. Assumes nothing.
+-- The outcomes of record, case by case, over plain lists: a refusal leaves all as lent, and an accepted call has room in both slices and finite deltas.
 use mathlib.Core.Path.{_≡_, refl, sym, ap, _∙_}
 use mathlib.Core.Bool.{Bool, true, false, cond}
 use mathlib.Core.List.{List}

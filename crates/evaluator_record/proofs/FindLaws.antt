@@ -1,5 +1,5 @@
 -- All of a group, over the promises of the passes that find it: the intervals are made from the first objects that lie in region 1 and cover the front of the float slice;
--- then both slices are cleared, and what is past the regions is as it was. Assumes nothing.
+-- then both slices are cleared, and what is past the regions is as it was.
 use mathlib.Core.Path.{_≡_, sym, ap, _∙_, subst}
 use mathlib.Core.List.{List, [], _∷_}
 use Prim.Native.Nat.{ℕ, _+_, _-_, _*_, _≤_, _<_}

@@ -1,4 +1,4 @@
--- The notes and rhythm groups of a chart are no more than its objects, and its groups no more than its notes. Assumes nothing.
+-- The notes and rhythm groups of a chart are no more than its objects, and its groups no more than its notes.
 use mathlib.Core.Path.{_≡_, sym, _∙_}
 use mathlib.Core.List.{List}
 use Prim.Native.Nat.{ℕ, _≤_}

@@ -1,5 +1,6 @@
--- Laws that belong to no one function.
-pub mod GroupLaws
-pub mod LocateLaws
-pub mod FindLaws
-pub mod CallsLaws
+-- The laws of this crate. Those that are public are for the crates above, or are results of their own; the others serve the proofs of this crate alone.
+pub mod BoundLaws
+mod GroupLaws
+mod LocateLaws
+mod FindLaws
+mod CallsLaws

@@ -1,5 +1,5 @@
 -- A group's notes, over the promises of the passes that locate them: the notes' deltas lie in front of the one work slice, their objects in front of the other and
--- the groups' first objects behind them, so what is read at the group's ends is what the definition has there. Assumes nothing.
+-- the groups' first objects behind them, so what is read at the group's ends is what the definition has there.
 use mathlib.Core.Path.{_≡_, sym, ap, _∙_, subst}
 use mathlib.Core.List.{List, [], _++_}
 use Prim.Native.Nat.{ℕ, suc, _+_, _-_, _*_, _≤_, _<_}

@@ -1,4 +1,4 @@
--- Document 01's starred example of the walk, at the threshold 0.1: own intervals, the newest first, and the bits of what the walk over 3 gives. Assumes nothing.
+-- Document 01's starred example of the walk, at the threshold 0.1: own intervals, the newest first, and the bits of what the walk over 3 gives.
 use mathlib.Core.Path.{_≡_, refl}
 use mathlib.Core.Bool.{false}
 use mathlib.Core.List.{List, [], _∷_, map}

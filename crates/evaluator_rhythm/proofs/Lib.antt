@@ -1,5 +1,5 @@
--- Pairs and walks by what is found, the bound of the penalty for the crates above, and worked examples.
-pub mod PairLaws
-pub mod WalkLaws
+-- The laws of this crate. Those that are public are for the crates above, or are results of their own; the others serve the proofs of this crate alone.
 pub mod PenaltyLaws
-pub mod Examples
+mod PairLaws
+mod WalkLaws
+mod Examples

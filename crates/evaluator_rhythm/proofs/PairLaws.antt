@@ -1,4 +1,4 @@
--- Some pair of three, and of four, by the tests in the code's order: the newest with each older one, then what is left. Assumes nothing.
+-- Some pair of three, and of four, by the tests in the code's order: the newest with each older one, then what is left.
 use mathlib.Core.Path.{_≡_, refl, sym, ap, _∙_}
 use mathlib.Core.Bool.{Bool, true, false, _||_}
 use mathlib.Core.List.{[], _∷_}

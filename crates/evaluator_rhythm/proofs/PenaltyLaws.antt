@@ -1,4 +1,4 @@
--- Size of the penalty for the crates above: with a duration up to 2 ^ 25 in size and a window from 1.0 to 1000.0 it is finite, so no NaN. Each formula is bounded by what its parts are. Assumes nothing.
+-- Size of the penalty for the crates above: with a duration up to 2 ^ 25 in size and a window from 1.0 to 1000.0 it is finite, so no NaN. Each formula is bounded by what its parts are.
 use mathlib.Core.Bool.{true, false, not, cond}
 use mathlib.Core.List.{List}
 use Prim.Native.Nat.{ℕ, _+_, _*_, _^_}

@@ -1,4 +1,4 @@
--- The walk over k own intervals, by what it meets: one that is absent, or k that exist. Assumes nothing.
+-- The walk over k own intervals, by what it meets: one that is absent, or k that exist.
 use mathlib.Core.Path.{_≡_, refl, sym, ap, _∙_}
 use mathlib.Core.Bool.{Bool, cond}
 use mathlib.Core.List.{List, [], _∷_}

@@ -1,10 +1,11 @@
+-- The laws of this crate. Those that are public are for the crates above, or are results of their own; the others serve the proofs of this crate alone.
 pub mod RefusalLaws
-pub mod AllLaws
 pub mod AcceptedLaws
 pub mod RoomLaws
 pub mod ObjectLaws
 pub mod NoteLaws
-pub mod Examples
 pub mod SeenLaws
 pub mod RangeLaws
 pub mod CutLaws
+mod AllLaws
+mod Examples

@@ -1,5 +1,5 @@
 -- Demand 2: "a repetition interval is the smallest k from 1 to 15 whose k-th group before matches, and 17 exactly when none does". The search gives one of two
--- things, by induction on the tries that are left: the first match, with none nearer, or `none`, with no match in reach. Assumes nothing.
+-- things, by induction on the tries that are left: the first match, with none nearer, or `none`, with no match in reach.
 use mathlib.Core.Path.{_≡_, refl, sym, subst, _∙_}
 use mathlib.Core.Logic.{_⊎_, inl, inr, _↔_}
 use mathlib.Core.Bool.{Bool, true, false, cond, true≢false}

@@ -1,4 +1,4 @@
--- The outcome of encode, case by case, over plain lists: a refusal leaves all as lent, and an accepted chart has room in every slice. Assumes nothing.
+-- The outcome of encode, case by case, over plain lists: a refusal leaves all as lent, and an accepted chart has room in every slice.
 use mathlib.Core.Path.{_≡_, sym, ap, _∙_}
 use mathlib.Core.Bool.{Bool}
 use mathlib.Core.List.{List}

@@ -1,4 +1,4 @@
--- From the encoder's tables to the six answers: the tables have room for every number that is looked up, and what is looked up is the definition's list. Assumes nothing.
+-- From the encoder's tables to the six answers: the tables have room for every number that is looked up, and what is looked up is the definition's list.
 use mathlib.Core.Path.{_≡_, sym, ap, _∙_, subst}
 use mathlib.Core.List.{List}
 use Prim.Native.Nat.{ℕ, _*_, _≤_, _<_}

@@ -1,4 +1,4 @@
--- Looking numbers up in the encoder's tables: every number is below its table's size, and what is looked up is `gathered`. Assumes nothing.
+-- Looking numbers up in the encoder's tables: every number is below its table's size, and what is looked up is `gathered`.
 use mathlib.Core.Path.{_≡_, sym, ap, _∙_, subst}
 use mathlib.Core.List.{List}
 use Prim.Native.Nat.{ℕ, _+_, _-_, _≤_, _<_}

@@ -1,8 +1,8 @@
+-- The laws of this crate. Those that are public are for the crates above, or are results of their own; the others serve the proofs of this crate alone.
 pub mod OverLaws
 pub mod FillLaws
 pub mod ScanLaws
 pub mod MarksLaws
-pub mod PassLaws
 pub mod PartedLaws
 pub mod PieceLaws
 pub mod WalkLaws
@@ -11,3 +11,4 @@ pub mod TableLaws
 pub mod CutLaws
 pub mod NumberLaws
 pub mod SplitLaws
+mod PassLaws

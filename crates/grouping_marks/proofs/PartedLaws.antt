@@ -1,8 +1,8 @@
--- The items of each group: how many groups there are, the first group and the rest, and items that a function changes. Each is proved of the groups behind an open one.
+-- The items of each group: how many groups there are, the first group and the rest, and what holds of all items. Each is proved of the groups behind an open one.
 use mathlib.Core.Path.{_≡_, refl, sym, ap, _∙_}
 use mathlib.Core.Bool.{Bool, true, false, cond}
-use mathlib.Core.List.{List, [], _∷_, _++_, map, append-nil, map-append}
-use Prim.Native.Nat.{ℕ, zero, suc, _+_, _≤_}
+use mathlib.Core.List.{List, [], _∷_, _++_, append-nil}
+use Prim.Native.Nat.{ℕ, zero, suc, _+_, _≤_, _<_}
 use native.Mathlib.Nat.{le-refl, le-of-suc-le-suc, not-suc-le-zero}
 use native.Mathlib.Omega.{arith}
 use lib.Dec.{eqb}
@@ -73,25 +73,69 @@ count-first m k marks o =
     let others : length (parted marks (drop k rest)) ≡ groupCount marks = ap (λ (l : List ℕ). length (parted marks l)) d ∙ length-parted marks marks (le-refl _) in
     omega arith
 
--- ---- items that a function changes
+-- ---- what holds of all items
 
-after-map : {A B : Type 0} (f : A → B) (group : List A) (marks : List ℕ) (xs : List A)
-    → partedAfter (map f group) marks (map f xs) ≡ map (map f) (partedAfter group marks xs)
+data Every {A : Type 0} (P : A → Type 0) : List A → Type 0 where
+  none : Every P []
+  more : {x : A} {xs : List A} → P x → Every P xs → Every P (x ∷ xs)
+
+module _ {A : Type 0} {P : A → Type 0} where
+  every-of : (xs : List A) (d : A) → ((i : ℕ) → i < length xs → P (getD xs i d)) → Every P xs
+  every-of [] d h = none
+  every-of (x ∷ xs) d h = more (h 0 (omega arith)) (every-of xs d (λ i l. h (suc i) (omega arith)))
+
+  every-at : {xs : List A} → Every P xs → (d : A) (i : ℕ) → i < length xs → P (getD xs i d)
+  every-at none d i h = absurd (not-suc-le-zero h)
+  every-at (more p e) d zero h = p
+  every-at (more p e) d (suc i) h = every-at e d i (le-of-suc-le-suc h)
+
+  every-snoc : {xs : List A} {x : A} → Every P xs → P x → Every P (xs ++ (x ∷ []))
+  every-snoc none p = more p none
+  every-snoc (more q e) p = more q (every-snoc e p)
+
+  after-every : (group : List A) (marks : List ℕ) (xs : List A) → Every P group → Every P xs → Every (Every P) (partedAfter group marks xs)
+  unfolding partedAfter
+  after-every group [] xs g e = more g none
+  after-every group (m ∷ ms) [] g e = more g none
+  after-every group (m ∷ ms) (x ∷ xs) g (more p e) = go (eqb m 0) (after-every (group ++ (x ∷ [])) ms xs (every-snoc g p) e) (after-every (x ∷ []) ms xs (more p none) e)
+    where
+      go : (b : Bool) → Every (Every P) (partedAfter (group ++ (x ∷ [])) ms xs) → Every (Every P) (partedAfter (x ∷ []) ms xs)
+          → Every (Every P) (cond b (partedAfter (group ++ (x ∷ [])) ms xs) (group ∷ partedAfter (x ∷ []) ms xs))
+      go true u v = u
+      go false u v = more g v
+
+  parted-every : (marks : List ℕ) (xs : List A) → Every P xs → Every (Every P) (parted marks xs)
+  unfolding parted
+  parted-every [] xs e = none
+  parted-every (m ∷ ms) [] e = none
+  parted-every (m ∷ ms) (x ∷ xs) (more p e) = after-every (x ∷ []) ms xs (more p none) e
+
+-- what holds of every item holds of every item of every group
+pub parted-all : {A : Type 0} (P : A → Type 0) (marks : List ℕ) (xs : List A) (d : A) → ((i : ℕ) → i < length xs → P (getD xs i d))
+    → (g i : ℕ) → g < length (parted marks xs) → i < length (getD (parted marks xs) g []) → P (getD (getD (parted marks xs) g []) i d)
+parted-all P marks xs d h g i k l = every-at {P = P} (every-at (parted-every marks xs (every-of xs d h)) [] g k) d i l
+
+-- every group has an item
+HasItem : {A : Type 0} → List A → Type 0
+HasItem xs = 0 < length xs
+
+has-item : {A : Type 0} (x : A) (xs : List A) → HasItem (x ∷ xs)
+unfolding HasItem
+has-item x xs = omega arith
+
+after-some : {A : Type 0} (x : A) (group : List A) (marks : List ℕ) (xs : List A) → Every HasItem (partedAfter (x ∷ group) marks xs)
 unfolding partedAfter
-after-map f group [] xs = refl
-after-map f group (m ∷ ms) [] = refl
-after-map f group (m ∷ ms) (x ∷ xs) = go (eqb m 0) (after-map f (group ++ (x ∷ [])) ms xs) (after-map f (x ∷ []) ms xs)
+after-some x group [] xs = more (has-item x group) none
+after-some x group (m ∷ ms) [] = more (has-item x group) none
+after-some x group (m ∷ ms) (y ∷ ys) = go (eqb m 0) (after-some x (group ++ (y ∷ [])) ms ys) (after-some y [] ms ys)
   where
-    go : (b : Bool) → partedAfter (map f (group ++ (x ∷ []))) ms (map f xs) ≡ map (map f) (partedAfter (group ++ (x ∷ [])) ms xs)
-        → partedAfter (f x ∷ []) ms (map f xs) ≡ map (map f) (partedAfter (x ∷ []) ms xs)
-        → cond b (partedAfter (map f group ++ (f x ∷ [])) ms (map f xs)) (map f group ∷ partedAfter (f x ∷ []) ms (map f xs))
-        ≡ map (map f) (cond b (partedAfter (group ++ (x ∷ [])) ms xs) (group ∷ partedAfter (x ∷ []) ms xs))
-    go true u v = ap (λ (g : List _). partedAfter g ms (map f xs)) (sym (map-append f group (x ∷ []))) ∙ u
-    go false u v = ap (λ (r : List (List _)). map f group ∷ r) v
+    go : (b : Bool) → Every HasItem (partedAfter (x ∷ (group ++ (y ∷ []))) ms ys) → Every HasItem (partedAfter (y ∷ []) ms ys)
+        → Every HasItem (cond b (partedAfter (x ∷ (group ++ (y ∷ []))) ms ys) ((x ∷ group) ∷ partedAfter (y ∷ []) ms ys))
+    go true u v = u
+    go false u v = more (has-item x group) v
 
--- the groups of the changed items are the groups' items changed
-pub parted-map : {A B : Type 0} (f : A → B) (marks : List ℕ) (xs : List A) → parted marks (map f xs) ≡ map (map f) (parted marks xs)
-unfolding parted
-parted-map f [] xs = refl
-parted-map f (m ∷ ms) [] = refl
-parted-map f (m ∷ ms) (x ∷ xs) = after-map f (x ∷ []) ms xs
+pub parted-some : {A : Type 0} (marks : List ℕ) (xs : List A) (g : ℕ) → g < length (parted marks xs) → 0 < length (getD (parted marks xs) g [])
+unfolding parted HasItem
+parted-some [] xs g h = absurd (not-suc-le-zero h)
+parted-some (m ∷ ms) [] g h = absurd (not-suc-le-zero h)
+parted-some (m ∷ ms) (x ∷ xs) g h = every-at (after-some x [] ms xs) [] g h

@@ -6,7 +6,7 @@ use native.Mathlib.Numerals.{add-one}
 use native.Mathlib.Omega.{arith}
 use lib.ListN.{length, drop, getD, set}
 use lib.Seq.{drop-cons}
-use Rattle.grouping_marks.specs.Over.{over, put, part}
+use Rattle.grouping_marks.specs.Over.{put, part}
 use Rattle.grouping_marks.specs.Scan.{scan, after}
 use Rattle.grouping_marks.specs.Passes.{Room}
 use Rattle.grouping_marks.proofs.OverLaws.{length-part}

@@ -1,3 +1,4 @@
+-- The definitions that this crate's promises and laws cite.
 pub mod Over
 pub mod Scan
 pub mod Marks

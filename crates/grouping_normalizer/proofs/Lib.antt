@@ -1,10 +1,10 @@
--- The laws of sorting and of the normaliser. Upper crates cite the lengths, in OrderedLaws and DistinctLaws.
-pub mod InsertLaws
-pub mod OrderedLaws
-pub mod ShuffleLaws
-pub mod HeapLaws
-pub mod SortLaws
-pub mod RunLaws
-pub mod SetLaws
+-- The laws of this crate. Those that are public are for the crates above, or are results of their own; the others serve the proofs of this crate alone.
 pub mod DistinctLaws
-pub mod Examples
+mod InsertLaws
+mod OrderedLaws
+mod ShuffleLaws
+mod HeapLaws
+mod SortLaws
+mod RunLaws
+mod SetLaws
+mod Examples

@@ -53,7 +53,7 @@ module _ (margin : Float) (kinds : List ℕ) (deltas : List Float) (e : length d
   pub first-object-below : (k : ℕ) → k < length (firstsOf (groupObjects margin kinds deltas)) → getD (firstsOf (groupObjects margin kinds deltas)) k 0 < length kinds
   first-object-below =
       rw (groupObjects-made margin kinds deltas)
-      (firsts-inside (length kinds) (rhythmMarks margin kinds deltas) (noteObjects kinds) (object-below kinds) (omega (arith, length-rhythm-marks, length-note-objects kinds)))
+      (firsts-inside (length kinds) (rhythmMarks margin kinds deltas) (noteObjects kinds) (object-below kinds))
 
   pub length-group-intervals : (starts : List Float) → length (groupIntervals margin kinds starts deltas) ≡ groupsIn margin kinds deltas
   length-group-intervals starts =

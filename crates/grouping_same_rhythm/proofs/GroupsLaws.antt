@@ -2,21 +2,20 @@
 -- Its invariant: the first objects of the groups before `at` are stored, and what is left of them is what the marks from `at` on give.
 use mathlib.Core.Path.{_≡_, refl, sym, ap, _∙_}
 use mathlib.Core.Logic.{inl}
-use mathlib.Core.Bool.{Bool, true, false, cond}
-use mathlib.Core.List.{List, [], _∷_, map}
+use mathlib.Core.Bool.{false}
+use mathlib.Core.List.{List, [], _∷_}
 use Prim.Native.Nat.{ℕ, zero, suc, _+_, _-_, _≤_, _<_}
 use native.Mathlib.Nat.{le-of-suc-le-suc, not-suc-le-zero}
 use native.Mathlib.Omega.{arith}
 use lib.Dec.{ltb}
 use lib.ListN.{length, take, drop, getD, set, length-map, length-drop, drop-of-length-le}
-use lib.Seq.{length-take-le, getD-take, getD-drop, ext-getD}
+use lib.Seq.{length-take-le, getD-take, getD-drop}
 use lib.Ieee.{Float, nan, inf}
-use borrow.Author.Tests.{lt-ltb, ltb-true}
 use Rattle.grouping_marks.specs.Marks.{groupCount}
 use Rattle.grouping_marks.specs.Parted.{parted}
 use Rattle.grouping_marks.proofs.FillLaws.{Fill, Onward, fill-start, fill-next, fill-end, fill-unread, getD-map}
 use Rattle.grouping_marks.proofs.MarksLaws.{count-le}
-use Rattle.grouping_marks.proofs.PartedLaws.{length-parted, parted-map, parted-none}
+use Rattle.grouping_marks.proofs.PartedLaws.{length-parted, parted-all, parted-some}
 use Rattle.grouping_interval.specs.IntervalGrouping.{intervalMarks}
 use Rattle.grouping_interval.specs.GroupEnd.{groupEnd, marksFrom}
 use Rattle.grouping_interval.proofs.IntervalLaws.{length-marks}
@@ -84,39 +83,14 @@ pub length-firsts : (groups : List (List ℕ)) → length (firstsOf groups) ≡ 
 unfolding firstsOf
 length-firsts groups = length-map groups (λ (group : List ℕ). getD group 0 0)
 
--- x where it is below b, else 0: items below b stay as they are, and all others become so
-clip : ℕ → ℕ → ℕ
-clip b x = cond (ltb x b) x 0
-
-clip-same : (b x : ℕ) → x < b → clip b x ≡ x
-unfolding clip
-clip-same b x h = rw (lt-ltb x b h)
-
-clip-below : (b x : ℕ) → 0 < b → clip b x < b
-unfolding clip
-clip-below b x h = by (ltb x b) refl
-  where
-    by : (t : Bool) → ltb x b ≡ t → cond t x 0 < b
-    by true e = ltb-true x b e
-    by false e = h
-
-clip-firsts : (b : ℕ) → 0 < b → (groups : List (List ℕ)) (k : ℕ) → getD (firstsOf (map (map (clip b)) groups)) k 0 < b
-unfolding firstsOf
-clip-firsts b h [] k = h
-clip-firsts b h ([] ∷ groups) zero = h
-clip-firsts b h ((x ∷ group) ∷ groups) zero = clip-below b x h
-clip-firsts b h (group ∷ groups) (suc k) = clip-firsts b h groups k
-
 -- where all items are below b, so are the groups' first ones
-pub firsts-inside : (b : ℕ) (marks xs : List ℕ) → ((i : ℕ) → i < length xs → getD xs i 0 < b) → length marks ≤ length xs
+pub firsts-inside : (b : ℕ) (marks xs : List ℕ) → ((i : ℕ) → i < length xs → getD xs i 0 < b)
     → (k : ℕ) → k < length (firstsOf (parted marks xs)) → getD (firstsOf (parted marks xs)) k 0 < b
-firsts-inside b [] xs h l k i = absurd (omega (arith, length-firsts (parted [] xs), ap length (parted-none xs)))
-firsts-inside b (m ∷ marks) xs h l k i =
-    let same : map (clip b) xs ≡ xs =
-    ext-getD 0 (map (clip b) xs) xs (length-map xs (clip b))
-    (λ j p. let q : j < length xs = omega (arith, length-map xs (clip b)) in getD-map (clip b) xs j 0 0 q ∙ clip-same b (getD xs j 0) (h j q)) in
-    let e : map (map (clip b)) (parted (m ∷ marks) xs) ≡ parted (m ∷ marks) xs = sym (parted-map (clip b) (m ∷ marks) xs) ∙ ap (parted (m ∷ marks)) same in
-    rw e at (clip-firsts b (omega (arith, h 0 (omega arith))) (parted (m ∷ marks) xs) k)
+unfolding firstsOf
+firsts-inside b marks xs h k i =
+    let l : k < length (parted marks xs) = omega (arith, length-firsts (parted marks xs)) in
+    rw (getD-map (λ (group : List ℕ). getD group 0 0) (parted marks xs) k [] 0 l)
+    (parted-all (λ (x : ℕ). x < b) marks xs 0 h k 0 l (parted-some marks xs k l))
 
 -- ---- the walk over the groups
 

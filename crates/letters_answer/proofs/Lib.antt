@@ -1,4 +1,4 @@
--- Laws of the letters program's answer, and examples.
-pub mod IntervalLaws
+-- The laws of this crate. Those that are public are for the crates above, or are results of their own; the others serve the proofs of this crate alone.
 pub mod AnswerLaws
-pub mod Examples
+mod IntervalLaws
+mod Examples

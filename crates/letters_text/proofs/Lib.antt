@@ -1,7 +1,7 @@
--- Laws of the letters program's text, and examples.
+-- The laws of this crate. Those that are public are for the crates above, or are results of their own; the others serve the proofs of this crate alone.
 pub mod LetterLaws
 pub mod PrintedLaws
 pub mod WroteLaws
-pub mod DecimalLaws
-pub mod LinesLaws
-pub mod Examples
+mod DecimalLaws
+mod LinesLaws
+mod Examples

@@ -1,14 +1,14 @@
 -- Sizes: `Bounded x B` says that x is finite and at most the whole number B in size. Each operation's result is bounded by what its exact result is bounded by, as long as that is a whole number up to 2 ^ 53:
--- such a number is a value of the format, and rounding keeps the order. Assumes nothing.
-use mathlib.Core.Path.{_≡_, sym, ap, _∙_, subst}
+-- such a number is a value of the format, and rounding keeps the order.
+use mathlib.Core.Path.{_≡_, refl, sym, ap, _∙_, subst}
 use mathlib.Core.Logic.{inl, inr}
 use mathlib.Core.Bool.{Bool, true, false, _&&_, _||_, Bool·beq, cond, true≢false}
 use Prim.Native.Nat.{ℕ, zero, suc, _+_, _-_, _*_, _^_, _≤_, _<_}
-use native.Mathlib.Nat.{le-trans, le-of-eq, lt-of-le-of-lt, zero-lt-suc, mul-one, one-mul, zero-mul, mul-comm, mul-assoc, mul-right-comm, mul-mul-mul-comm, mul-le-mul, mul-le-mul-right, le-of-mul-le-mul-right, mul-pos, mul-lt-mul-of-pos-right, add-mul}
+use native.Mathlib.Nat.{le-trans, le-of-eq, lt-of-le-of-lt, zero-lt-suc, mul-one, one-mul, zero-mul, mul-comm, mul-assoc, mul-right-comm, mul-mul-mul-comm, mul-le-mul, mul-le-mul-right, le-of-mul-le-mul-right, mul-pos, mul-lt-mul-of-pos-right, add-mul, not-suc-le-zero}
 use native.Mathlib.Omega.{arith}
 use lib.IntN.{ℤ, pos}
 use lib.Dec.{T, ltb, eqb, ltb→lt, lt→ltb, eqb→eq, eqb·suc-zero}
-use lib.Ieee.{Float, nan, inf, fin, binary64, fits, unlike, up, down, lt, le, below, round, neg, sum, add, sub, mul, div}
+use lib.Ieee.{Float, nan, inf, fin, binary64, fits, unlike, up, down, lt, le, below, round, neg, sum, add, sub, mul, div, ofInt}
 use lib.Ieee.Fits.{and-l, up-pos, down-pos}
 use lib.Ieee.Exact.{HasValue}
 use lib.Ieee.Order.{round-mono}
@@ -118,33 +118,69 @@ mul-bounded (fin s m e) (inf t) B C k h g = absurd g
 mul-bounded (fin s m e) (fin t n d) B C k h g =
     round-bounded (unlike s t) (m * up e * (n * up d)) (down e * down d) (B * C) (mul-pos (down-pos e) (down-pos d)) k (le-trans (mul-le-mul h g) (le-of-eq (mul-mul-mul-comm B (down e) C (down d))))
 
--- ---- the quotient by a y that is 1 / K at least in size
-abbrev pub AtLeast : Float → ℕ → Type 0
-AtLeast nan K = ⊥
-AtLeast (inf s) K = ⊥
-AtLeast (fin t n d) K = down d ≤ K * (n * up d)
-
-no-zero : (d k : ℕ) → 0 < d → d ≤ k * 0 → ⊥
-no-zero d k h g = clash d (k * 0) h g (mul-comm k 0 ∙ zero-mul k)
-  where
-    clash : (a b : ℕ) → 0 < a → a ≤ b → b ≡ 0 → ⊥
-    clash a b p q r = omega arith
+-- ---- the quotient
 
 div-opened : (s : Bool) (m : ℕ) (e : ℤ) (t : Bool) (n : ℕ) (d : ℤ) → div binary64 (fin s m e) (fin t (suc n) d) ≡ round binary64 (unlike s t) (m * up e * down d) (suc n * up d * down e)
 unfolding div
 div-opened s m e t n d = ap (λ (b : Bool). cond b (cond (eqb m 0) nan (inf (unlike s t))) (round binary64 (unlike s t) (m * up e * down d) (suc n * up d * down e))) (eqb·suc-zero n)
 
-pub div-bounded : (x y : Float) (B K : ℕ) → B * K ≤ 2 ^ 53 → Bounded x B → AtLeast y K → Bounded (div binary64 x y) (B * K)
-div-bounded nan y B K k h g = absurd h
-div-bounded (inf s) y B K k h g = absurd h
-div-bounded (fin s m e) nan B K k h g = absurd g
-div-bounded (fin s m e) (inf t) B K k h g = absurd g
-div-bounded (fin s m e) (fin t zero d) B K k h g = absurd (no-zero (down d) K (down-pos d) (le-trans g (le-of-eq (ap (λ (z : ℕ). K * z) (zero-mul (up d))))))
-div-bounded (fin s m e) (fin t (suc n) d) B K k h g =
+-- y is no zero, and at least B / C in size
+abbrev Reaches : Float → ℕ → ℕ → Type 0
+Reaches nan B C = ⊥
+Reaches (inf s) B C = ⊥
+Reaches (fin t n d) B C = (0 < n) × (B * down d ≤ C * (n * up d))
+
+quotient : (x y : Float) (B C : ℕ) → C ≤ 2 ^ 53 → Bounded x B → Reaches y B C → Bounded (div binary64 x y) C
+quotient nan y B C k h g = absurd h
+quotient (inf s) y B C k h g = absurd h
+quotient (fin s m e) nan B C k h g = absurd g
+quotient (fin s m e) (inf t) B C k h g = absurd g
+quotient (fin s m e) (fin t zero d) B C k h g = absurd (not-suc-le-zero (g .0))
+quotient (fin s m e) (fin t (suc n) d) B C k h g =
     let N = suc n * up d in
-    subst (λ (z : Float). Bounded z (B * K)) (sym (div-opened s m e t n d))
-    (round-bounded (unlike s t) (m * up e * down d) (N * down e) (B * K) (mul-pos (mul-pos (zero-lt-suc n) (up-pos d)) (down-pos e)) k
-    (le-trans (mul-le-mul h g) (le-of-eq (mul-mul-mul-comm B (down e) K N ∙ ap (λ (z : ℕ). B * K * z) (mul-comm (down e) N)))))
+    subst (λ (z : Float). Bounded z C) (sym (div-opened s m e t n d))
+    (round-bounded (unlike s t) (m * up e * down d) (N * down e) C (mul-pos (mul-pos (zero-lt-suc n) (up-pos d)) (down-pos e)) k
+    (le-trans (mul-le-mul-right (down d) h)
+    (le-trans (le-of-eq (mul-right-comm B (down e) (down d))) (le-trans (mul-le-mul-right (down e) (g .1)) (le-of-eq (mul-assoc C N (down e)))))))
+
+-- by a y that is 1 / K at least in size
+abbrev pub AtLeast : Float → ℕ → Type 0
+AtLeast nan K = ⊥
+AtLeast (inf s) K = ⊥
+AtLeast (fin t n d) K = down d ≤ K * (n * up d)
+
+no-zero : (u d k : ℕ) → 0 < d → d ≤ k * (0 * u) → ⊥
+no-zero u d k h g = clash d (k * (0 * u)) h g (ap (λ (z : ℕ). k * z) (zero-mul u) ∙ mul-comm k 0 ∙ zero-mul k)
+  where
+    clash : (a b : ℕ) → 0 < a → a ≤ b → b ≡ 0 → ⊥
+    clash a b p q r = omega arith
+
+reaches : (y : Float) (B K : ℕ) → AtLeast y K → Reaches y B (B * K)
+reaches nan B K g = g
+reaches (inf s) B K g = g
+reaches (fin t zero d) B K g = absurd (no-zero (up d) (down d) K (down-pos d) g)
+reaches (fin t (suc n) d) B K g = (zero-lt-suc n, le-trans (mul-le-mul (le-of-eq refl) g) (le-of-eq (sym (mul-assoc B K (suc n * up d)))))
+
+pub div-bounded : (x y : Float) (B K : ℕ) → B * K ≤ 2 ^ 53 → Bounded x B → AtLeast y K → Bounded (div binary64 x y) (B * K)
+div-bounded x y B K k h g = quotient x y B (B * K) k h (reaches y B K g)
+
+-- by a whole number m: the mean of m values of which each is at most B in size
+whole-no-zero : (u m D : ℕ) → 0 < m * D → 0 * u * 1 ≡ m * D → ⊥
+whole-no-zero u m D h v = clash (0 * u * 1) (m * D) h v (mul-one (0 * u) ∙ zero-mul u)
+  where
+    clash : (a b : ℕ) → 0 < b → a ≡ b → a ≡ 0 → ⊥
+    clash a b p q r = omega arith
+
+whole-reaches : (y : Float) (m B : ℕ) → 0 < m → HasValue y false m 1 → Reaches y (m * B) B
+whole-reaches nan m B l v = absurd v
+whole-reaches (inf t) m B l v = absurd v
+whole-reaches (fin t zero d) m B l v = absurd (whole-no-zero (up d) m (down d) (mul-pos l (down-pos d)) (v .1))
+whole-reaches (fin t (suc n) d) m B l v =
+    (zero-lt-suc n, le-of-eq (ap (λ (z : ℕ). z * down d) (mul-comm m B) ∙ mul-assoc B m (down d) ∙ ap (λ (z : ℕ). B * z) (sym (v .1) ∙ mul-one (suc n * up d))))
+
+pub mean-bounded : (x : Float) (m B : ℕ) → 0 < m → m ≤ 2 ^ 53 → B ≤ 2 ^ 53 → Bounded x (m * B) → Bounded (div binary64 x (ofInt binary64 (pos m))) B
+unfolding ofInt
+mean-bounded x m B l f k h = quotient x (ofInt binary64 (pos m)) (m * B) B k h (whole-reaches (ofInt binary64 (pos m)) m B l (round-whole binary64 false m f))
 
 -- ---- what follows of a bounded value: its tenths can be asked, and it is a number
 pos-sums : (a b : ℕ) → a < b → (0 < b + a) × (0 < a + b)

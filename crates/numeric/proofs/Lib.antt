@@ -1,7 +1,7 @@
--- Laws that belong to no one function. Upper crates cite Range, Bounded, Monotone and each module's Laws.
-pub mod Tests
+-- The laws of this crate. Those that are public are for the crates above, or are results of their own; the others serve the proofs of this crate alone.
 pub mod Values
-pub mod Sign
-pub mod Units
 pub mod Monotone
 pub mod Bounded
+mod Tests
+mod Sign
+mod Units

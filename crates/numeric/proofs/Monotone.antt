@@ -1,5 +1,5 @@
 -- Rounded addition and subtraction keep the order. `Rounded x p q` says that x is p - q units of the smallest value, rounded to the format: a larger number of units rounds to a value that is no smaller.
--- Assumes nothing.
+--
 use mathlib.Core.Path.{_≡_, refl, sym, ap, _∙_, subst}
 use mathlib.Core.Logic.{_⊎_, inl, inr}
 use mathlib.Core.Bool.{Bool, true, false, not, _&&_, cond}

@@ -1,4 +1,4 @@
--- Signs: a rounded number has the sign that it was given, negation turns the order round, and a negative value is at most one that is not. Assumes nothing.
+-- Signs: a rounded number has the sign that it was given, negation turns the order round, and a negative value is at most one that is not.
 use mathlib.Core.Path.{_≡_, refl, sym, ap, _∙_, subst}
 use mathlib.Core.Logic.{inl, inr}
 use mathlib.Core.Bool.{Bool, true, false, not, _&&_, _||_, Bool·beq, cond, true≢false, false≢true}

@@ -1,4 +1,4 @@
--- Small laws of tests, that is of Bools. Assumes nothing.
+-- Small laws of tests, that is of Bools.
 use mathlib.Core.Path.{_≡_, refl}
 use mathlib.Core.Logic.{_⊎_, inl, inr}
 use mathlib.Core.Bool.{Bool, true, false, _||_}

@@ -1,6 +1,6 @@
 -- Two finite values that fit, each as a sign and a whole number of units of the smallest value: the order, and the sum.
 -- A signed number is a pair of naturals, what is above zero and what is below: `plus s u` and `minus s u`, one of which is 0. So that x ≤ y is plus x + minus y ≤ plus y + minus x, which `omega` reads.
--- Assumes nothing.
+--
 use mathlib.Core.Path.{_≡_, refl, sym, ap, _∙_}
 use mathlib.Core.Logic.{_⊎_, inl, inr}
 use mathlib.Core.Bool.{Bool, true, false, _&&_, _||_, Bool·beq, cond}

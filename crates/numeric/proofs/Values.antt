@@ -1,4 +1,4 @@
--- What fitting the format says of a value's digits and exponent, and when a value is zero. Assumes nothing.
+-- What fitting the format says of a value's digits and exponent, and when a value is zero.
 use mathlib.Core.Path.{_≡_, refl, sym, ap, _∙_}
 use mathlib.Core.Logic.{inl, inr}
 use mathlib.Core.Bool.{true, false, not, _&&_, _||_}

@@ -1,4 +1,4 @@
 -- The module `logistic`: a test over neighbours of a list, the table's rule, and its sizes.
-pub mod Pairs
 pub mod Rule
 pub mod Bounds
+mod Pairs

@@ -1,3 +1,3 @@
 -- The module `near`: the arms of `abs`, and the laws of near.
-pub mod Arms
 pub mod Laws
+mod Arms

@@ -1,4 +1,4 @@
--- `coloured_of` meets its contract, answer by answer. Assumes nothing.
+-- `coloured_of` meets its contract, answer by answer.
 use mathlib.Core.Path.{sym, ap}
 use Rattle.dresserduck.specs.Host.{colouredOf}
 use borrow.Author.Needs.{needs}

@@ -1,4 +1,4 @@
--- `dresserduck_stretch` meets its contract: the call's own outcome, its answer turned into a record. Assumes nothing.
+-- `dresserduck_stretch` meets its contract: the call's own outcome, its answer turned into a record.
 use Rattle.dresserduck.proofs.HostLaws.{stretch-for-host}
 use borrow.Author.Needs.{needs}
 use Rattle.dresserduck.proofs.dresserduck_stretch.Statement.{statement}

@@ -1,4 +1,4 @@
--- `encoded_of` meets its contract, answer by answer. Assumes nothing.
+-- `encoded_of` meets its contract, answer by answer.
 use mathlib.Core.Path.{sym, ap}
 use Rattle.dresserduck.specs.Host.{encodedOf}
 use borrow.Author.Needs.{needs}

@@ -1,4 +1,4 @@
--- `grouped_of` meets its contract, answer by answer. Assumes nothing.
+-- `grouped_of` meets its contract, answer by answer.
 use mathlib.Core.Path.{sym, ap}
 use Rattle.dresserduck.specs.Host.{groupedOf}
 use borrow.Author.Needs.{needs}

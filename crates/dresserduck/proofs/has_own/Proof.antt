@@ -1,4 +1,4 @@
--- `has_own` meets its contract, case by case. Assumes nothing.
+-- `has_own` meets its contract, case by case.
 use mathlib.Core.Path.{sym, ap}
 use Rattle.dresserduck.specs.Host.{hasOwn}
 use borrow.Author.Needs.{needs}

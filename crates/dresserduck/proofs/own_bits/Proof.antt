@@ -1,4 +1,4 @@
--- `own_bits` meets its contract, case by case. Assumes nothing.
+-- `own_bits` meets its contract, case by case.
 use mathlib.Core.Path.{sym, ap, _∙_}
 use Rattle.dresserduck.specs.Host.{ownBits}
 use borrow.Author.Needs.{needs}

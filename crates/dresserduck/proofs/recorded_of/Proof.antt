@@ -1,4 +1,4 @@
--- `recorded_of` meets its contract, answer by answer. Assumes nothing.
+-- `recorded_of` meets its contract, answer by answer.
 use mathlib.Core.Path.{sym, ap, _∙_}
 use Rattle.dresserduck.specs.Host.{recordedOf}
 use Rattle.dresserduck.proofs.RecordLaws.{done-recorded}

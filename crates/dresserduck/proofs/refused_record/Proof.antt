@@ -1,4 +1,4 @@
--- `refused_record` meets its contract: the definition's fields, one by one. Assumes nothing.
+-- `refused_record` meets its contract: the definition's fields, one by one.
 use mathlib.Core.Path.{refl}
 use Rattle.dresserduck.specs.Host.{recordedOf}
 use Rattle.dresserduck.proofs.refused_record.Statement.{statement}

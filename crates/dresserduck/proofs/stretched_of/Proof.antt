@@ -1,4 +1,4 @@
--- `stretched_of` meets its contract, answer by answer. Assumes nothing.
+-- `stretched_of` meets its contract, answer by answer.
 use mathlib.Core.Path.{_≡_, sym, ap, _∙_}
 use lib.IntN.{ℤ}
 use lib.Ieee.{Float}

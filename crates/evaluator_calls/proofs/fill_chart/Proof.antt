@@ -1,4 +1,4 @@
--- `fill_chart` meets its contract: the values by the encoder's tables, which are then cleared. Assumes nothing.
+-- `fill_chart` meets its contract: the values by the encoder's tables, which are then cleared.
 use Rattle.evaluator_calls.proofs.TablesLaws.{tabled, coloured}
 use borrow.Author.Needs.{needs}
 use Rattle.evaluator_calls.proofs.fill_chart.Statement.{statement}

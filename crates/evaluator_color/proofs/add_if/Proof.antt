@@ -1,4 +1,4 @@
--- `add_if` meets its contract, arm by arm. Assumes nothing.
+-- `add_if` meets its contract, arm by arm.
 use mathlib.Core.Path.{sym, ap}
 use mathlib.Core.Bool.{Bool}
 use Rattle.evaluator_color.specs.Color.{addIf}

@@ -1,4 +1,4 @@
--- `alt_value` meets its contract: `logistic` is T. Assumes nothing.
+-- `alt_value` meets its contract: `logistic` is T.
 use mathlib.Core.Path.{ap}
 use borrow.Author.Needs.{needs}
 use lib.Ieee.{Float, binary64, mul}

@@ -1,4 +1,4 @@
--- `hit_value` meets its contract: each literal computes to its value, and `logistic` is T. Assumes nothing.
+-- `hit_value` meets its contract: each literal computes to its value, and `logistic` is T.
 use mathlib.Core.Path.{ap}
 use borrow.Author.Needs.{needs}
 use lib.Ieee.{Float, binary64, ofBits, sub, mul}

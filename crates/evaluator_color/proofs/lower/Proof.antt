@@ -1,4 +1,4 @@
--- `lower` meets its contract: each literal computes to its value. Assumes nothing.
+-- `lower` meets its contract: each literal computes to its value.
 use mathlib.Core.Path.{refl}
 use lib.Ieee.{ofBits, round}
 use Rattle.numeric.specs.Constants.{eightTenths}

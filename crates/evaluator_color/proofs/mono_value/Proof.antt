@@ -1,4 +1,4 @@
--- `mono_value` meets its contract: the literal computes to its value, and `logistic` is T. Assumes nothing.
+-- `mono_value` meets its contract: the literal computes to its value, and `logistic` is T.
 use mathlib.Core.Path.{ap}
 use borrow.Author.Needs.{needs}
 use lib.Ieee.{Float, binary64, ofBits, mul}

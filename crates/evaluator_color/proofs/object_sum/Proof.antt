@@ -1,4 +1,4 @@
--- `object_sum` meets its contract: the definition's steps are what the calls promise, in their order. Assumes nothing.
+-- `object_sum` meets its contract: the definition's steps are what the calls promise, in their order.
 use mathlib.Core.Path.{_≡_}
 use borrow.Author.Needs.{needs}
 use lib.Ieee.{Float, ofBits}

@@ -1,4 +1,4 @@
--- `ratio_penalty` meets its contract, by what its tests found. Assumes nothing.
+-- `ratio_penalty` meets its contract, by what its tests found.
 use mathlib.Core.Path.{refl, sym, _∙_}
 use mathlib.Core.Bool.{true, false}
 use borrow.Author.Needs.{needs}

@@ -1,4 +1,4 @@
--- `make_record` meets its contract: what was found is scored, and the slices that served for it are cleared. Assumes nothing.
+-- `make_record` meets its contract: what was found is scored, and the slices that served for it are cleared.
 use Rattle.evaluator_record.proofs.FindLaws.{recorded}
 use borrow.Author.Needs.{needs}
 use Rattle.evaluator_record.proofs.make_record.Statement.{statement}

@@ -1,4 +1,4 @@
--- `record` meets its contract: the verdict of the definition is the one that the tests gave, and each case leaves its outcome. Assumes nothing.
+-- `record` meets its contract: the verdict of the definition is the one that the tests gave, and each case leaves its outcome.
 use mathlib.Core.Path.{_≡_, refl, sym, ap, _∙_}
 use mathlib.Core.Bool.{Bool, true, false, not}
 use native.Mathlib.Omega.{arith}

@@ -1,4 +1,4 @@
--- `duration_penalty` meets its contract: each literal computes to its value. Assumes nothing.
+-- `duration_penalty` meets its contract: each literal computes to its value.
 use borrow.Author.Needs.{needs}
 use lib.Ieee.{ofBits}
 use Rattle.evaluator_rhythm.specs.RepeatedInterval.{durationPenalty}

@@ -1,4 +1,4 @@
--- `is_similar` meets its contract: the literal computes to its value, and `near` is the test. Assumes nothing.
+-- `is_similar` meets its contract: the literal computes to its value, and `near` is the test.
 use borrow.Author.Needs.{needs}
 use lib.Ieee.{ofBits}
 use Rattle.evaluator_rhythm.specs.RepeatedInterval.{similar}

@@ -1,4 +1,4 @@
--- `penalty_if` meets its contract, arm by arm: each literal computes to its value. Assumes nothing.
+-- `penalty_if` meets its contract, arm by arm: each literal computes to its value.
 use mathlib.Core.Path.{sym, ap}
 use mathlib.Core.Bool.{Bool, cond}
 use lib.Ieee.{ofBits, round}

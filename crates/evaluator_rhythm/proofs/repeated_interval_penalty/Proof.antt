@@ -1,4 +1,4 @@
--- `repeated_interval_penalty` meets its contract: the definition's steps are what the calls promise. Assumes nothing.
+-- `repeated_interval_penalty` meets its contract: the definition's steps are what the calls promise.
 use mathlib.Core.Path.{_≡_}
 use borrow.Author.Needs.{needs}
 use Prim.Native.Nat.{ℕ}

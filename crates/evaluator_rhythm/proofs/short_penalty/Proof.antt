@@ -1,4 +1,4 @@
--- `short_penalty` meets its contract, by its test. Assumes nothing.
+-- `short_penalty` meets its contract, by its test.
 use mathlib.Core.Path.{sym, ap, _∙_}
 use mathlib.Core.Bool.{Bool, cond}
 use borrow.Author.Needs.{needs}

@@ -1,4 +1,4 @@
--- `similar_three` meets its contract, by what its tests found. Assumes nothing.
+-- `similar_three` meets its contract, by what its tests found.
 use mathlib.Core.Path.{refl, sym, _∙_}
 use mathlib.Core.Bool.{true, false}
 use borrow.Author.Needs.{needs}

@@ -1,4 +1,4 @@
--- `smaller_of` meets its contract, arm by arm. Assumes nothing.
+-- `smaller_of` meets its contract, arm by arm.
 use mathlib.Core.Path.{sym, ap}
 use mathlib.Core.Bool.{Bool, cond}
 use Rattle.evaluator_rhythm.specs.RepeatedInterval.{smaller}

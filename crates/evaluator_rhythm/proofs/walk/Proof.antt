@@ -1,4 +1,4 @@
--- `walk` meets its contract, by which own interval is the first that is absent, and by k where none is. Assumes nothing.
+-- `walk` meets its contract, by which own interval is the first that is absent, and by k where none is.
 use mathlib.Core.Path.{_≡_, refl, sym, subst, _∙_}
 use Prim.Native.Nat.{ℕ}
 use borrow.Author.Needs.{needs}

@@ -1,4 +1,4 @@
--- `encode_kinds` meets its contract: the encoder's tables, spread over the objects, and then cleared. Assumes nothing.
+-- `encode_kinds` meets its contract: the encoder's tables, spread over the objects, and then cleared.
 use native.Mathlib.Omega.{arith}
 use Rattle.grouping_encode.proofs.KindsLaws.{patterns-room, hits-room, encoded}
 use borrow.Author.Needs.{needs}

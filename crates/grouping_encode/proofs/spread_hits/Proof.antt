@@ -1,4 +1,4 @@
--- `spread_hits` meets its contract: each look-up stays within its table, and what was looked up is looked up again. Assumes nothing.
+-- `spread_hits` meets its contract: each look-up stays within its table, and what was looked up is looked up again.
 use mathlib.Core.Path.{refl, sym, _∙_}
 use Prim.Native.Nat.{_*_}
 use native.Mathlib.Omega.{arith}

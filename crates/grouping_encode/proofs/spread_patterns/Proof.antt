@@ -1,4 +1,4 @@
--- `spread_patterns` meets its contract: the copied front is the streak table, and each look-up stays within its table. Assumes nothing.
+-- `spread_patterns` meets its contract: the copied front is the streak table, and each look-up stays within its table.
 use mathlib.Core.Path.{_≡_, sym, ap, _∙_}
 use mathlib.Core.List.{List}
 use Prim.Native.Nat.{ℕ, _*_, _≤_}

@@ -1,4 +1,4 @@
--- Sizes for the crates above: T(n) and 1.0 − T(n) are at most 1, and T(n) is a value of the format, for every n, by one test that antt computes over the whole table. Assumes nothing.
+-- Sizes for the crates above: T(n) and 1.0 − T(n) are at most 1, and T(n) is a value of the format, for every n, by one test that antt computes over the whole table.
 use mathlib.Core.Bool.{Bool, false, _&&_}
 use mathlib.Core.List.{List, [], _∷_}
 use Prim.Native.Nat.{ℕ, zero, suc, _*_}

@@ -1,4 +1,4 @@
--- T(2) is 0.5, T falls strictly, and D(n + 1) / D(n) is within its bracket: one test that antt computes over the whole table. Assumes nothing.
+-- T(2) is 0.5, T falls strictly, and D(n + 1) / D(n) is within its bracket: one test that antt computes over the whole table.
 use mathlib.Core.Path.{_≡_, refl}
 use mathlib.Core.Bool.{Bool, _&&_}
 use Prim.Native.Nat.{ℕ, suc, _*_, _<_}

@@ -1,4 +1,4 @@
--- The three arms of `abs`: below zero, zero, and neither. Assumes nothing.
+-- The three arms of `abs`: below zero, zero, and neither.
 use mathlib.Core.Path.{_≡_, refl, sym, ap, _∙_, subst}
 use mathlib.Core.Bool.{Bool, true, false, _&&_, _||_, Bool·beq, true≢false, false≢true}
 use Prim.Native.Nat.{ℕ, zero, suc, _+_, _*_}

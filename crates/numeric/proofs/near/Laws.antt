@@ -1,5 +1,5 @@
 -- Near, of finite values: it is symmetric, a value is near itself, and of three values in order the middle one is near the first if the last is. The margin may be any value.
--- All go by the distance of the two values in units of the smallest value, which the difference rounds. Assumes nothing.
+-- All go by the distance of the two values in units of the smallest value, which the difference rounds.
 use mathlib.Core.Path.{_≡_, refl, sym, ap, _∙_, subst}
 use mathlib.Core.Bool.{Bool, true, false, not, _&&_, cond, true≢false}
 use Prim.Native.Nat.{ℕ, zero, suc, _+_, _-_, _*_, _≤_, _<_}

@@ -1,4 +1,4 @@
--- The four answers of `total_order`. Assumes nothing.
+-- The four answers of `total_order`.
 use mathlib.Core.Path.{_≡_, refl, sym, ap, _∙_, subst}
 use mathlib.Core.Logic.{inl, inr}
 use mathlib.Core.Bool.{Bool, true, false, not, _&&_, _||_, Bool·beq, true≢false, false≢true}

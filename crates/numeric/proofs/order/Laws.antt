@@ -1,4 +1,4 @@
--- On the finite values that fit, totalOrder is a total order: reflexive and total, antisymmetric, transitive. Assumes nothing.
+-- On the finite values that fit, totalOrder is a total order: reflexive and total, antisymmetric, transitive.
 use mathlib.Core.Path.{_≡_, sym, subst}
 use mathlib.Core.Logic.{_⊎_, inl, inr}
 use Prim.Native.Nat.{_≤_, _<_}

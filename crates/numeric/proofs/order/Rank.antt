@@ -1,5 +1,5 @@
 -- A natural number for each finite value that fits, in the total order: `key`. A value that is not negative has `mid` plus its size in units of the smallest value, and a negative one lies as far below.
--- `keyed`: totalOrder x y is the test key x ≤ key y. `key-inj`: two values with one key are one value. Assumes nothing.
+-- `keyed`: totalOrder x y is the test key x ≤ key y. `key-inj`: two values with one key are one value.
 use mathlib.Core.Path.{_≡_, refl, sym, ap, _∙_, subst}
 use mathlib.Core.Logic.{inl, inr}
 use mathlib.Core.Bool.{Bool, true, false, not, _&&_, _||_}

@@ -1,4 +1,4 @@
--- A value of 2 ^ 52 or more in size is whole, and rounding to a whole number changes nothing. Assumes nothing.
+-- A value of 2 ^ 52 or more in size is whole, and rounding to a whole number changes nothing.
 use mathlib.Core.Path.{_≡_, refl, sym, ap, _∙_, subst}
 use mathlib.Core.Bool.{Bool, true, false, _&&_, false≢true}
 use Prim.Native.Nat.{ℕ, zero, suc, _+_, _*_, _%_, _^_, _≤_, _<_, zero-le, compare}

@@ -1,4 +1,4 @@
--- x + 2 ^ 52 - 2 ^ 52, each rounded, for a positive x below 2 ^ 52: the whole number nearest to x, a tie to the even one. Assumes nothing.
+-- x + 2 ^ 52 - 2 ^ 52, each rounded, for a positive x below 2 ^ 52: the whole number nearest to x, a tie to the even one.
 use mathlib.Core.Path.{_≡_, refl, sym, ap, _∙_, subst}
 use mathlib.Core.Bool.{Bool, true, false, cond, true≢false, false≢true}
 use Prim.Native.Nat.{ℕ, zero, suc, _+_, _-_, _*_, _/_, _%_, _^_, _≤_, _<_, compare, Ordering, Ordering·lt, Ordering·eq, Ordering·gt}

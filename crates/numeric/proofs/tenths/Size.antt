@@ -1,4 +1,4 @@
--- The size of a finite value, read off the fields of its bit pattern. Assumes nothing.
+-- The size of a finite value, read off the fields of its bit pattern.
 use mathlib.Core.Path.{_≡_, refl, sym, ap, _∙_, subst}
 use mathlib.Core.Bool.{Bool, true, false, not, cond}
 use Prim.Native.Nat.{ℕ, suc, _+_, _-_, _*_, _/_, _%_, _^_, _≤_, _<_}

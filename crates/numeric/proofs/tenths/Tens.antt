@@ -1,4 +1,4 @@
--- Ten times a fraction, cut to a whole number: downwards and upwards, by any fraction of the same size. Assumes nothing.
+-- Ten times a fraction, cut to a whole number: downwards and upwards, by any fraction of the same size.
 use mathlib.Core.Path.{_≡_, refl, sym, ap, _∙_, subst}
 use mathlib.Core.Bool.{true, false}
 use Prim.Native.Nat.{ℕ, zero, suc, _+_, _-_, _*_, _/_, _%_, _^_, _≤_, _<_}

@@ -1,4 +1,4 @@
--- `mean` meets its contract: a count up to 2 ^ 53 is a value of the format. Assumes nothing.
+-- `mean` meets its contract: a count up to 2 ^ 53 is a value of the format.
 use mathlib.Core.Path.{ap}
 use Prim.Native.Nat.{ℕ, _≤_, _^_}
 use native.Mathlib.Nat.{le-trans}

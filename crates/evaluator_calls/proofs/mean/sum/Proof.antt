@@ -1,4 +1,4 @@
--- `sum` meets its contract. The invariant: what is left of the slice, added to the sum so far, is the whole sum. Assumes nothing.
+-- `sum` meets its contract. The invariant: what is left of the slice, added to the sum so far, is the whole sum.
 use mathlib.Core.Path.{_≡_, refl, sym, ap, _∙_}
 use mathlib.Core.List.{List}
 use Prim.Native.Nat.{ℕ, _≤_, _<_, _-_, _+_}

@@ -1,4 +1,4 @@
--- `with_bounds` meets its contract: the tests that were run are the definition's. Assumes nothing.
+-- `with_bounds` meets its contract: the tests that were run are the definition's.
 use mathlib.Core.Path.{_≡_, refl, sym, ap, _∙_}
 use mathlib.Core.Bool.{Bool, true, false, _||_, cond}
 use Prim.Native.Nat.{ℕ, _≤_, _<_}

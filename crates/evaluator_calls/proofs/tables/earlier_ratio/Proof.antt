@@ -1,4 +1,4 @@
--- `earlier_ratio` meets its contract: below 2, i - 2 is 0. Assumes nothing.
+-- `earlier_ratio` meets its contract: below 2, i - 2 is 0.
 use mathlib.Core.Path.{_≡_, refl, ap}
 use Prim.Native.Nat.{ℕ, _-_}
 use native.Mathlib.Omega.{arith}

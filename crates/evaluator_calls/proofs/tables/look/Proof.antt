@@ -1,4 +1,4 @@
--- `look` meets its contract: the object's numbers, what the tables have at them, and where a number differs from the object's before. Assumes nothing.
+-- `look` meets its contract: the object's numbers, what the tables have at them, and where a number differs from the object's before.
 use Prim.Native.Nat.{_+_, _*_}
 use native.Mathlib.Omega.{arith}
 use lib.ListN.{length}

@@ -1,4 +1,4 @@
--- `value_at` meets its contract: the object's sum and its penalty, multiplied. Assumes nothing.
+-- `value_at` meets its contract: the object's sum and its penalty, multiplied.
 use mathlib.Core.Path.{ap, _∙_}
 use lib.Ieee.{binary64, mul}
 use Rattle.evaluator_color.specs.Color.{objectSum}

@@ -1,4 +1,4 @@
--- `find` meets its contract: the intervals are made where the first objects were left, and the group is read from them. Assumes nothing.
+-- `find` meets its contract: the intervals are made where the first objects were left, and the group is read from them.
 use native.Mathlib.Omega.{arith}
 use Rattle.evaluator_record.proofs.FindLaws.{groups-small, group-below, region-inside, intervals-room, intervals-inside, intervals-counted, found}
 use borrow.Author.Needs.{needs}

@@ -1,4 +1,4 @@
--- `locate` meets its contract: each pass finds what the one before left, and the group's objects are read at its ends. Assumes nothing.
+-- `locate` meets its contract: each pass finds what the one before left, and the group's objects are read at its ends.
 use Prim.Native.Nat.{_-_, _<_}
 use native.Mathlib.Omega.{arith}
 use Rattle.evaluator_record.proofs.LocateLaws.{Readable, notes-inside, front-counted, firsts-room, group-there, readable, located}

@@ -1,4 +1,4 @@
--- `canonical::bits` meets its contract: only nan differs from itself, and its pattern is the one that the logic writes. Assumes nothing.
+-- `canonical::bits` meets its contract: only nan differs from itself, and its pattern is the one that the logic writes.
 use mathlib.Core.Path.{_≡_, refl, sym, ap, _∙_, subst}
 use mathlib.Core.Bool.{false, not}
 use lib.Dec.{T}

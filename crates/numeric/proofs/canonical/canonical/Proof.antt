@@ -1,4 +1,4 @@
--- `canonical::canonical` meets its contract: only nan differs from itself. Assumes nothing.
+-- `canonical::canonical` meets its contract: only nan differs from itself.
 use mathlib.Core.Path.{sym, subst}
 use borrow.Author.Needs.{needs}
 use lib.Dec.{T}

@@ -1,4 +1,4 @@
--- `logistic::logistic` meets its contract: the slice is the list of the bit patterns, each read as a float. Assumes nothing.
+-- `logistic::logistic` meets its contract: the slice is the list of the bit patterns, each read as a float.
 use mathlib.Core.Path.{_≡_, refl, sym, ap, _∙_}
 use mathlib.Core.List.{List}
 use borrow.Author.Needs.{needs}

@@ -1,4 +1,4 @@
--- `logistic::table` meets its contract: the array is the list of the bit patterns, each read as a float. Assumes nothing.
+-- `logistic::table` meets its contract: the array is the list of the bit patterns, each read as a float.
 use mathlib.Core.Path.{refl}
 use Rattle.numeric.specs.Logistic.{tableBits, logisticTable}
 use Rattle.numeric.proofs.logistic.table.Statement.{statement}

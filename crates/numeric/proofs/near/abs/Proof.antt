@@ -1,4 +1,4 @@
--- `near::abs` meets its contract, arm by arm. Assumes nothing.
+-- `near::abs` meets its contract, arm by arm.
 use mathlib.Core.Path.{sym, subst}
 use lib.Dec.{T}
 use lib.Ieee.{ofBits}

@@ -1,4 +1,4 @@
--- `near::near` meets its contract. Assumes nothing.
+-- `near::near` meets its contract.
 use mathlib.Core.Path.{ap}
 use borrow.Author.Needs.{needs}
 use lib.Ieee.{Float, le}

@@ -1,4 +1,4 @@
--- `order::total_order` meets its contract, answer by answer. Assumes nothing.
+-- `order::total_order` meets its contract, answer by answer.
 use lib.Ieee.{ofBits}
 use Rattle.numeric.proofs.order.Arms.{less, zeros, equal-apart, neither}
 use Rattle.numeric.proofs.order.total_order.Statement.{statement}

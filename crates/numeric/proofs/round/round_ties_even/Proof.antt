@@ -1,4 +1,4 @@
--- `round::round_ties_even` meets its contract, arm by arm. Assumes nothing.
+-- `round::round_ties_even` meets its contract, arm by arm.
 use mathlib.Core.Path.{sym, subst}
 use lib.Dec.{T}
 use lib.Ieee.{ofBits, neg, binary64, fits}

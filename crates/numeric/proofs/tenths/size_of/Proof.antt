@@ -1,4 +1,4 @@
--- `tenths::size_of` meets its contract: the fields of the bit pattern are the size. Assumes nothing.
+-- `tenths::size_of` meets its contract: the fields of the bit pattern are the size.
 use mathlib.Core.Path.{sym, subst}
 use borrow.Author.Needs.{needs}
 use lib.Dec.{T}

@@ -1,4 +1,4 @@
--- `tenths::ten_ceiling` meets its contract. Assumes nothing.
+-- `tenths::ten_ceiling` meets its contract.
 use mathlib.Core.Path.{_≡_, refl, sym, ap, subst}
 use Prim.Native.Nat.{ℕ, _+_, _-_, _*_, _/_, _^_, _≤_, _<_}
 use native.Mathlib.Nat.{le-of-lt, lt-of-le-of-lt, div-le-self}

@@ -1,4 +1,4 @@
--- `tenths::ten_floor` meets its contract. Assumes nothing.
+-- `tenths::ten_floor` meets its contract.
 use mathlib.Core.Path.{refl, sym}
 use borrow.Author.Needs.{needs}
 use native.Mathlib.Nat.{div-eq-of-lt}

@@ -1,4 +1,4 @@
--- `tenths::tenths` meets its contract: the size of x, ten times it, cut downwards or upwards, and the sign. Assumes nothing.
+-- `tenths::tenths` meets its contract: the size of x, ten times it, cut downwards or upwards, and the sign.
 use mathlib.Core.Path.{_≡_, sym, ap, _∙_, subst}
 use Prim.Native.Nat.{ℕ, _^_, _<_}
 use native.Mathlib.Nat.{lt-of-lt-of-le}
