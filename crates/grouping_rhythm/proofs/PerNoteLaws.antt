@@ -6,11 +6,10 @@ use Prim.Native.Nat.{ℕ, _<_}
 use native.Mathlib.Omega.{arith}
 use lib.ListN.{length, getD}
 use lib.Seq.{ext-getD}
-use lib.Ieee.{Float}
 use Rattle.grouping_marks.proofs.FillLaws.{length-tabulate, getD-tabulate}
 use Rattle.grouping_chart.specs.Object.{isNote, notes, noteIdx}
 use Rattle.grouping_chart.proofs.NoteLaws.{length-note-objects, note-within}
-use Rattle.grouping_rhythm.specs.Rhythm.{perNote, groupOf, patternGroupOf}
+use Rattle.grouping_rhythm.specs.Rhythm.{perNote}
 
 -- a note's number is below the number of notes
 pub note-below : (kinds : List ℕ) (i : ℕ) → i < length kinds → isNote (getD kinds i 0) ≡ true → noteIdx kinds i < length (notes kinds)
@@ -36,14 +35,3 @@ per-note-ext f g kinds e =
     per-note-at f kinds i h
     ∙ same-where (isNote (getD kinds i 0)) (f (noteIdx kinds i)) (g (noteIdx kinds i)) 65535 (λ n. e (noteIdx kinds i) (note-below kinds i h n))
     ∙ sym (per-note-at g kinds i h))
-
--- ---- the answers have a number for each object
-
-module _ (margin : Float) (kinds : List ℕ) where
-  pub length-groupOf : (deltas : List Float) → length (groupOf margin kinds deltas) ≡ length kinds
-  unfolding groupOf
-  length-groupOf deltas = length-per-note _ kinds
-
-  pub length-patternGroupOf : (starts deltas : List Float) → length (patternGroupOf margin kinds starts deltas) ≡ length kinds
-  unfolding patternGroupOf
-  length-patternGroupOf starts deltas = length-per-note _ kinds

@@ -62,13 +62,6 @@ module _ (margin : Float) (kinds : List ℕ) (deltas : List Float) (e : length d
       ∙ length-starts starts (firstsOf (groupObjects margin kinds deltas))
       ∙ length-first-objects
 
-  -- at most as many pattern groups as groups
-  pub patterns-few : (starts : List Float) → patternGroupsIn margin kinds starts deltas ≤ groupsIn margin kinds deltas
-  unfolding patternGroupsIn
-  patterns-few starts =
-      let values : List Float = groupIntervals margin kinds starts deltas in
-      omega (arith, count-le (intervalMarks margin values), length-marks margin values, length-group-intervals starts)
-
 -- ---- the notes listed and numbered: what is in regions 1 and 2 then
 pub record Noted (margin : Float) (kinds : List ℕ) (deltas : List Float) (work₀ work : List ℕ) (scratch₀ scratch : List Float) (m groups : ℕ) : Type 0 where
   pub noted : m ≡ length (notes kinds)

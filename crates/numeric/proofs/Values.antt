@@ -72,10 +72,7 @@ finite-between lo (inf false) hi p q h k = absurd (below-all hi q k)
     below-all (fin r m e) p h = h
 finite-between lo (fin s m e) hi p q h k = tt
 
--- a value of the format that passed a test of range is a number, and a number is no NaN
-pub range-number : (lo x hi : Float) → T (finite lo) → T (finite hi) → T (fits binary64 x) → T (le lo x) → T (le x hi) → Number x
-range-number lo x hi p q f h k = record { is-finite = finite-between lo x hi p q h k; is-held = f }
-
+-- a number is no NaN
 no-nan : (x : Float) → T (finite x) → T (not (isNan x))
 unfolding isNan
 no-nan nan h = absurd h

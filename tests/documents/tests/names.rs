@@ -1,0 +1,108 @@
+//! Every name in the documents stands where they say, and docs/SCOPE.md has every must-fail edit.
+
+use std::collections::BTreeSet;
+use std::fs;
+
+use document_tests::{declaration, found, has_name, named, root, Named};
+
+const DOCUMENTS: [&str; 4] = [
+    "README.md",
+    "docs/SCOPE.md",
+    "docs/DECISIONS.md",
+    "docs/DIFFERENCES.md",
+];
+
+fn text_of(document: &str) -> String {
+    fs::read_to_string(root().join(document)).expect("a document")
+}
+
+/// What is made when it is needed, or lies beside the repository.
+fn is_elsewhere(path: &str) -> bool {
+    path.starts_with("target/") || path.starts_with("../")
+}
+
+fn path_fault(path: &str) -> Option<String> {
+    let there = is_elsewhere(path) || found(path).is_some();
+    (!there).then(|| format!("there is no {path}"))
+}
+
+fn name_fault(path: &str, name: &str) -> Option<String> {
+    let there = found(path).is_some_and(|file| has_name(&file, name));
+    (!there).then(|| format!("{path} has no {name}"))
+}
+
+fn function_fault(function: &str, private: bool) -> Option<String> {
+    match declaration(function) {
+        None => Some(format!("there is no function {function}")),
+        Some(line) if line.contains("pub ") == private => {
+            Some(format!("{function} is said to be private: {private}"))
+        }
+        Some(_) => None,
+    }
+}
+
+fn fault(word: Named) -> Option<String> {
+    match word {
+        Named::Path(path) => path_fault(&path),
+        Named::In(path, name) => name_fault(&path, &name),
+        Named::Function(function, private) => function_fault(&function, private),
+        Named::Edit(edit) => path_fault(&format!("{edit}.edit")),
+    }
+}
+
+#[test]
+fn names_stand_where_the_documents_say() {
+    let mut faults = Vec::new();
+    for document in DOCUMENTS {
+        for (number, line) in text_of(document).lines().enumerate() {
+            let here = named(line).into_iter().filter_map(fault);
+            faults.extend(here.map(|what| format!("{document}:{}: {what}", number + 1)));
+        }
+    }
+    assert!(faults.is_empty(), "\n{}", faults.join("\n"));
+}
+
+fn edits_of_the_tree() -> BTreeSet<String> {
+    let crates = fs::read_dir(root().join("crates")).expect("crates/");
+    let mut edits = BTreeSet::new();
+    for krate in crates.map(|entry| entry.expect("a crate")) {
+        let name = krate.file_name().into_string().expect("a name");
+        let folder = krate.path().join("must-fail");
+        for edit in fs::read_dir(folder).into_iter().flatten() {
+            let path = edit.expect("an edit").path();
+            let stem = path.file_stem().expect("a name").to_string_lossy();
+            edits.insert(format!("{name}/must-fail/{stem}"));
+        }
+    }
+    edits
+}
+
+#[test]
+fn the_scope_has_every_must_fail_edit() {
+    let text = text_of("docs/SCOPE.md");
+    let words = text.lines().flat_map(named);
+    let listed: BTreeSet<String> = words
+        .filter_map(|word| match word {
+            Named::Edit(edit) => Some(edit),
+            _ => None,
+        })
+        .collect();
+    let missing: Vec<String> = edits_of_the_tree().difference(&listed).cloned().collect();
+    assert!(
+        !listed.is_empty() && missing.is_empty(),
+        "not in docs/SCOPE.md: {missing:?}"
+    );
+}
+
+#[test]
+fn what_is_not_there_is_told() {
+    let line = "`numeric/specs/Near.antt`: `isNear`, `isFar` (text); `numeric::near::near` (private), `numeric/must-fail/none`, `no/such.file`";
+    let faults: Vec<String> = named(line).into_iter().filter_map(fault).collect();
+    let expected = [
+        "numeric/specs/Near.antt has no isFar",
+        "numeric::near::near is said to be private: true",
+        "there is no numeric/must-fail/none.edit",
+        "there is no no/such.file",
+    ];
+    assert_eq!(faults, expected);
+}
