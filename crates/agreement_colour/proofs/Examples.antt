@@ -11,14 +11,13 @@ use lib.Ieee.{Float}
 use Rattle.grouping_marks.specs.Scan.{scan, after, tabulate, gathered}
 use Rattle.grouping_marks.specs.Marks.{opened, groupCount, groupNumbers, sizesFrom, groupSizes, firstsFrom, groupFirsts}
 use Rattle.grouping_chart.specs.Object.{isNote, notes, noteIdx, noteBefore, previousNote}
+use Rattle.grouping_chart.specs.Settings.{baseSettings}
 use Rattle.grouping_color.specs.MonoStreak.{continues, opensStreak, streakMarks, streakOf, streakLengths, streakTypes}
 use Rattle.grouping_color.specs.AlternatingMonoPattern.{opensPattern, patternMarks, coupledAt, coupled}
 use Rattle.grouping_color.specs.RepeatingHitPatterns.{stageAfter, opensHit, hitMarks}
 use Rattle.grouping_color.specs.Preprocessor.{patternsOpen, firstLengths, streakCounts, patternTypes, coupledPatterns, hitsOpen, patternOf, hitOf}
-use Rattle.grouping_encode.specs.Encode.{searchLimit}
 use Rattle.evaluator_calls.specs.Colour.{colourAt, colourValues}
 use Rattle.evaluator_calls.specs.Stretch.{meanOf}
-use Rattle.evaluator_calls.specs.Calls.{baseTolerance}
 use Rattle.agreement.specs.CommonTail.{CommonTail}
 use Rattle.agreement.specs.Landmark.{Landmark}
 use Rattle.agreement_colour.specs.ColourClaim.{Settled, ColourClaim}
@@ -68,7 +67,7 @@ sixteenth : getD (hitOf tail) 7 0 + 16 ≡ getD (hitOf tail) 37 0 + 1
 unfolding scan after tabulate gathered opened groupCount groupNumbers sizesFrom groupSizes firstsFrom groupFirsts isNote notes noteIdx noteBefore previousNote continues opensStreak streakMarks streakOf streakLengths streakTypes opensPattern patternMarks coupledAt coupled patternsOpen firstLengths streakCounts patternTypes patternOf coupledPatterns stageAfter opensHit hitMarks hitsOpen hitOf
 sixteenth = refl
 
-settled : Settled searchLimit tail 7 37
+settled : Settled (baseSettings .limit) tail 7 37
 settled = record { after = omega arith; there = omega arith; late = omega (arith, sixteenth) }
 
 module _ (opening : List ℕ) (before ratios : List Float) (e : length before ≡ length opening) (f : length ratios ≡ 39) where
@@ -85,13 +84,13 @@ module _ (opening : List ℕ) (before ratios : List Float) (e : length before �
     values-alike = (λ i. drop (f i - 39) ratios) ∙ sym (drop-at before ratios (length (before ++ ratios) - 39) (omega (arith, length-append before ratios)));
   }
 
-  claim : ColourClaim searchLimit baseTolerance tail ratios (opening ++ tail) (before ++ ratios) 7 (length opening + 7)
-  claim = colour-claim searchLimit baseTolerance tail ratios (opening ++ tail) (before ++ ratios) 39 7 (length opening + 7) common (omega (arith, long)) (inl landmark)
+  claim : ColourClaim (baseSettings .limit) (baseSettings .tolerance) tail ratios (opening ++ tail) (before ++ ratios) 7 (length opening + 7)
+  claim = colour-claim (baseSettings .limit) (baseSettings .tolerance) tail ratios (opening ++ tail) (before ++ ratios) 39 7 (length opening + 7) common (omega (arith, long)) (inl landmark)
 
-  pub any-opening : colourAt searchLimit baseTolerance tail ratios 37 ≡ colourAt searchLimit baseTolerance (opening ++ tail) (before ++ ratios) (length opening + 37)
+  pub any-opening : colourAt (baseSettings .limit) (baseSettings .tolerance) tail ratios 37 ≡ colourAt (baseSettings .limit) (baseSettings .tolerance) (opening ++ tail) (before ++ ratios) (length opening + 37)
   any-opening = claim .value 37 (length opening + 37) settled (omega (arith, long))
 
   -- and the stretch of these two objects has the mean of the tail alone
-  pub any-stretch : meanOf (colourValues searchLimit baseTolerance tail ratios) 37 39
-      ≡ meanOf (colourValues searchLimit baseTolerance (opening ++ tail) (before ++ ratios)) (length opening + 37) (length opening + 39)
+  pub any-stretch : meanOf (colourValues (baseSettings .limit) (baseSettings .tolerance) tail ratios) 37 39
+      ≡ meanOf (colourValues (baseSettings .limit) (baseSettings .tolerance) (opening ++ tail) (before ++ ratios)) (length opening + 37) (length opening + 39)
   any-stretch = claim .mean 37 39 (length opening + 37) (length opening + 39) settled (omega arith) (omega arith) (omega (arith, long)) (omega (arith, long))

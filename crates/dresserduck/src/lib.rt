@@ -1,5 +1,6 @@
 // The calls for C and Rust. Each hands its slices on and turns the answer into a record of plain numbers.
 ghost use mathlib.Core.Path.{_≡_};
+ghost use Rattle.grouping_chart.specs.Settings.{baseSettings};
 ghost use Rattle.grouping_encode.specs.Encode.{Memory, encodeOutcome};
 ghost use Rattle.evaluator_calls.specs.Calls as calls;
 ghost use Rattle.evaluator_calls.specs.Calls.{colourOutcome, stretchOutcome};
@@ -62,7 +63,7 @@ pub extern "C" fn dresserduck_encode(
 ) -> Encoded
     ensures { λ r. ⌜ _≡_ {A = HostOutcome Encoded Memory}
         (record { answer = r; memory = record { streak = now (streak .exit); streakPlace = now («streak_place» .exit); pattern = now (pattern .exit); patternPlace = now («pattern_place» .exit); hit = now (hit .exit); interval = now (interval .exit); work = now (work .exit); scratch = now (scratch .exit) } })
-        (encodeForHost (encodeOutcome (record { kinds = now (kind .entry); starts = now (start .entry); deltas = now (delta .entry); ratios = now (ratio .entry) })
+        (encodeForHost (encodeOutcome baseSettings (record { kinds = now (kind .entry); starts = now (start .entry); deltas = now (delta .entry); ratios = now (ratio .entry) })
         (record { streak = now (streak .entry); streakPlace = now («streak_place» .entry); pattern = now (pattern .entry); patternPlace = now («pattern_place» .entry); hit = now (hit .entry); interval = now (interval .entry); work = now (work .entry); scratch = now (scratch .entry) }))) ⌝ }
 {
     let answer = grouping_encode::encode(
@@ -119,7 +120,7 @@ pub extern "C" fn dresserduck_colour(
 ) -> Coloured
     ensures { λ r. ⌜ _≡_ {A = HostOutcome Coloured calls.Memory}
         (record { answer = r; memory = record { value = now (value .exit); work = now (work .exit); scratch = now (scratch .exit) } })
-        (colourForHost (colourOutcome (record { kinds = now (kind .entry); starts = now (start .entry); deltas = now (delta .entry); ratios = now (ratio .entry) })
+        (colourForHost (colourOutcome baseSettings (record { kinds = now (kind .entry); starts = now (start .entry); deltas = now (delta .entry); ratios = now (ratio .entry) })
         (record { value = now (value .entry); work = now (work .entry); scratch = now (scratch .entry) }))) ⌝ }
 {
     let answer = evaluator_calls::colour(kind, start, delta, ratio, value, work, scratch);
@@ -171,7 +172,7 @@ pub extern "C" fn dresserduck_stretch(
 ) -> Stretched
     ensures { λ r. ⌜ _≡_ {A = HostOutcome Stretched calls.Memory}
         (record { answer = r; memory = record { value = now (value .exit); work = now (work .exit); scratch = now (scratch .exit) } })
-        (stretchForHost (stretchOutcome (record { kinds = now (kind .entry); starts = now (start .entry); deltas = now (delta .entry); ratios = now (ratio .entry) }) a b
+        (stretchForHost (stretchOutcome baseSettings (record { kinds = now (kind .entry); starts = now (start .entry); deltas = now (delta .entry); ratios = now (ratio .entry) }) a b
         (record { value = now (value .entry); work = now (work .entry); scratch = now (scratch .entry) }))) ⌝ }
 {
     let answer = evaluator_calls::stretch(kind, start, delta, ratio, a, b, value, work, scratch);
@@ -222,7 +223,7 @@ pub extern "C" fn dresserduck_rhythm(
 ) -> Grouped
     ensures { λ r. ⌜ _≡_ {A = HostOutcome Grouped rhythm.Memory}
         (record { answer = r; memory = record { group = now (group .exit); pattern = now (pattern .exit); work = now (work .exit); scratch = now (scratch .exit) } })
-        (rhythmForHost (rhythmOutcome (record { kinds = now (kind .entry); starts = now (start .entry); deltas = now (delta .entry); ratios = now (ratio .entry) })
+        (rhythmForHost (rhythmOutcome baseSettings (record { kinds = now (kind .entry); starts = now (start .entry); deltas = now (delta .entry); ratios = now (ratio .entry) })
         (record { group = now (group .entry); pattern = now (pattern .entry); work = now (work .entry); scratch = now (scratch .entry) }))) ⌝ }
 {
     let answer = grouping_rhythm::rhythm(kind, start, delta, ratio, group, pattern, work, scratch);
@@ -319,7 +320,7 @@ pub extern "C" fn dresserduck_record(
 ) -> Recorded
     ensures { λ r. ⌜ _≡_ {A = HostOutcome Recorded recording.Memory}
         (record { answer = r; memory = record { work = now (work .exit); scratch = now (scratch .exit) } })
-        (recordForHost (recordOutcome (record { kinds = now (kind .entry); starts = now (start .entry); deltas = now (delta .entry); ratios = now (ratio .entry) }) group window
+        (recordForHost (recordOutcome baseSettings (record { kinds = now (kind .entry); starts = now (start .entry); deltas = now (delta .entry); ratios = now (ratio .entry) }) group window
         (record { work = now (work .entry); scratch = now (scratch .entry) }))) ⌝ }
 {
     let answer = evaluator_record::record(kind, start, delta, ratio, group, window, work, scratch);

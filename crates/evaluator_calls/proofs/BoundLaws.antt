@@ -22,14 +22,14 @@ use Rattle.grouping_chart.specs.Refusal.{verdict}
 use Rattle.grouping_chart.specs.declared.chart.Verdict.the-variants.{Accepted}
 use Rattle.grouping_chart.proofs.AcceptedLaws.{GoodChart, accepted-good}
 use Rattle.grouping_chart.proofs.RangeLaws.{ratio-range}
-use Rattle.grouping_encode.specs.Encode.{searchLimit}
+use Rattle.grouping_chart.specs.Settings.{Settings}
 use Rattle.evaluator_color.specs.Color.{objectSum}
 use Rattle.evaluator_color.specs.RatioPenalty.{ratioPenalty}
 use Rattle.evaluator_color.proofs.BoundLaws as formulas
 use Rattle.evaluator_color.proofs.BoundLaws.{lowest, highest}
 use Rattle.evaluator_calls.specs.Colour.{lookedAt, colourAt}
 use Rattle.evaluator_calls.specs.Stretch.{sumFrom, meanOf}
-use Rattle.evaluator_calls.specs.Calls.{baseTolerance, valuesOf}
+use Rattle.evaluator_calls.specs.Calls.{valuesOf}
 use Rattle.evaluator_calls.proofs.LookLaws.{length-values, value-of}
 
 -- 5 * (2 ^ 24 + 1): an object's sum times its penalty
@@ -54,61 +54,61 @@ sum-bounded B C sum (x ∷ xs) k h g =
     upto p q = omega arith
 
 -- ---- the values of an accepted chart
-module _ (c : Chart) (beside : ℕ) (accepted : verdict c beside ≡ Accepted) where
+module _ (s : Settings) (c : Chart) (beside : ℕ) (accepted : verdict c beside ≡ Accepted) where
   good : GoodChart c beside
   good = accepted-good c beside accepted
 
   value-is : (i : ℕ) → i < size c
-      → getD (valuesOf c) i nan ≡ mul binary64 (objectSum (lookedAt searchLimit (c .kinds) i)) (ratioPenalty baseTolerance i (getD (c .ratios) i nan) (getD (c .ratios) (i - 2) nan))
+      → getD (valuesOf s c) i nan ≡ mul binary64 (objectSum (lookedAt (s .limit) (c .kinds) i)) (ratioPenalty (s .tolerance) i (getD (c .ratios) i nan) (getD (c .ratios) (i - 2) nan))
   unfolding valuesOf colourAt
-  value-is i h = value-of searchLimit baseTolerance (c .kinds) (c .ratios) i h
+  value-is i h = value-of (s .limit) (s .tolerance) (c .kinds) (c .ratios) i h
 
   ratio-at : (i : ℕ) → i < size c → T (le lowest (getD (c .ratios) i nan)) × T (le (getD (c .ratios) i nan) highest)
   ratio-at i h = ratio-range (getD (c .ratios) i nan) (good .objects i nan h .ratio)
 
-  pub value-bounded : (i : ℕ) → i < size c → Bounded (getD (valuesOf c) i nan) largestColour
+  pub value-bounded : (i : ℕ) → i < size c → Bounded (getD (valuesOf s c) i nan) largestColour
   value-bounded i h =
       let r = ratio-at i h in
       let p = ratio-at (i - 2) (omega arith) in
       subst (λ (x : Float). Bounded x largestColour) (sym (value-is i h))
-      (formulas.colour-bounded baseTolerance i (getD (c .ratios) i nan) (getD (c .ratios) (i - 2) nan) (r .0) (r .1) (p .0) (p .1) (lookedAt searchLimit (c .kinds) i))
+      (formulas.colour-bounded (s .tolerance) i (getD (c .ratios) i nan) (getD (c .ratios) (i - 2) nan) (r .0) (r .1) (p .0) (p .1) (lookedAt (s .limit) (c .kinds) i))
 
-  pub value-number : (i : ℕ) → i < size c → Number (getD (valuesOf c) i nan)
+  pub value-number : (i : ℕ) → i < size c → Number (getD (valuesOf s c) i nan)
   value-number i h =
-      bounded-number (getD (valuesOf c) i nan) largestColour (subst (λ (x : Float). T (fits binary64 x)) (sym (value-is i h)) (mul-fits binary64 _ _)) (value-bounded i h)
+      bounded-number (getD (valuesOf s c) i nan) largestColour (subst (λ (x : Float). T (fits binary64 x)) (sym (value-is i h)) (mul-fits binary64 _ _)) (value-bounded i h)
 
-  pub value-no-nan : (i : ℕ) → i < size c → T (not (isNan (getD (valuesOf c) i nan)))
+  pub value-no-nan : (i : ℕ) → i < size c → T (not (isNan (getD (valuesOf s c) i nan)))
   value-no-nan i h = number-no-nan (value-number i h)
 
-  pub length-valuesOf : length (valuesOf c) ≡ size c
+  pub length-valuesOf : length (valuesOf s c) ≡ size c
   unfolding valuesOf
-  length-valuesOf = length-values searchLimit baseTolerance (c .kinds) (c .ratios)
+  length-valuesOf = length-values (s .limit) (s .tolerance) (c .kinds) (c .ratios)
 
   module _ (a b : ℕ) (some : a < b) (inside : b ≤ size c) where
-    length-stretch : length (part a (b - a) (valuesOf c)) ≡ b - a
-    length-stretch = length-part a (b - a) (valuesOf c) (omega (arith, length-valuesOf))
+    length-stretch : length (part a (b - a) (valuesOf s c)) ≡ b - a
+    length-stretch = length-part a (b - a) (valuesOf s c) (omega (arith, length-valuesOf))
 
-    stretch-bounded : (i : ℕ) → i < length (part a (b - a) (valuesOf c)) → Bounded (getD (part a (b - a) (valuesOf c)) i nan) largestColour
+    stretch-bounded : (i : ℕ) → i < length (part a (b - a) (valuesOf s c)) → Bounded (getD (part a (b - a) (valuesOf s c)) i nan) largestColour
     stretch-bounded i h =
         let l : i < b - a = omega (arith, length-stretch) in
-        subst (λ (x : Float). Bounded x largestColour) (sym (getD-part a (b - a) (valuesOf c) i nan l)) (value-bounded (a + i) (omega arith))
+        subst (λ (x : Float). Bounded x largestColour) (sym (getD-part a (b - a) (valuesOf s c) i nan l)) (value-bounded (a + i) (omega arith))
 
-    total-bounded : Bounded (sumFrom constant.zero (part a (b - a) (valuesOf c))) ((b - a) * largestColour)
+    total-bounded : Bounded (sumFrom constant.zero (part a (b - a) (valuesOf s c))) ((b - a) * largestColour)
     total-bounded =
-        subst (λ (n : ℕ). Bounded (sumFrom constant.zero (part a (b - a) (valuesOf c))) (n * largestColour)) length-stretch
-        (subst (λ (n : ℕ). Bounded (sumFrom constant.zero (part a (b - a) (valuesOf c))) n) (zero-add (length (part a (b - a) (valuesOf c)) * largestColour))
-        (sum-bounded largestColour 0 constant.zero (part a (b - a) (valuesOf c)) (omega (arith, length-stretch, good .few)) (leb→le 0 0 tt) stretch-bounded))
+        subst (λ (n : ℕ). Bounded (sumFrom constant.zero (part a (b - a) (valuesOf s c))) (n * largestColour)) length-stretch
+        (subst (λ (n : ℕ). Bounded (sumFrom constant.zero (part a (b - a) (valuesOf s c))) n) (zero-add (length (part a (b - a) (valuesOf s c)) * largestColour))
+        (sum-bounded largestColour 0 constant.zero (part a (b - a) (valuesOf s c)) (omega (arith, length-stretch, good .few)) (leb→le 0 0 tt) stretch-bounded))
 
-    pub mean-bounded : Bounded (meanOf (valuesOf c) a b) largestColour
+    pub mean-bounded : Bounded (meanOf (valuesOf s c) a b) largestColour
     unfolding meanOf
-    mean-bounded = bounds.mean-bounded (sumFrom constant.zero (part a (b - a) (valuesOf c))) (b - a) largestColour (omega arith) (omega (arith, good .few)) (lit≤ tt) total-bounded
+    mean-bounded = bounds.mean-bounded (sumFrom constant.zero (part a (b - a) (valuesOf s c))) (b - a) largestColour (omega arith) (omega (arith, good .few)) (lit≤ tt) total-bounded
 
-    pub mean-number : Number (meanOf (valuesOf c) a b)
+    pub mean-number : Number (meanOf (valuesOf s c) a b)
     unfolding meanOf
-    mean-number = bounded-number (meanOf (valuesOf c) a b) largestColour (div-fits binary64 _ _) mean-bounded
+    mean-number = bounded-number (meanOf (valuesOf s c) a b) largestColour (div-fits binary64 _ _) mean-bounded
 
-    pub mean-no-nan : T (not (isNan (meanOf (valuesOf c) a b)))
+    pub mean-no-nan : T (not (isNan (meanOf (valuesOf s c) a b)))
     mean-no-nan = number-no-nan mean-number
 
-    pub mean-tenths : InTenthsRange (meanOf (valuesOf c) a b)
-    mean-tenths = bounded-tenths (meanOf (valuesOf c) a b) largestColour (lit≤ tt) mean-bounded
+    pub mean-tenths : InTenthsRange (meanOf (valuesOf s c) a b)
+    mean-tenths = bounded-tenths (meanOf (valuesOf s c) a b) largestColour (lit≤ tt) mean-bounded

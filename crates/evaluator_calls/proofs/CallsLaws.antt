@@ -1,5 +1,5 @@
 -- The outcomes of colour and stretch, case by case, over plain lists: a refusal leaves all as lent, and an accepted call has room in every slice.
-use mathlib.Core.Path.{_≡_, refl, sym, ap, _∙_, subst}
+use mathlib.Core.Path.{_≡_, refl, sym, ap, _∙_}
 use mathlib.Core.Bool.{Bool, true, false, _||_, cond}
 use mathlib.Core.List.{List}
 use Prim.Native.Nat.{ℕ, _≤_, _<_}
@@ -8,7 +8,7 @@ use borrow.Author.Tests.{ltb-false, leb-false}
 use lib.Dec.{ltb, leb}
 use lib.IntN.{ℤ}
 use lib.ListN.{length}
-use lib.Ieee.{Float, binary64, ofBits, round}
+use lib.Ieee.{Float}
 use Rattle.grouping_chart.specs.Chart.{Chart, size}
 use Rattle.grouping_chart.specs.Refusal.{verdict}
 use Rattle.grouping_chart.specs.Room.{shortRefusal}
@@ -18,13 +18,13 @@ use Rattle.grouping_chart.specs.declared.chart.Verdict.the-variants.{Accepted, 
 use Rattle.grouping_chart.proofs.AcceptedLaws.{accepted-good}
 use Rattle.grouping_chart.proofs.RefusalLaws.{verdict-is}
 use Rattle.grouping_chart.proofs.RoomLaws.{roomy, either-false, long-enough, short-last}
-use Rattle.grouping_encode.specs.Encode.{searchLimit}
+use Rattle.grouping_chart.specs.Settings.{Settings, Permitted}
 use Rattle.evaluator_calls.specs.declared.Colouring.{Colouring}
 use Rattle.evaluator_calls.specs.declared.Colouring.the-variants as colouring
 use Rattle.evaluator_calls.specs.declared.Stretching.{Stretching}
 use Rattle.evaluator_calls.specs.declared.Stretching.the-variants as stretching
 use Rattle.evaluator_calls.specs.Stretch.{meanOf, meanTenths}
-use Rattle.evaluator_calls.specs.Calls.{Memory, Outcome, baseTolerance, beside, valuesOf, filled, colourBy, colourOutcome, stretchVerdict, stretchBy, stretchOutcome}
+use Rattle.evaluator_calls.specs.Calls.{Memory, Outcome, beside, valuesOf, filled, colourBy, colourOutcome, stretchVerdict, stretchBy, stretchOutcome}
 use Rattle.evaluator_calls.specs.Passes.{ChartRoom, Coloured}
 
 -- ---- a stretch that is not refused
@@ -44,19 +44,8 @@ within-bounds Accepted n a b e =
     record { accepted = refl; some = leb-false _ _ (t .0); inside = ltb-false _ _ (t .1) }
 within-bounds (Refused number at) n a b e = absurd (let z : _≡_ {A = ℕ} 0 1 = cc in omega arith)
 
--- ---- the literal 0.01 is the tolerance of the base
-tolerance-is : ofBits binary64 0x3f84_7ae1_47ae_147b ≡ baseTolerance
-unfolding ofBits round baseTolerance
-tolerance-is = refl
-
-pub at-base : {kinds : List ℕ} {ratios value₀ value : List Float} {work₀ work : List ℕ} {scratch₀ scratch : List Float}
-    → Coloured searchLimit (ofBits binary64 0x3f84_7ae1_47ae_147b) kinds ratios value₀ value work₀ work scratch₀ scratch
-    → Coloured searchLimit baseTolerance kinds ratios value₀ value work₀ work scratch₀ scratch
-at-base {kinds} {ratios} {value₀} {value} {work₀} {work} {scratch₀} {scratch} x =
-    subst (λ (t : Float). Coloured searchLimit t kinds ratios value₀ value work₀ work scratch₀ scratch) tolerance-is x
-
 -- ---- what the tests that were run say of the definition's verdict
-module _ (c : Chart) (m : Memory) where
+module _ (s : Settings) (c : Chart) (m : Memory) where
   abbrev pub judged : Verdict
   judged = verdict c (beside (size c) m)
 
@@ -65,9 +54,9 @@ module _ (c : Chart) (m : Memory) where
   unfolding beside
   judged-is b e f g = verdict-is c (e ∙ ap (λ (x : Bool). shortRefusal x (size c) (length (m .work)) (length (m .scratch))) (short-last (size c) (length (m .value)))) f g
 
-  pub chart-room : judged ≡ Accepted → ChartRoom (size c) searchLimit (c .ratios) (m .value) (m .work) (m .scratch)
+  pub chart-room : Permitted s → judged ≡ Accepted → ChartRoom (size c) (s .limit) (c .ratios) (m .value) (m .work) (m .scratch)
   unfolding beside
-  chart-room h =
+  chart-room p h =
       let g = accepted-good c (beside (size c) m) h in
       let r = roomy _ (size c) _ _ (g .room) in
       let v = long-enough (size c) _ _ (r .answered) in
@@ -80,33 +69,33 @@ module _ (c : Chart) (m : Memory) where
       }
 
   -- the memory that the passes leave is the definition's
-  pub filled-is : (value scratch : List Float) (work : List ℕ) → Coloured searchLimit baseTolerance (c .kinds) (c .ratios) (m .value) value (m .work) work (m .scratch) scratch
-      → _≡_ {A = Memory} (record { value = value; work = work; scratch = scratch }) (filled c m)
+  pub filled-is : (value scratch : List Float) (work : List ℕ) → Coloured (s .limit) (s .tolerance) (c .kinds) (c .ratios) (m .value) value (m .work) work (m .scratch) scratch
+      → _≡_ {A = Memory} (record { value = value; work = work; scratch = scratch }) (filled s c m)
   unfolding filled valuesOf
   filled-is value scratch work e t = record { value = e .values t; work = e .cleared t; scratch = e .floats t }
 
   pub colour-refused : (number : ℕ) (place : ObjectIndex) → judged ≡ Refused number place
-      → _≡_ {A = Outcome Colouring} (record { answer = colouring.Refused number place; memory = m }) (colourOutcome c m)
+      → _≡_ {A = Outcome Colouring} (record { answer = colouring.Refused number place; memory = m }) (colourOutcome s c m)
   unfolding colourOutcome colourBy
-  colour-refused number place h = sym (ap (λ (v : Verdict). colourBy v c m) h)
+  colour-refused number place h = sym (ap (λ (v : Verdict). colourBy v s c m) h)
 
-  pub colour-done : (new : Memory) → judged ≡ Accepted → new ≡ filled c m → _≡_ {A = Outcome Colouring} (record { answer = colouring.Done; memory = new }) (colourOutcome c m)
+  pub colour-done : (new : Memory) → judged ≡ Accepted → new ≡ filled s c m → _≡_ {A = Outcome Colouring} (record { answer = colouring.Done; memory = new }) (colourOutcome s c m)
   unfolding colourOutcome colourBy
-  colour-done new h f = (λ t. record { answer = colouring.Done; memory = f t }) ∙ sym (ap (λ (v : Verdict). colourBy v c m) h)
+  colour-done new h f = (λ t. record { answer = colouring.Done; memory = f t }) ∙ sym (ap (λ (v : Verdict). colourBy v s c m) h)
 
   module _ (a b : ℕ) where
     -- the same, with what `with_bounds` answered
-    pub stretch-is : (s : ℕ) {u v w : Verdict} → s ≡ shortRefusal (ltb (length (m .value)) (size c)) (size c) (length (m .work)) (length (m .scratch)) → u ≡ verdict c s
+    pub stretch-is : (n : ℕ) {u v w : Verdict} → n ≡ shortRefusal (ltb (length (m .value)) (size c)) (size c) (length (m .work)) (length (m .scratch)) → u ≡ verdict c n
         → v ≡ stretchVerdict u (size c) a b → v ≡ w → stretchVerdict judged (size c) a b ≡ w
-    stretch-is s e f g h = ap (λ (x : Verdict). stretchVerdict x (size c) a b) (judged-is s e f refl) ∙ sym g ∙ h
+    stretch-is n e f g h = ap (λ (x : Verdict). stretchVerdict x (size c) a b) (judged-is n e f refl) ∙ sym g ∙ h
 
     pub stretch-refused : (number : ℕ) (place : ObjectIndex) → stretchVerdict judged (size c) a b ≡ Refused number place
-        → _≡_ {A = Outcome Stretching} (record { answer = stretching.Refused number place; memory = m }) (stretchOutcome c a b m)
+        → _≡_ {A = Outcome Stretching} (record { answer = stretching.Refused number place; memory = m }) (stretchOutcome s c a b m)
     unfolding stretchOutcome stretchBy
-    stretch-refused number place h = sym (ap (λ (v : Verdict). stretchBy v c a b m) h)
+    stretch-refused number place h = sym (ap (λ (v : Verdict). stretchBy v s c a b m) h)
 
-    pub stretch-done : (mean : Float) (tenths : ℤ) (new : Memory) → stretchVerdict judged (size c) a b ≡ Accepted → mean ≡ meanOf (valuesOf c) a b → tenths ≡ meanTenths (valuesOf c) a b
-        → new ≡ filled c m → _≡_ {A = Outcome Stretching} (record { answer = stretching.Done mean tenths; memory = new }) (stretchOutcome c a b m)
+    pub stretch-done : (mean : Float) (tenths : ℤ) (new : Memory) → stretchVerdict judged (size c) a b ≡ Accepted → mean ≡ meanOf (valuesOf s c) a b → tenths ≡ meanTenths (valuesOf s c) a b
+        → new ≡ filled s c m → _≡_ {A = Outcome Stretching} (record { answer = stretching.Done mean tenths; memory = new }) (stretchOutcome s c a b m)
     unfolding stretchOutcome stretchBy
     stretch-done mean tenths new h e f g =
-        (λ t. record { answer = stretching.Done (e t) (f t); memory = g t }) ∙ sym (ap (λ (v : Verdict). stretchBy v c a b m) h)
+        (λ t. record { answer = stretching.Done (e t) (f t); memory = g t }) ∙ sym (ap (λ (v : Verdict). stretchBy v s c a b m) h)

@@ -12,9 +12,9 @@ use Rattle.numeric.specs.Tenths.{InTenthsRange}
 use Rattle.grouping_marks.specs.Over.{over, part}
 use Rattle.grouping_marks.proofs.OverLaws.{length-over, front, length-part, getD-part, lent-part}
 use Rattle.grouping_chart.specs.Chart.{Chart, size}
-use Rattle.grouping_encode.specs.Encode.{searchLimit}
+use Rattle.grouping_chart.specs.Settings.{Settings, Permitted}
 use Rattle.evaluator_calls.specs.Stretch.{sumFrom, meanOf}
-use Rattle.evaluator_calls.specs.Calls.{Memory, baseTolerance, beside, valuesOf}
+use Rattle.evaluator_calls.specs.Calls.{Memory, beside, valuesOf}
 use Rattle.evaluator_calls.specs.Passes.{Coloured}
 use Rattle.evaluator_calls.proofs.CallsLaws.{Within, judged, chart-room}
 use Rattle.evaluator_calls.proofs.BoundLaws.{length-valuesOf, mean-tenths}
@@ -31,20 +31,20 @@ part-over a n new old h r =
     (λ i k. let j : i < n = omega arith in getD-part a n (over new old) i nan j ∙ getD-over new old (a + i) (omega arith) ∙ sym (getD-part a n new i nan j))
 
 -- ---- an accepted stretch, after the values are filled
-module _ (c : Chart) (m : Memory) (a b : ℕ) (w : Within (judged c m) (size c) a b) (value scratch : List Float) (work : List ℕ)
-    (e : Coloured searchLimit baseTolerance (c .kinds) (c .ratios) (m .value) value (m .work) work (m .scratch) scratch) where
+module _ (s : Settings) (p : Permitted s) (c : Chart) (m : Memory) (a b : ℕ) (w : Within (judged s c m) (size c) a b) (value scratch : List Float) (work : List ℕ)
+    (e : Coloured (s .limit) (s .tolerance) (c .kinds) (c .ratios) (m .value) value (m .work) work (m .scratch) scratch) where
   abbrev values : List Float
-  values = valuesOf c
+  values = valuesOf s c
 
   long : length values ≡ size c
-  long = length-valuesOf c (beside (size c) m) (w .accepted)
+  long = length-valuesOf s c (beside (size c) m) (w .accepted)
 
   filled-value : value ≡ over values (m .value)
   unfolding valuesOf
   filled-value = e .values
 
   room : length values ≤ length (m .value)
-  room = omega (arith, long, chart-room c m (w .accepted) .values .room)
+  room = omega (arith, long, chart-room s c m p (w .accepted) .values .room)
 
   lent-is : take (b - a) (drop a value) ≡ part a (b - a) values
   lent-is =
@@ -56,7 +56,7 @@ module _ (c : Chart) (m : Memory) (a b : ℕ) (w : Within (judged c m) (size c) 
   lent-length = ap length lent-is ∙ length-part a (b - a) values (omega (arith, w, long))
 
   pub lent-few : length (take (b - a) (drop a value)) ≤ 16384
-  lent-few = omega (arith, lent-length, w, chart-room c m (w .accepted) .regions)
+  lent-few = omega (arith, lent-length, w, chart-room s c m p (w .accepted) .regions)
 
   pub end-inside : b ≤ length value
   end-inside = omega (arith, w, long, room, ap length filled-value, length-over values (m .value) room)
@@ -66,4 +66,4 @@ module _ (c : Chart) (m : Memory) (a b : ℕ) (w : Within (judged c m) (size c) 
   mean-is mean h = h ∙ (λ t. div binary64 (sumFrom zero (lent-is t)) (ofInt binary64 (pos (lent-length t))))
 
   pub mean-in-range : (mean : Float) → mean ≡ div binary64 (sumFrom zero (take (b - a) (drop a value))) (ofInt binary64 (pos (length (take (b - a) (drop a value))))) → InTenthsRange mean
-  mean-in-range mean h = subst InTenthsRange (sym (mean-is mean h)) (mean-tenths c (beside (size c) m) (w .accepted) a b (w .some) (w .inside))
+  mean-in-range mean h = subst InTenthsRange (sym (mean-is mean h)) (mean-tenths s c (beside (size c) m) (w .accepted) a b (w .some) (w .inside))

@@ -1,6 +1,7 @@
 // The calls colour and stretch: one f64 an object, and the mean of a stretch of them.
 ghost use mathlib.Core.Path.{_≡_};
 ghost use lib.ListN.{length};
+ghost use Rattle.grouping_chart.specs.Settings.{baseSettings};
 ghost use Rattle.evaluator_calls.specs.Calls.{Outcome, colourOutcome, stretchOutcome};
 ghost use Rattle.evaluator_calls.specs.Passes.{ChartRoom, Coloured};
 ghost use Rattle.evaluator_calls.specs.declared.Colouring.{Colouring};
@@ -8,6 +9,8 @@ ghost use Rattle.evaluator_calls.specs.declared.Stretching.{Stretching};
 use grouping_chart::chart::Verdict;
 use grouping_chart::object::ObjectIndex;
 use grouping_chart::room::short_refusal;
+use grouping_chart::settings::SEARCH_LIMIT;
+use grouping_chart::settings::TOLERANCE;
 use grouping_marks::fill;
 
 pub mod mean;
@@ -57,7 +60,7 @@ pub fn colour(
 ) -> Colouring
     ensures { λ r. ⌜ _≡_ {A = Outcome Colouring}
         (record { answer = r; memory = record { value = now (value .exit); work = now (work .exit); scratch = now (scratch .exit) } })
-        (colourOutcome (record { kinds = now (kind .entry); starts = now (start .entry); deltas = now (delta .entry); ratios = now (ratio .entry) })
+        (colourOutcome baseSettings (record { kinds = now (kind .entry); starts = now (start .entry); deltas = now (delta .entry); ratios = now (ratio .entry) })
         (record { value = now (value .entry); work = now (work .entry); scratch = now (scratch .entry) })) ⌝ }
 {
     let n = kind.len();
@@ -65,7 +68,7 @@ pub fn colour(
     match grouping_chart::chart::check(kind, start, delta, ratio, beside) {
         Verdict::Refused(number, place) => Colouring::Refused(number, place),
         Verdict::Accepted => {
-            fill_chart(kind, ratio, 16, 0.01, value, work, scratch);
+            fill_chart(kind, ratio, SEARCH_LIMIT, TOLERANCE, value, work, scratch);
             Colouring::Done
         }
     }
@@ -84,7 +87,7 @@ pub fn stretch(
 ) -> Stretching
     ensures { λ r. ⌜ _≡_ {A = Outcome Stretching}
         (record { answer = r; memory = record { value = now (value .exit); work = now (work .exit); scratch = now (scratch .exit) } })
-        (stretchOutcome (record { kinds = now (kind .entry); starts = now (start .entry); deltas = now (delta .entry); ratios = now (ratio .entry) }) a b
+        (stretchOutcome baseSettings (record { kinds = now (kind .entry); starts = now (start .entry); deltas = now (delta .entry); ratios = now (ratio .entry) }) a b
         (record { value = now (value .entry); work = now (work .entry); scratch = now (scratch .entry) })) ⌝ }
 {
     let n = kind.len();
@@ -93,7 +96,7 @@ pub fn stretch(
     match mean::with_bounds(verdict, n, a, b) {
         Verdict::Refused(number, place) => Stretching::Refused(number, place),
         Verdict::Accepted => {
-            fill_chart(kind, ratio, 16, 0.01, value, work, scratch);
+            fill_chart(kind, ratio, SEARCH_LIMIT, TOLERANCE, value, work, scratch);
             let mean = mean::mean(&value[a..b]);
             Stretching::Done(mean, numeric::tenths::tenths(mean))
         }

@@ -14,6 +14,7 @@ use Rattle.numeric.proofs.Values.{finite-between}
 use Rattle.grouping_chart.specs.Chart.{Chart, size}
 use Rattle.grouping_chart.specs.Refusal.{timeGood, verdict, refused}
 use Rattle.grouping_chart.specs.Room.{shortRefusal}
+use Rattle.grouping_chart.specs.Settings.{Settings}
 use Rattle.grouping_chart.specs.declared.object.ObjectIndex.{ObjectIndex}
 use Rattle.grouping_chart.specs.declared.chart.Verdict.{Verdict}
 use Rattle.grouping_chart.specs.declared.chart.Verdict.the-variants.{Accepted, Refused}
@@ -21,12 +22,11 @@ use Rattle.grouping_chart.proofs.AcceptedLaws.{accepted-good}
 use Rattle.grouping_chart.proofs.RangeLaws.{time-range}
 use Rattle.grouping_chart.proofs.RefusalLaws.{verdict-is}
 use Rattle.grouping_chart.proofs.RoomLaws.{roomy, none-asked}
-use Rattle.grouping_rhythm.specs.Rhythm.{baseMargin, groupsIn}
+use Rattle.grouping_rhythm.specs.Rhythm.{groupsIn}
 use Rattle.evaluator_record.specs.declared.GroupRecord.{GroupRecord}
 use Rattle.evaluator_record.specs.declared.Recording.the-variants.{Done}
 use Rattle.evaluator_record.specs.declared.Recording.the-variants as answer
-use Rattle.evaluator_record.specs.Record.{recordOf}
-use Rattle.evaluator_record.specs.Calls.{Memory, Outcome, baseThreshold, beside, windowGood, recordVerdict, cleared, recordBy, recordOutcome}
+use Rattle.evaluator_record.specs.Calls.{Memory, Outcome, beside, windowGood, recordVerdict, cleared, recordBy, recordOutcome}
 use Rattle.evaluator_record.specs.Passes.{GroupRoom, Recorded}
 
 -- ---- a time in range is finite
@@ -36,11 +36,11 @@ finite-time x t =
     finite-between (fin true 1 (pos 24)) x (fin false 1 (pos 24)) tt tt (b .0) (b .1)
 
 -- how many groups a chart has
-abbrev pub groupsOf : Chart → ℕ
-groupsOf c = groupsIn baseMargin (c .kinds) (c .deltas)
+abbrev pub groupsOf : Settings → Chart → ℕ
+groupsOf s c = groupsIn (s .margin) (c .kinds) (c .deltas)
 
 -- ---- what the tests that were run say of the definition's verdict
-module _ (c : Chart) (m : Memory) where
+module _ (s : Settings) (c : Chart) (m : Memory) where
   -- the verdict on the chart
   abbrev pub judged : Verdict
   judged = verdict c (beside (size c) m)
@@ -53,10 +53,10 @@ module _ (c : Chart) (m : Memory) where
   pub lengths-same : judged ≡ Accepted → length (c .deltas) ≡ length (c .kinds)
   lengths-same h = accepted-good c (beside (size c) m) h .lengths .delta
 
-  pub group-room : (margin : Float) (g : ℕ) → judged ≡ Accepted → g < groupsOf c → margin ≡ baseMargin
-      → GroupRoom margin (c .kinds) (c .starts) (c .deltas) g (m .work) (m .scratch)
+  pub group-room : (g : ℕ) → judged ≡ Accepted → g < groupsOf s c
+      → GroupRoom (s .margin) (c .kinds) (c .starts) (c .deltas) g (m .work) (m .scratch)
   unfolding beside
-  group-room margin g h there b =
+  group-room g h there =
       let good = accepted-good c (beside (size c) m) h in
       let e = roomy _ (size c) _ _ (good .room) in
       record {
@@ -64,44 +64,42 @@ module _ (c : Chart) (m : Memory) where
         started = good .lengths .start;
         whole = good .lengths .delta;
         numbers = λ i k. finite-time (getD (c .deltas) i nan) (good .objects i nan (omega (arith, good .lengths .delta)) .delta);
-        there = omega (arith, there, ap (λ (x : Float). groupsIn x (c .kinds) (c .deltas)) b);
+        there = there;
         regions = e .regions;
         floats = e .floats;
       }
 
   -- ---- each case leaves its outcome
   module _ (g : ℕ) (window : Float) where
-    refused-by : (number : ℕ) (place : ObjectIndex) → recordVerdict judged window g (groupsOf c) ≡ Refused number place
-        → _≡_ {A = Outcome} (record { answer = answer.Refused number place; memory = m }) (recordOutcome c g window m)
+    refused-by : (number : ℕ) (place : ObjectIndex) → recordVerdict judged window g (groupsOf s c) ≡ Refused number place
+        → _≡_ {A = Outcome} (record { answer = answer.Refused number place; memory = m }) (recordOutcome s c g window m)
     unfolding recordOutcome recordBy
-    refused-by number place h = sym (ap (λ (v : Verdict). recordBy v c g window m) h)
+    refused-by number place h = sym (ap (λ (v : Verdict). recordBy v s c g window m) h)
 
     -- the chart is refused
     pub chart-refused : (number : ℕ) (place : ObjectIndex) → judged ≡ Refused number place
-        → _≡_ {A = Outcome} (record { answer = answer.Refused number place; memory = m }) (recordOutcome c g window m)
+        → _≡_ {A = Outcome} (record { answer = answer.Refused number place; memory = m }) (recordOutcome s c g window m)
     unfolding recordVerdict
-    chart-refused number place h = refused-by number place (ap (λ (v : Verdict). recordVerdict v window g (groupsOf c)) h)
+    chart-refused number place h = refused-by number place (ap (λ (v : Verdict). recordVerdict v window g (groupsOf s c)) h)
 
     -- the chart is accepted, and the window and the group number are tested
     module _ (accepted : judged ≡ Accepted) where
-      tested : (a b : Bool) → windowGood window ≡ a → ltb g (groupsOf c) ≡ b → recordVerdict judged window g (groupsOf c) ≡ cond a (cond b Accepted (refused 9)) (refused 8)
+      tested : (a b : Bool) → windowGood window ≡ a → ltb g (groupsOf s c) ≡ b → recordVerdict judged window g (groupsOf s c) ≡ cond a (cond b Accepted (refused 9)) (refused 8)
       unfolding recordVerdict
       tested a b p q =
-          ap (λ (v : Verdict). recordVerdict v window g (groupsOf c)) accepted ∙ (λ t. cond (p t) (cond (q t) Accepted (refused 9)) (refused 8))
+          ap (λ (v : Verdict). recordVerdict v window g (groupsOf s c)) accepted ∙ (λ t. cond (p t) (cond (q t) Accepted (refused 9)) (refused 8))
 
-      pub window-refused : windowGood window ≡ false → _≡_ {A = Outcome} (record { answer = answer.Refused 8 (record { 0 = 0 }); memory = m }) (recordOutcome c g window m)
+      pub window-refused : windowGood window ≡ false → _≡_ {A = Outcome} (record { answer = answer.Refused 8 (record { 0 = 0 }); memory = m }) (recordOutcome s c g window m)
       window-refused h = refused-by 8 (record { 0 = 0 }) (tested false _ h refl)
 
-      pub group-refused : windowGood window ≡ true → groupsOf c ≤ g
-          → _≡_ {A = Outcome} (record { answer = answer.Refused 9 (record { 0 = 0 }); memory = m }) (recordOutcome c g window m)
+      pub group-refused : windowGood window ≡ true → groupsOf s c ≤ g
+          → _≡_ {A = Outcome} (record { answer = answer.Refused 9 (record { 0 = 0 }); memory = m }) (recordOutcome s c g window m)
       group-refused h k = refused-by 9 (record { 0 = 0 }) (tested true false h (le-ltb _ _ k))
 
-      pub record-done : windowGood window ≡ true → g < groupsOf c → (margin threshold : Float) (r : GroupRecord) (work : List ℕ) (scratch : List Float)
-          → Recorded margin threshold (c .kinds) (c .starts) (c .deltas) g window (m .work) work (m .scratch) scratch r
-          → margin ≡ baseMargin → threshold ≡ baseThreshold
-          → _≡_ {A = Outcome} (record { answer = Done r; memory = record { work = work; scratch = scratch } }) (recordOutcome c g window m)
+      pub record-done : windowGood window ≡ true → g < groupsOf s c → (r : GroupRecord) (work : List ℕ) (scratch : List Float)
+          → Recorded (s .margin) (s .threshold) (c .kinds) (c .starts) (c .deltas) g window (m .work) work (m .scratch) scratch r
+          → _≡_ {A = Outcome} (record { answer = Done r; memory = record { work = work; scratch = scratch } }) (recordOutcome s c g window m)
       unfolding recordOutcome recordBy cleared
-      record-done h k margin threshold r work scratch x b e =
-          let answers = x .answer ∙ (λ t. recordOf (b t) (e t) window (c .kinds) (c .starts) (c .deltas) g) in
-          (λ t. record { answer = Done (answers t); memory = record { work = x .work-cleared t; scratch = x .scratch-cleared t } })
-          ∙ sym (ap (λ (v : Verdict). recordBy v c g window m) (tested true true h (lt-ltb _ _ k)))
+      record-done h k r work scratch x =
+          (λ t. record { answer = Done (x .answer t); memory = record { work = x .work-cleared t; scratch = x .scratch-cleared t } })
+          ∙ sym (ap (λ (v : Verdict). recordBy v s c g window m) (tested true true h (lt-ltb _ _ k)))

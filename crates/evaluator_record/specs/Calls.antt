@@ -5,15 +5,16 @@ use mathlib.Core.List.{List, []}
 use lib.Dec.{ltb}
 use lib.IntN.{pos}
 use lib.ListN.{length, replicate}
-use lib.Ieee.{Float, fin, binary64, ofBits, round}
+use lib.Ieee.{Float, fin, binary64, ofBits}
 use Rattle.numeric.specs.Constants.{one}
 use Rattle.grouping_marks.specs.Over.{over}
 use Rattle.grouping_chart.specs.Chart.{Chart, size}
 use Rattle.grouping_chart.specs.Refusal.{within, verdict, refused}
 use Rattle.grouping_chart.specs.Room.{anyShort, shortRefusal}
+use Rattle.grouping_chart.specs.Settings.{Settings}
 use Rattle.grouping_chart.specs.declared.chart.Verdict.{Verdict}
 use Rattle.grouping_chart.specs.declared.chart.Verdict.the-variants.{Accepted, Refused}
-use Rattle.grouping_rhythm.specs.Rhythm.{baseMargin, groupsIn}
+use Rattle.grouping_rhythm.specs.Rhythm.{groupsIn}
 use Rattle.evaluator_record.specs.Record.{recordOf}
 use Rattle.evaluator_record.specs.declared.Recording.{Recording}
 use Rattle.evaluator_record.specs.declared.Recording.the-variants.{Done}
@@ -27,10 +28,6 @@ pub record Memory : Type 0 where
 pub record Outcome : Type 0 where
   pub answer : Recording
   pub memory : Memory
-
--- the penalty threshold of the base: 0.1, the f64 nearest to 1 / 10
-unfoldable pub baseThreshold : Float
-baseThreshold = round binary64 false 1 10
 
 -- the number of what is refused beside the chart, or 0; there are no answer slices
 unfoldable pub beside : ℕ → Memory → ℕ
@@ -53,11 +50,11 @@ cleared n m = record {
 }
 
 -- a refusal leaves all as lent
-unfoldable pub recordBy : Verdict → Chart → ℕ → Float → Memory → Outcome
-recordBy Accepted c g window m =
-    record { answer = Done (recordOf baseMargin baseThreshold window (c .kinds) (c .starts) (c .deltas) g); memory = cleared (size c) m }
-recordBy (Refused number place) c g window m = record { answer = answer.Refused number place; memory = m }
+unfoldable pub recordBy : Verdict → Settings → Chart → ℕ → Float → Memory → Outcome
+recordBy Accepted s c g window m =
+    record { answer = Done (recordOf (s .margin) (s .threshold) window (c .kinds) (c .starts) (c .deltas) g); memory = cleared (size c) m }
+recordBy (Refused number place) s c g window m = record { answer = answer.Refused number place; memory = m }
 
-unfoldable pub recordOutcome : Chart → ℕ → Float → Memory → Outcome
-recordOutcome c g window m =
-    recordBy (recordVerdict (verdict c (beside (size c) m)) window g (groupsIn baseMargin (c .kinds) (c .deltas))) c g window m
+unfoldable pub recordOutcome : Settings → Chart → ℕ → Float → Memory → Outcome
+recordOutcome s c g window m =
+    recordBy (recordVerdict (verdict c (beside (size c) m)) window g (groupsIn (s .margin) (c .kinds) (c .deltas))) s c g window m

@@ -1,11 +1,14 @@
 // The call record: what is said of one rhythm group.
 ghost use mathlib.Core.Path.{_≡_};
+ghost use Rattle.grouping_chart.specs.Settings.{baseSettings};
 ghost use Rattle.evaluator_record.specs.Calls.{Outcome, windowGood, recordOutcome};
 ghost use Rattle.evaluator_record.specs.Passes.{GroupRoom, Recorded};
 use evaluator_rhythm::repeated_interval_penalty;
 use grouping_chart::chart::Verdict;
 use grouping_chart::object::ObjectIndex;
 use grouping_chart::room::short_refusal;
+use grouping_chart::settings::MARGIN;
+use grouping_chart::settings::THRESHOLD;
 use grouping_marks::fill;
 use grouping_same_rhythm::own::Own;
 use numeric::canonical::canonical;
@@ -89,7 +92,7 @@ pub fn record(
 ) -> Recording
     ensures { λ r. ⌜ _≡_ {A = Outcome}
         (record { answer = r; memory = record { work = now (work .exit); scratch = now (scratch .exit) } })
-        (recordOutcome (record { kinds = now (kind .entry); starts = now (start .entry); deltas = now (delta .entry); ratios = now (ratio .entry) }) g window
+        (recordOutcome baseSettings (record { kinds = now (kind .entry); starts = now (start .entry); deltas = now (delta .entry); ratios = now (ratio .entry) }) g window
         (record { work = now (work .entry); scratch = now (scratch .entry) })) ⌝ }
 {
     let beside = short_refusal(false, kind.len(), work.len(), scratch.len());
@@ -99,11 +102,11 @@ pub fn record(
             if !window_good(window) {
                 return Recording::Refused(8, ObjectIndex(0));
             }
-            // 5.0 and 0.1 are the margin and the penalty threshold of the base
-            if grouping_notes::count_groups(kind, delta, 5.0) <= g {
+            if grouping_notes::count_groups(kind, delta, MARGIN) <= g {
                 return Recording::Refused(9, ObjectIndex(0));
             }
-            let r = make_record(kind, start, delta, 5.0, 0.1, g, window, work, scratch);
+            let t = THRESHOLD;
+            let r = make_record(kind, start, delta, MARGIN, t, g, window, work, scratch);
             Recording::Done(r)
         }
     }

@@ -1,13 +1,13 @@
 -- What an example asks, and what the definitions that the promises cite answer, as lists of numbers: an f64 as its bits.
 use Prim.Native.Nat.{ℕ, _+_, _*_}
-use mathlib.Core.Bool.{false}
 use mathlib.Core.List.{List, [], _∷_, map}
 use lib.IntN.{pos}
 use lib.ListN.{length, replicate}
-use lib.Ieee.{Float, fin, binary64, round, ofInt, toBits}
+use lib.Ieee.{Float, binary64, ofInt, toBits}
 use Rattle.numeric.specs.RoundTiesEven.{roundTiesEven}
 use Rattle.grouping_marks.specs.Marks.{groupNumbers}
 use Rattle.grouping_chart.specs.Chart.{Chart}
+use Rattle.grouping_chart.specs.Settings.{baseSettings}
 use Rattle.grouping_encode.specs.Encode as encode
 use Rattle.grouping_encode.specs.declared.Encoding.{Encoding}
 use Rattle.grouping_encode.specs.declared.Encoding.the-variants as encoding
@@ -79,21 +79,13 @@ encodeShown o =
 unfoldable pub colourShown : calls.Outcome Colouring → List (List ℕ)
 colourShown o = colourAnswer (o .answer) ∷ bitsOf (o .memory .value) ∷ o .memory .work ∷ bitsOf (o .memory .scratch) ∷ []
 
--- the margin 5.0
-unfoldable pub margin : Float
-margin = fin false 5 (pos 0)
-
--- the threshold 0.1, the f64 nearest to 1 / 10
-unfoldable pub threshold : Float
-threshold = round binary64 false 1 10
-
 unfoldable pub millis : ℕ → Own
 millis n = Millis (whole n)
 
 unfoldable pub answer : Question → List (List ℕ)
-answer (encoded kinds) = encodeShown (encode.encodeOutcome (chart kinds) (encodeMemory (length kinds)))
-answer (coloured kinds) = colourShown (calls.colourOutcome (chart kinds) (colourMemory (length kinds)))
-answer (grouped deltas) = groupNumbers (intervalMarks margin (map whole deltas)) ∷ []
-answer (normal deltas) = bitsOf (normalized margin (map whole deltas)) ∷ []
-answer (wholes deltas) = bitsOf (map roundTiesEven (normalized margin (map whole deltas))) ∷ []
-answer (walked owns) = bitsOf (walkPenalty threshold 3 (map millis owns) ∷ []) ∷ []
+answer (encoded kinds) = encodeShown (encode.encodeOutcome baseSettings (chart kinds) (encodeMemory (length kinds)))
+answer (coloured kinds) = colourShown (calls.colourOutcome baseSettings (chart kinds) (colourMemory (length kinds)))
+answer (grouped deltas) = groupNumbers (intervalMarks (baseSettings .margin) (map whole deltas)) ∷ []
+answer (normal deltas) = bitsOf (normalized (baseSettings .margin) (map whole deltas)) ∷ []
+answer (wholes deltas) = bitsOf (map roundTiesEven (normalized (baseSettings .margin) (map whole deltas))) ∷ []
+answer (walked owns) = bitsOf (walkPenalty (baseSettings .threshold) 3 (map millis owns) ∷ []) ∷ []

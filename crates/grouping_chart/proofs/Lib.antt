@@ -6,6 +6,7 @@ pub mod ObjectLaws
 pub mod NoteLaws
 pub mod SeenLaws
 pub mod RangeLaws
+pub mod BaseLaws
 pub mod CutLaws
 mod AllLaws
 mod Examples

@@ -4,4 +4,5 @@ pub mod Notes
 pub mod Chart
 pub mod Refusal
 pub mod Room
+pub mod Settings
 pub mod Passes

@@ -3,3 +3,4 @@ pub mod chart;
 pub mod good;
 pub mod object;
 pub mod room;
+pub mod settings;

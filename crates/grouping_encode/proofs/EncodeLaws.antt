@@ -10,6 +10,7 @@ use Rattle.grouping_marks.specs.Over.{over}
 use Rattle.grouping_chart.specs.Chart.{Chart, size}
 use Rattle.grouping_chart.specs.Refusal.{verdict}
 use Rattle.grouping_chart.specs.Room.{anyShort, shortRefusal}
+use Rattle.grouping_chart.specs.Settings.{Settings, Permitted}
 use Rattle.grouping_chart.specs.declared.object.ObjectIndex.{ObjectIndex}
 use Rattle.grouping_chart.specs.declared.chart.Verdict.{Verdict}
 use Rattle.grouping_chart.specs.declared.chart.Verdict.the-variants.{Accepted, Refused}
@@ -18,7 +19,7 @@ use Rattle.grouping_chart.proofs.RefusalLaws.{verdict-is}
 use Rattle.grouping_chart.proofs.RoomLaws.{roomy, long-enough}
 use Rattle.grouping_color.specs.Preprocessor.{hitCount}
 use Rattle.grouping_encode.specs.declared.Encoding.the-variants as answer
-use Rattle.grouping_encode.specs.Encode.{Memory, Outcome, searchLimit, places, beside, filled, outcomeBy, encodeOutcome}
+use Rattle.grouping_encode.specs.Encode.{Memory, Outcome, places, beside, filled, outcomeBy, encodeOutcome}
 use Rattle.grouping_encode.specs.Passes.{AnswerRoom, Encoded}
 
 -- ---- no slice is too short
@@ -62,24 +63,26 @@ module _ (c : Chart) (m : Memory) where
   unfolding beside
   judged s b e f g h = verdict-is c (f ∙ ap (λ (x : Bool). shortRefusal x (size c) (length (m .work)) (length (m .scratch))) e) g h
 
-  pub refused-outcome : (number : ℕ) (place : ObjectIndex) → verdict c (beside (size c) m) ≡ Refused number place
-      → _≡_ {A = Outcome} (record { answer = answer.Refused number place; memory = m }) (encodeOutcome c m)
-  unfolding encodeOutcome outcomeBy
-  refused-outcome number place h = sym (ap (λ (v : Verdict). outcomeBy v (c .kinds) m) h)
-
-  pub done-outcome : (count : ℕ) (new : Memory) → verdict c (beside (size c) m) ≡ Accepted → count ≡ hitCount (c .kinds) → new ≡ filled (c .kinds) m
-      → _≡_ {A = Outcome} (record { answer = answer.Done count; memory = new }) (encodeOutcome c m)
-  unfolding encodeOutcome outcomeBy
-  done-outcome count new h e f =
-      (λ t. record { answer = answer.Done (e t); memory = f t }) ∙ sym (ap (λ (v : Verdict). outcomeBy v (c .kinds) m) h)
-
   pub has-room : verdict c (beside (size c) m) ≡ Accepted → Enough (size c) m
   has-room h = enough (size c) m (accepted-good c (beside (size c) m) h .room)
 
-  pub answer-room : verdict c (beside (size c) m) ≡ Accepted
-      → AnswerRoom (size c) searchLimit (m .streak) (m .streakPlace) (m .pattern) (m .patternPlace) (m .hit) (m .interval) (m .work)
-  answer-room h =
-      let r = has-room h in
+-- ---- each case leaves its outcome
+module _ (s : Settings) (c : Chart) (m : Memory) where
+  pub refused-outcome : (number : ℕ) (place : ObjectIndex) → verdict c (beside (size c) m) ≡ Refused number place
+      → _≡_ {A = Outcome} (record { answer = answer.Refused number place; memory = m }) (encodeOutcome s c m)
+  unfolding encodeOutcome outcomeBy
+  refused-outcome number place h = sym (ap (λ (v : Verdict). outcomeBy v s (c .kinds) m) h)
+
+  pub done-outcome : (count : ℕ) (new : Memory) → verdict c (beside (size c) m) ≡ Accepted → count ≡ hitCount (c .kinds) → new ≡ filled s (c .kinds) m
+      → _≡_ {A = Outcome} (record { answer = answer.Done count; memory = new }) (encodeOutcome s c m)
+  unfolding encodeOutcome outcomeBy
+  done-outcome count new h e f =
+      (λ t. record { answer = answer.Done (e t); memory = f t }) ∙ sym (ap (λ (v : Verdict). outcomeBy v s (c .kinds) m) h)
+
+  pub answer-room : Permitted s → verdict c (beside (size c) m) ≡ Accepted
+      → AnswerRoom (size c) (s .limit) (m .streak) (m .streakPlace) (m .pattern) (m .patternPlace) (m .hit) (m .interval) (m .work)
+  answer-room p h =
+      let r = has-room c m h in
       record {
         few = accepted-good c (beside (size c) m) h .few;
         streak-room = r .streak;
@@ -94,12 +97,12 @@ module _ (c : Chart) (m : Memory) where
       }
 
 -- the memory that the passes leave is the definition's
-pub filled-is : (kinds : List ℕ) (m : Memory) (streak place pattern outer hit interval work : List ℕ) (scratch : List Float) (count : ℕ)
-    → Encoded searchLimit kinds (m .streak) streak (m .streakPlace) place (m .pattern) pattern (m .patternPlace) outer (m .hit) hit (m .interval) interval (m .work) work count
+pub filled-is : (s : Settings) (kinds : List ℕ) (m : Memory) (streak place pattern outer hit interval work : List ℕ) (scratch : List Float) (count : ℕ)
+    → Encoded (s .limit) kinds (m .streak) streak (m .streakPlace) place (m .pattern) pattern (m .patternPlace) outer (m .hit) hit (m .interval) interval (m .work) work count
     → scratch ≡ over (replicate (length kinds) (ofBits binary64 0)) (m .scratch)
-    → _≡_ {A = Memory} (record { streak = streak; streakPlace = place; pattern = pattern; patternPlace = outer; hit = hit; interval = interval; work = work; scratch = scratch }) (filled kinds m)
+    → _≡_ {A = Memory} (record { streak = streak; streakPlace = place; pattern = pattern; patternPlace = outer; hit = hit; interval = interval; work = work; scratch = scratch }) (filled s kinds m)
 unfolding filled
-filled-is kinds m streak place pattern outer hit interval work scratch count e s t = record {
+filled-is s kinds m streak place pattern outer hit interval work scratch count e f t = record {
   streak = e .streaks t;
   streakPlace = e .streak-places t;
   pattern = e .patterns t;
@@ -107,5 +110,5 @@ filled-is kinds m streak place pattern outer hit interval work scratch count e s
   hit = e .hits t;
   interval = e .intervals t;
   work = e .cleared t;
-  scratch = s t;
+  scratch = f t;
 }

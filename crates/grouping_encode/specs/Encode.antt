@@ -7,6 +7,7 @@ use Rattle.grouping_marks.specs.Over.{over}
 use Rattle.grouping_chart.specs.Chart.{Chart, size}
 use Rattle.grouping_chart.specs.Refusal.{verdict}
 use Rattle.grouping_chart.specs.Room.{anyShort, shortRefusal}
+use Rattle.grouping_chart.specs.Settings.{Settings}
 use Rattle.grouping_chart.specs.declared.chart.Verdict.{Verdict}
 use Rattle.grouping_chart.specs.declared.chart.Verdict.the-variants.{Accepted, Refused}
 use Rattle.grouping_color.specs.MonoStreak.{streakOf}
@@ -30,10 +31,6 @@ pub record Outcome : Type 0 where
   pub answer : Encoding
   pub memory : Memory
 
--- the search limit of the base
-abbrev pub searchLimit : ℕ
-searchLimit = 16
-
 -- how many places the answer slices have
 abbrev pub places : Memory → List ℕ
 places m = length (m .streak) ∷ length (m .streakPlace) ∷ length (m .pattern) ∷ length (m .patternPlace) ∷ length (m .hit) ∷ length (m .interval) ∷ []
@@ -43,22 +40,22 @@ unfoldable pub beside : ℕ → Memory → ℕ
 beside n m = shortRefusal (anyShort n (places m)) n (length (m .work)) (length (m .scratch))
 
 -- the memory after an accepted call: the answers in the first n places, the first 8 n and n places of the work slices 0 and +0.0, old contents elsewhere
-unfoldable pub filled : List ℕ → Memory → Memory
-filled kinds m = record {
+unfoldable pub filled : Settings → List ℕ → Memory → Memory
+filled s kinds m = record {
   streak = over (streakOf kinds) (m .streak);
   streakPlace = over (streakPlaceOf kinds) (m .streakPlace);
   pattern = over (patternOf kinds) (m .pattern);
   patternPlace = over (patternPlaceOf kinds) (m .patternPlace);
   hit = over (hitOf kinds) (m .hit);
-  interval = over (intervalOf searchLimit kinds) (m .interval);
+  interval = over (intervalOf (s .limit) kinds) (m .interval);
   work = over (replicate (8 * length kinds) 0) (m .work);
   scratch = over (replicate (length kinds) (ofBits binary64 0)) (m .scratch);
 }
 
 -- a refusal leaves all as lent
-unfoldable pub outcomeBy : Verdict → List ℕ → Memory → Outcome
-outcomeBy Accepted kinds m = record { answer = Done (hitCount kinds); memory = filled kinds m }
-outcomeBy (Refused number place) kinds m = record { answer = answer.Refused number place; memory = m }
+unfoldable pub outcomeBy : Verdict → Settings → List ℕ → Memory → Outcome
+outcomeBy Accepted s kinds m = record { answer = Done (hitCount kinds); memory = filled s kinds m }
+outcomeBy (Refused number place) s kinds m = record { answer = answer.Refused number place; memory = m }
 
-unfoldable pub encodeOutcome : Chart → Memory → Outcome
-encodeOutcome c m = outcomeBy (verdict c (beside (size c) m)) (c .kinds) m
+unfoldable pub encodeOutcome : Settings → Chart → Memory → Outcome
+encodeOutcome s c m = outcomeBy (verdict c (beside (size c) m)) s (c .kinds) m

@@ -3,11 +3,13 @@ ghost use mathlib.Core.Path.{_≡_};
 ghost use mathlib.Core.List.{[], _∷_};
 ghost use lib.ListN.{length};
 ghost use Rattle.grouping_chart.specs.Room.{anyShort};
+ghost use Rattle.grouping_chart.specs.Settings.{baseSettings};
 ghost use Rattle.grouping_encode.specs.Encode.{Outcome, encodeOutcome};
 ghost use Rattle.grouping_encode.specs.Passes.{PatternsRoom, PatternsSpread, HitsRoom, HitsSpread, AnswerRoom, Encoded};
 use grouping_chart::chart::Verdict;
 use grouping_chart::object::ObjectIndex;
 use grouping_chart::room::short_refusal;
+use grouping_chart::settings;
 use grouping_marks::fill;
 use grouping_preprocessor::Counts;
 
@@ -124,7 +126,7 @@ pub fn encode(
 ) -> Encoding
     ensures { λ r. ⌜ _≡_ {A = Outcome}
         (record { answer = r; memory = record { streak = now (streak .exit); streakPlace = now (inner .exit); pattern = now (pattern .exit); patternPlace = now (outer .exit); hit = now (hit .exit); interval = now (interval .exit); work = now (work .exit); scratch = now (scratch .exit) } })
-        (encodeOutcome (record { kinds = now (kind .entry); starts = now (start .entry); deltas = now (delta .entry); ratios = now (ratio .entry) })
+        (encodeOutcome baseSettings (record { kinds = now (kind .entry); starts = now (start .entry); deltas = now (delta .entry); ratios = now (ratio .entry) })
         (record { streak = now (streak .entry); streakPlace = now (inner .entry); pattern = now (pattern .entry); patternPlace = now (outer .entry); hit = now (hit .entry); interval = now (interval .entry); work = now (work .entry); scratch = now (scratch .entry) })) ⌝ }
 {
     let n = kind.len();
@@ -133,8 +135,8 @@ pub fn encode(
     match grouping_chart::chart::check(kind, start, delta, ratio, beside) {
         Verdict::Refused(number, place) => Encoding::Refused(number, place),
         Verdict::Accepted => {
-            // 16 is the search limit of the base
-            let hits = encode_kinds(kind, 16, streak, inner, pattern, outer, hit, interval, work);
+            let m = settings::SEARCH_LIMIT;
+            let hits = encode_kinds(kind, m, streak, inner, pattern, outer, hit, interval, work);
             fill::clear_floats(scratch, n);
             Encoding::Done(hits)
         }

@@ -1,5 +1,5 @@
 -- The outcome of rhythm, case by case, over plain lists: a refusal leaves all as lent, and an accepted call has room in every slice.
-use mathlib.Core.Path.{_≡_, sym, ap, _∙_, subst}
+use mathlib.Core.Path.{_≡_, sym, ap, _∙_}
 use mathlib.Core.Bool.{Bool}
 use mathlib.Core.List.{List, [], _∷_}
 use Prim.Native.Nat.{ℕ}
@@ -8,6 +8,7 @@ use lib.Ieee.{Float}
 use Rattle.grouping_chart.specs.Chart.{Chart, size}
 use Rattle.grouping_chart.specs.Refusal.{verdict}
 use Rattle.grouping_chart.specs.Room.{anyShort, shortRefusal}
+use Rattle.grouping_chart.specs.Settings.{Settings}
 use Rattle.grouping_chart.specs.declared.object.ObjectIndex.{ObjectIndex}
 use Rattle.grouping_chart.specs.declared.chart.Verdict.{Verdict}
 use Rattle.grouping_chart.specs.declared.chart.Verdict.the-variants.{Accepted, Refused}
@@ -16,19 +17,19 @@ use Rattle.grouping_chart.proofs.RefusalLaws.{verdict-is}
 use Rattle.grouping_chart.proofs.RoomLaws.{roomy, long-enough}
 use Rattle.grouping_rhythm.specs.declared.Grouping.the-variants as answer
 use Rattle.grouping_rhythm.specs.declared.tables.Counts.{Counts}
-use Rattle.grouping_rhythm.specs.Rhythm.{baseMargin, Memory, Outcome, beside, filled, outcomeBy, rhythmOutcome}
+use Rattle.grouping_rhythm.specs.Rhythm.{Memory, Outcome, beside, filled, outcomeBy, rhythmOutcome}
 use Rattle.grouping_rhythm.specs.Passes.{AnswerRoom, Grouped}
 
 -- ---- what the tests that were run say of the definition's verdict
-module _ (c : Chart) (m : Memory) where
+module _ (s : Settings) (c : Chart) (m : Memory) where
   abbrev pub judged : Verdict
   judged = verdict c (beside (size c) m)
 
   -- from what `too_short`, `short_refusal` and `check` answered
-  pub judged-is : (s : Bool) (b : ℕ) {v u : Verdict} → s ≡ anyShort (size c) (length (m .group) ∷ length (m .pattern) ∷ [])
-      → b ≡ shortRefusal s (size c) (length (m .work)) (length (m .scratch)) → v ≡ verdict c b → v ≡ u → judged ≡ u
+  pub judged-is : (short : Bool) (b : ℕ) {v u : Verdict} → short ≡ anyShort (size c) (length (m .group) ∷ length (m .pattern) ∷ [])
+      → b ≡ shortRefusal short (size c) (length (m .work)) (length (m .scratch)) → v ≡ verdict c b → v ≡ u → judged ≡ u
   unfolding beside
-  judged-is s b e f g h = verdict-is c (f ∙ ap (λ (x : Bool). shortRefusal x (size c) (length (m .work)) (length (m .scratch))) e) g h
+  judged-is short b e f g h = verdict-is c (f ∙ ap (λ (x : Bool). shortRefusal x (size c) (length (m .work)) (length (m .scratch))) e) g h
 
   pub answer-room : judged ≡ Accepted → AnswerRoom (c .kinds) (c .starts) (c .deltas) (m .group) (m .pattern) (m .work) (m .scratch)
   unfolding beside
@@ -44,20 +45,18 @@ module _ (c : Chart) (m : Memory) where
       }
 
   pub rhythm-refused : (number : ℕ) (place : ObjectIndex) → judged ≡ Refused number place
-      → _≡_ {A = Outcome} (record { answer = answer.Refused number place; memory = m }) (rhythmOutcome c m)
+      → _≡_ {A = Outcome} (record { answer = answer.Refused number place; memory = m }) (rhythmOutcome s c m)
   unfolding rhythmOutcome outcomeBy
-  rhythm-refused number place h = sym (ap (λ (v : Verdict). outcomeBy v c m) h)
+  rhythm-refused number place h = sym (ap (λ (v : Verdict). outcomeBy v s c m) h)
 
-  -- the counts and the memory that the passes leave at the margin of the base are the definition's
-  pub rhythm-done : (margin : Float) (group pattern work : List ℕ) (scratch : List Float) (k : Counts) → judged ≡ Accepted
-      → Grouped margin (c .kinds) (c .starts) (c .deltas) (m .group) group (m .pattern) pattern (m .work) work (m .scratch) scratch k
-      → margin ≡ baseMargin
-      → _≡_ {A = Outcome} (record { answer = answer.Done (k .groups) (k .patterns); memory = record { group = group; pattern = pattern; work = work; scratch = scratch } }) (rhythmOutcome c m)
+  -- the counts and the memory that the passes leave are the definition's
+  pub rhythm-done : (group pattern work : List ℕ) (scratch : List Float) (k : Counts) → judged ≡ Accepted
+      → Grouped (s .margin) (c .kinds) (c .starts) (c .deltas) (m .group) group (m .pattern) pattern (m .work) work (m .scratch) scratch k
+      → _≡_ {A = Outcome} (record { answer = answer.Done (k .groups) (k .patterns); memory = record { group = group; pattern = pattern; work = work; scratch = scratch } }) (rhythmOutcome s c m)
   unfolding rhythmOutcome outcomeBy filled
-  rhythm-done margin group pattern work scratch k h g b =
-      let e = subst (λ (x : Float). Grouped x (c .kinds) (c .starts) (c .deltas) (m .group) group (m .pattern) pattern (m .work) work (m .scratch) scratch k) b g in
+  rhythm-done group pattern work scratch k h e =
       (λ t. record {
         answer = answer.Done (e .counted t) (e .patterned t);
         memory = record { group = e .groups t; pattern = e .patterns t; work = e .cleared t; scratch = e .floats t };
       })
-      ∙ sym (ap (λ (v : Verdict). outcomeBy v c m) h)
+      ∙ sym (ap (λ (v : Verdict). outcomeBy v s c m) h)

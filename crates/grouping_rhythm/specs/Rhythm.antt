@@ -1,10 +1,9 @@
 -- Document 01, "Calls and what they fill", rhythm: "per object group and pattern-group number, 65535 for a NonHit"; "rhythm [returns] the numbers of groups and of pattern groups".
 use Prim.Native.Nat.{ℕ, _*_}
-use mathlib.Core.Bool.{false, cond}
+use mathlib.Core.Bool.{cond}
 use mathlib.Core.List.{List, [], _∷_}
-use lib.IntN.{pos}
 use lib.ListN.{length, getD, replicate}
-use lib.Ieee.{Float, fin, binary64, ofBits}
+use lib.Ieee.{Float, binary64, ofBits}
 use Rattle.grouping_marks.specs.Over.{over}
 use Rattle.grouping_marks.specs.Scan.{tabulate}
 use Rattle.grouping_marks.specs.Marks.{groupCount, groupNumbers}
@@ -12,6 +11,7 @@ use Rattle.grouping_chart.specs.Object.{isNote, noteIdx}
 use Rattle.grouping_chart.specs.Chart.{Chart, size}
 use Rattle.grouping_chart.specs.Refusal.{verdict}
 use Rattle.grouping_chart.specs.Room.{anyShort, shortRefusal}
+use Rattle.grouping_chart.specs.Settings.{Settings}
 use Rattle.grouping_chart.specs.declared.chart.Verdict.{Verdict}
 use Rattle.grouping_chart.specs.declared.chart.Verdict.the-variants.{Accepted, Refused}
 use Rattle.grouping_interval.specs.IntervalGrouping.{intervalMarks}
@@ -31,10 +31,6 @@ pub record Memory : Type 0 where
 pub record Outcome : Type 0 where
   pub answer : Grouping
   pub memory : Memory
-
--- the margin of the base
-abbrev pub baseMargin : Float
-baseMargin = fin false 5 (pos 0)
 
 -- what is said of each note, object by object: "65535 for a NonHit"
 unfoldable pub perNote : (ℕ → ℕ) → List ℕ → List ℕ
@@ -63,18 +59,18 @@ unfoldable pub beside : ℕ → Memory → ℕ
 beside n m = shortRefusal (anyShort n (length (m .group) ∷ length (m .pattern) ∷ [])) n (length (m .work)) (length (m .scratch))
 
 -- the memory after an accepted call
-unfoldable pub filled : Chart → Memory → Memory
-filled c m = record {
-  group = over (groupOf baseMargin (c .kinds) (c .deltas)) (m .group);
-  pattern = over (patternGroupOf baseMargin (c .kinds) (c .starts) (c .deltas)) (m .pattern);
+unfoldable pub filled : Settings → Chart → Memory → Memory
+filled s c m = record {
+  group = over (groupOf (s .margin) (c .kinds) (c .deltas)) (m .group);
+  pattern = over (patternGroupOf (s .margin) (c .kinds) (c .starts) (c .deltas)) (m .pattern);
   work = over (replicate (8 * size c) 0) (m .work);
   scratch = over (replicate (size c) (ofBits binary64 0)) (m .scratch);
 }
 
 -- a refusal leaves all as lent
-unfoldable pub outcomeBy : Verdict → Chart → Memory → Outcome
-outcomeBy Accepted c m = record { answer = Done (groupsIn baseMargin (c .kinds) (c .deltas)) (patternGroupsIn baseMargin (c .kinds) (c .starts) (c .deltas)); memory = filled c m }
-outcomeBy (Refused number place) c m = record { answer = answer.Refused number place; memory = m }
+unfoldable pub outcomeBy : Verdict → Settings → Chart → Memory → Outcome
+outcomeBy Accepted s c m = record { answer = Done (groupsIn (s .margin) (c .kinds) (c .deltas)) (patternGroupsIn (s .margin) (c .kinds) (c .starts) (c .deltas)); memory = filled s c m }
+outcomeBy (Refused number place) s c m = record { answer = answer.Refused number place; memory = m }
 
-unfoldable pub rhythmOutcome : Chart → Memory → Outcome
-rhythmOutcome c m = outcomeBy (verdict c (beside (size c) m)) c m
+unfoldable pub rhythmOutcome : Settings → Chart → Memory → Outcome
+rhythmOutcome s c m = outcomeBy (verdict c (beside (size c) m)) s c m

@@ -3,12 +3,14 @@ ghost use mathlib.Core.Path.{_≡_};
 ghost use mathlib.Core.List.{[], _∷_};
 ghost use lib.ListN.{length};
 ghost use Rattle.grouping_chart.specs.Room.{anyShort};
+ghost use Rattle.grouping_chart.specs.Settings.{baseSettings};
 ghost use Rattle.grouping_rhythm.specs.Rhythm.{Outcome, rhythmOutcome};
 ghost use Rattle.grouping_rhythm.specs.Passes.{AnswerRoom, Grouped};
 use crate::tables::Counts;
 use grouping_chart::chart::Verdict;
 use grouping_chart::object::ObjectIndex;
 use grouping_chart::room::short_refusal;
+use grouping_chart::settings;
 use grouping_marks::fill;
 
 pub mod spread;
@@ -64,7 +66,7 @@ pub fn rhythm(
 ) -> Grouping
     ensures { λ r. ⌜ _≡_ {A = Outcome}
         (record { answer = r; memory = record { group = now (group .exit); pattern = now (pattern .exit); work = now (work .exit); scratch = now (scratch .exit) } })
-        (rhythmOutcome (record { kinds = now (kind .entry); starts = now (start .entry); deltas = now (delta .entry); ratios = now (ratio .entry) })
+        (rhythmOutcome baseSettings (record { kinds = now (kind .entry); starts = now (start .entry); deltas = now (delta .entry); ratios = now (ratio .entry) })
         (record { group = now (group .entry); pattern = now (pattern .entry); work = now (work .entry); scratch = now (scratch .entry) })) ⌝ }
 {
     let n = kind.len();
@@ -73,8 +75,8 @@ pub fn rhythm(
     match grouping_chart::chart::check(kind, start, delta, ratio, beside) {
         Verdict::Refused(number, place) => Grouping::Refused(number, place),
         Verdict::Accepted => {
-            // 5.0 is the margin of the base
-            let k = fill_groups(kind, start, delta, 5.0, group, pattern, work, scratch);
+            let margin = settings::MARGIN;
+            let k = fill_groups(kind, start, delta, margin, group, pattern, work, scratch);
             Grouping::Done(k.groups, k.patterns)
         }
     }

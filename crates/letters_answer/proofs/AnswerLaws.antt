@@ -9,7 +9,7 @@ use Rattle.grouping_marks.proofs.OverLaws.{front}
 use Rattle.grouping_color.specs.MonoStreak.{streakOf}
 use Rattle.grouping_color.specs.Preprocessor.{patternOf, hitOf, intervalOf}
 use Rattle.grouping_color.proofs.BoundLaws.{length-streakOf, length-patternOf, length-hitOf, length-intervalOf}
-use Rattle.grouping_encode.specs.Encode.{searchLimit}
+use Rattle.grouping_chart.specs.Settings.{baseSettings}
 use Rattle.grouping_encode.specs.Passes.{Encoded}
 use Rattle.letters_text.specs.declared.Reading.{Reading}
 use Rattle.letters_text.specs.declared.Reading.the-variants.{Long, Bad, Letters}
@@ -31,7 +31,7 @@ columns-fit kinds room x = record {
     streaks = length-streakOf kinds;
     patterns = length-patternOf kinds;
     hits = length-hitOf kinds;
-    intervals = length-intervalOf kinds searchLimit;
+    intervals = length-intervalOf kinds (baseSettings .limit);
   };
   small = interval-small kinds;
   enough = omega arith;
@@ -48,7 +48,7 @@ lent kinds streak pattern hit interval = record {
 }
 
 module _ {kinds streak₀ streak streakPlace₀ streakPlace pattern₀ pattern patternPlace₀ patternPlace hit₀ hit interval₀ interval work₀ work : List ℕ} {count : ℕ}
-    (x : Encoded searchLimit kinds streak₀ streak streakPlace₀ streakPlace pattern₀ pattern patternPlace₀ patternPlace hit₀ hit interval₀ interval work₀ work count) where
+    (x : Encoded (baseSettings .limit) kinds streak₀ streak streakPlace₀ streakPlace pattern₀ pattern patternPlace₀ patternPlace hit₀ hit interval₀ interval work₀ work count) where
   lent-columns : columns kinds ≡ lent kinds streak pattern hit interval
   unfolding columns
   lent-columns =
@@ -56,8 +56,8 @@ module _ {kinds streak₀ streak streakPlace₀ streakPlace pattern₀ pattern p
       let s : take n streak ≡ streakOf kinds = rw (x .streaks) (front (streakOf kinds) streak₀ n (length-streakOf kinds)) in
       let p : take n pattern ≡ patternOf kinds = rw (x .patterns) (front (patternOf kinds) pattern₀ n (length-patternOf kinds)) in
       let h : take n hit ≡ hitOf kinds = rw (x .hits) (front (hitOf kinds) hit₀ n (length-hitOf kinds)) in
-      let i : take n interval ≡ intervalOf searchLimit kinds =
-      rw (x .intervals) (front (intervalOf searchLimit kinds) interval₀ n (length-intervalOf kinds searchLimit)) in
+      let i : take n interval ≡ intervalOf (baseSettings .limit) kinds =
+      rw (x .intervals) (front (intervalOf (baseSettings .limit) kinds) interval₀ n (length-intervalOf kinds (baseSettings .limit))) in
       cc
 
   pub lines-fit : {room : ℕ} → LettersRoom (length kinds) room → LinesFit (lent kinds streak pattern hit interval) room

@@ -7,13 +7,13 @@ use lib.ListN.{length, getD}
 use Rattle.grouping_marks.proofs.FillLaws.{getD-gathered}
 use Rattle.grouping_color.specs.Preprocessor.{hitIntervals, hitCount, hitOf, intervalOf}
 use Rattle.grouping_color.proofs.BoundLaws.{hit-interval-range, length-hitOf, hitOf-below, intervalOf-looked}
-use Rattle.grouping_encode.specs.Encode.{searchLimit}
+use Rattle.grouping_chart.specs.Settings.{baseSettings}
 
 module _ (kinds : List ℕ) where
-  hit-interval-small : (h : ℕ) → h < hitCount kinds → getD (hitIntervals searchLimit kinds) h 0 < 100
-  hit-interval-small h l = ⊎-elim (λ u. omega arith) (λ u. omega arith) (hit-interval-range kinds searchLimit h l)
+  hit-interval-small : (h : ℕ) → h < hitCount kinds → getD (hitIntervals (baseSettings .limit) kinds) h 0 < 100
+  hit-interval-small h l = ⊎-elim (λ u. omega arith) (λ u. omega arith) (hit-interval-range kinds (baseSettings .limit) h l)
 
-  pub interval-small : (i : ℕ) → i < length kinds → getD (intervalOf searchLimit kinds) i 0 < 100
+  pub interval-small : (i : ℕ) → i < length kinds → getD (intervalOf (baseSettings .limit) kinds) i 0 < 100
   interval-small i h =
-      rw (← intervalOf-looked kinds searchLimit, getD-gathered (hitIntervals searchLimit kinds) (hitOf kinds) i (omega (arith, length-hitOf kinds)))
+      rw (← intervalOf-looked kinds (baseSettings .limit), getD-gathered (hitIntervals (baseSettings .limit) kinds) (hitOf kinds) i (omega (arith, length-hitOf kinds)))
       (hit-interval-small (getD (hitOf kinds) i 0) (hitOf-below kinds i h))

@@ -4,7 +4,7 @@ use Prim.Native.Nat.{ℕ, _≤_}
 use mathlib.Core.List.{List}
 use Rattle.grouping_color.specs.MonoStreak.{streakOf}
 use Rattle.grouping_color.specs.Preprocessor.{patternOf, hitOf, intervalOf}
-use Rattle.grouping_encode.specs.Encode.{searchLimit}
+use Rattle.grouping_chart.specs.Settings.{baseSettings}
 use Rattle.letters_text.specs.Letters.{trimmed, kindsOf, reading}
 use Rattle.letters_text.specs.Lines.{Columns, lines, printed}
 
@@ -15,7 +15,7 @@ columns kinds = record {
   streaks = streakOf kinds;
   patterns = patternOf kinds;
   hits = hitOf kinds;
-  intervals = intervalOf searchLimit kinds;
+  intervals = intervalOf (baseSettings .limit) kinds;
 }
 
 -- all that is printed for a whole input

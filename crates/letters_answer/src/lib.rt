@@ -20,7 +20,7 @@ fn answer_letters(kinds: &[u8], out: &mut [u8]) -> usize
     let mut work = [0u16; 8192];
     grouping_encode::encode_kinds(
         kinds,
-        16,
+        grouping_chart::settings::SEARCH_LIMIT,
         &mut streak,
         &mut streak_place,
         &mut pattern,

@@ -1,9 +1,11 @@
 -- `colour` meets its contract: the verdict of the definition is the one that the tests gave, and each case leaves its outcome.
 use mathlib.Core.Path.{_≡_}
 use Rattle.grouping_chart.specs.Chart.{Chart}
+use Rattle.grouping_chart.specs.Settings.{baseSettings}
 use Rattle.grouping_chart.specs.declared.chart.Verdict.the-variants.{Accepted}
+use Rattle.grouping_chart.proofs.BaseLaws.{base-permitted}
 use Rattle.evaluator_calls.specs.Calls.{Memory}
-use Rattle.evaluator_calls.proofs.CallsLaws.{at-base, judged, judged-is, chart-room, filled-is, colour-refused, colour-done}
+use Rattle.evaluator_calls.proofs.CallsLaws.{judged, judged-is, chart-room, filled-is, colour-refused, colour-done}
 use borrow.Author.Needs.{needs}
 use Rattle.evaluator_calls.proofs.colour.Statement.{statement}
 use Rattle.evaluator_calls.proofs.colour.Tie as tie
@@ -19,8 +21,8 @@ memoryOf c = record { value = c .args .value .now; work = c .args .work .now; sc
 abbrev start : tie.After-enum-told → tie.Start
 start c = c .before .before .before .before .before .before .before .before .before .before .before
 
-accepted : (c : tie.After-enum-told) → judged (chartOf (start c)) (memoryOf (start c)) ≡ Accepted
-accepted c = judged-is (chartOf (start c)) (memoryOf (start c)) _ (c .before .before .before .short-refusal .ensures) (c .before .before .check .ensures) (c .enum-told .given .1)
+accepted : (c : tie.After-enum-told) → judged baseSettings (chartOf (start c)) (memoryOf (start c)) ≡ Accepted
+accepted c = judged-is baseSettings (chartOf (start c)) (memoryOf (start c)) _ (c .before .before .before .short-refusal .ensures) (c .before .before .check .ensures) (c .enum-told .given .1)
 
 short-refusal-requires : tie.Need-short-refusal-requires
 short-refusal-requires c κs = search needs
@@ -37,7 +39,7 @@ enum-told c = search needs
 fill-chart-requires : tie.Need-fill-chart-requires
 fill-chart-requires c κs =
     let t = c .before .before .before in
-    chart-room (chartOf (start t)) (memoryOf (start t)) (accepted t)
+    chart-room baseSettings (chartOf (start t)) (memoryOf (start t)) base-permitted (accepted t)
 
 same-length : tie.Need-same-length
 same-length c = search needs
@@ -51,13 +53,13 @@ same-length-3 c = search needs
 returns : tie.Need-returns
 returns c =
     let s = c .before .before .before .before .before .before .before .before .before .before .before .before in
-    colour-refused (chartOf s) (memoryOf s) _ _ (judged-is (chartOf s) (memoryOf s) _ (c .before .before .before .before .short-refusal .ensures) (c .before .before .before .check .ensures) (c .before .number .given .1))
+    colour-refused baseSettings (chartOf s) (memoryOf s) _ _ (judged-is baseSettings (chartOf s) (memoryOf s) _ (c .before .before .before .before .short-refusal .ensures) (c .before .before .before .check .ensures) (c .before .number .given .1))
 
 returns-2 : tie.Need-returns-2
 returns-2 c =
     let t = c .before .before .before .before .before .before .before .before .before .before in
     let s = start t in
-    colour-done (chartOf s) (memoryOf s) _ (accepted t) (filled-is (chartOf s) (memoryOf s) _ _ _ (at-base (c .before .before .before .before .before .before .fill-chart .ensures)))
+    colour-done baseSettings (chartOf s) (memoryOf s) _ (accepted t) (filled-is baseSettings (chartOf s) (memoryOf s) _ _ _ (c .before .before .before .before .before .before .fill-chart .ensures))
 
 pub colour-spec : {M : Type 1} → statement M
 colour-spec =

@@ -4,12 +4,13 @@ use native.Mathlib.Omega.{arith}
 use mir.Facts.{toZ-ofZ}
 use Rattle.numeric.specs.Tenths.{tenthsOf}
 use Rattle.grouping_chart.specs.Chart.{Chart, size}
+use Rattle.grouping_chart.specs.Settings.{baseSettings}
 use Rattle.grouping_chart.specs.declared.chart.Verdict.the-variants.{Accepted}
-use Rattle.grouping_encode.specs.Encode.{searchLimit}
+use Rattle.grouping_chart.proofs.BaseLaws.{base-permitted}
 use Rattle.evaluator_calls.specs.Stretch.{meanTenths}
 use Rattle.evaluator_calls.specs.Calls.{Memory, stretchVerdict}
 use Rattle.evaluator_calls.specs.Passes.{ChartRoom}
-use Rattle.evaluator_calls.proofs.CallsLaws.{at-base, Within, judged, within-bounds, chart-room, filled-is, stretch-is, stretch-refused, stretch-done}
+use Rattle.evaluator_calls.proofs.CallsLaws.{Within, judged, within-bounds, chart-room, filled-is, stretch-is, stretch-refused, stretch-done}
 use Rattle.evaluator_calls.proofs.StretchLaws.{lent-few, end-inside, mean-is, mean-in-range}
 use borrow.Author.Needs.{needs}
 use Rattle.evaluator_calls.proofs.stretch.Statement.{statement}
@@ -26,16 +27,16 @@ memoryOf c = record { value = c .args .value .now; work = c .args .work .now; sc
 abbrev start : tie.After-enum-told → tie.Start
 start c = c .before .before .before .before .before .before .before .before .before .before .before .before
 
-accepted : (c : tie.After-enum-told) → stretchVerdict (judged (chartOf (start c)) (memoryOf (start c))) (size (chartOf (start c))) (start c .args .a) (start c .args .b) ≡ Accepted
+accepted : (c : tie.After-enum-told) → stretchVerdict (judged baseSettings (chartOf (start c)) (memoryOf (start c))) (size (chartOf (start c))) (start c .args .a) (start c .args .b) ≡ Accepted
 accepted c =
-    stretch-is (chartOf (start c)) (memoryOf (start c)) _ _ _ (c .before .before .before .before .short-refusal .ensures) (c .before .before .before .check .ensures) (c .before .before .with-bounds .ensures)
+    stretch-is baseSettings (chartOf (start c)) (memoryOf (start c)) _ _ _ (c .before .before .before .before .short-refusal .ensures) (c .before .before .before .check .ensures) (c .before .before .with-bounds .ensures)
     (c .enum-told .given .1)
 
-inside : (c : tie.After-enum-told) → Within (judged (chartOf (start c)) (memoryOf (start c))) (size (chartOf (start c))) (start c .args .a) (start c .args .b)
+inside : (c : tie.After-enum-told) → Within (judged baseSettings (chartOf (start c)) (memoryOf (start c))) (size (chartOf (start c))) (start c .args .a) (start c .args .b)
 inside c = within-bounds _ _ _ _ (accepted c)
 
-room : (c : tie.After-enum-told) → ChartRoom (size (chartOf (start c))) searchLimit (start c .args .ratio .now) (start c .args .value .now) (start c .args .work .now) (start c .args .scratch .now)
-room c = chart-room (chartOf (start c)) (memoryOf (start c)) (inside c .accepted)
+room : (c : tie.After-enum-told) → ChartRoom (size (chartOf (start c))) (baseSettings .limit) (start c .args .ratio .now) (start c .args .value .now) (start c .args .work .now) (start c .args .scratch .now)
+room c = chart-room baseSettings (chartOf (start c)) (memoryOf (start c)) base-permitted (inside c .accepted)
 
 -- ---- once the values are filled
 abbrev told : tie.After-fill-chart → tie.After-enum-told
@@ -68,22 +69,22 @@ sub-mean c = omega (arith, inside (c .before .before .before .before .before .be
 part-mean-start : tie.Need-part-mean-start
 part-mean-start c =
     let f = c .before .before .before .before .before .before .before in
-    omega (arith, inside (told f), end-inside (chartOf (start (told f))) (memoryOf (start (told f))) _ _ (inside (told f)) _ _ _ (at-base (f .fill-chart .ensures)))
+    omega (arith, inside (told f), end-inside baseSettings base-permitted (chartOf (start (told f))) (memoryOf (start (told f))) _ _ (inside (told f)) _ _ _ (f .fill-chart .ensures))
 
 part-mean-end : tie.Need-part-mean-end
 part-mean-end c =
     let f = c .before .before .before .before .before .before .before in
-    end-inside (chartOf (start (told f))) (memoryOf (start (told f))) _ _ (inside (told f)) _ _ _ (at-base (f .fill-chart .ensures))
+    end-inside baseSettings base-permitted (chartOf (start (told f))) (memoryOf (start (told f))) _ _ (inside (told f)) _ _ _ (f .fill-chart .ensures)
 
 mean-requires : tie.Need-mean-requires
 mean-requires c κs =
     let f = c .before .before .before .before .before .before .before .before in
-    lent-few (chartOf (start (told f))) (memoryOf (start (told f))) _ _ (inside (told f)) _ _ _ (at-base (f .fill-chart .ensures))
+    lent-few baseSettings base-permitted (chartOf (start (told f))) (memoryOf (start (told f))) _ _ (inside (told f)) _ _ _ (f .fill-chart .ensures)
 
 tenths-requires : tie.Need-tenths-requires
 tenths-requires c κs =
     let f = c .before .before .before .before .before .before .before .before .before in
-    mean-in-range (chartOf (start (told f))) (memoryOf (start (told f))) _ _ (inside (told f)) _ _ _ (at-base (f .fill-chart .ensures)) _ (c .mean .ensures)
+    mean-in-range baseSettings base-permitted (chartOf (start (told f))) (memoryOf (start (told f))) _ _ (inside (told f)) _ _ _ (f .fill-chart .ensures) _ (c .mean .ensures)
 
 same-length : tie.Need-same-length
 same-length c = search needs
@@ -97,8 +98,8 @@ same-length-3 c = search needs
 returns : tie.Need-returns
 returns c =
     let s = c .before .before .before .before .before .before .before .before .before .before .before .before .before in
-    stretch-refused (chartOf s) (memoryOf s) _ _ _ _
-    (stretch-is (chartOf s) (memoryOf s) _ _ _ (c .before .before .before .before .before .short-refusal .ensures) (c .before .before .before .before .check .ensures) (c .before .before .before .with-bounds .ensures)
+    stretch-refused baseSettings (chartOf s) (memoryOf s) _ _ _ _
+    (stretch-is baseSettings (chartOf s) (memoryOf s) _ _ _ (c .before .before .before .before .before .short-refusal .ensures) (c .before .before .before .before .check .ensures) (c .before .before .before .with-bounds .ensures)
     (c .before .number .given .1))
 
 returns-2 : tie.Need-returns-2
@@ -106,9 +107,9 @@ unfolding meanTenths
 returns-2 c =
     let f = c .before .before .before .before .before .before .before .before .before .before in
     let s = start (told f) in
-    let mean = mean-is (chartOf s) (memoryOf s) _ _ (inside (told f)) _ _ _ (at-base (f .fill-chart .ensures)) _ (c .before .mean .ensures) in
+    let mean = mean-is baseSettings base-permitted (chartOf s) (memoryOf s) _ _ (inside (told f)) _ _ _ (f .fill-chart .ensures) _ (c .before .mean .ensures) in
     let tenths = toZ-ofZ (record { sfits = c .tenths .ok }) ∙ c .tenths .ensures ∙ ap tenthsOf mean in
-    stretch-done (chartOf s) (memoryOf s) _ _ _ _ _ (accepted (told f)) mean tenths (filled-is (chartOf s) (memoryOf s) _ _ _ (at-base (f .fill-chart .ensures)))
+    stretch-done baseSettings (chartOf s) (memoryOf s) _ _ _ _ _ (accepted (told f)) mean tenths (filled-is baseSettings (chartOf s) (memoryOf s) _ _ _ (f .fill-chart .ensures))
 
 pub stretch-spec : {M : Type 1} → statement M
 stretch-spec =

@@ -1,13 +1,13 @@
 -- `record` meets its contract: the verdict of the definition is the one that the tests gave, and each case leaves its outcome.
-use mathlib.Core.Path.{_≡_, refl, sym, ap, _∙_}
+use mathlib.Core.Path.{_≡_, refl, sym, _∙_}
 use mathlib.Core.Bool.{Bool, true, false, not}
 use native.Mathlib.Omega.{arith}
-use lib.Ieee.{Float, binary64, ofBits, round}
 use Rattle.grouping_chart.specs.Chart.{Chart}
+use Rattle.grouping_chart.specs.Settings.{baseSettings}
 use Rattle.grouping_chart.specs.declared.chart.Verdict.the-variants.{Accepted}
 use Rattle.grouping_same_rhythm.specs.SameRhythm.{rhythmMarks}
-use Rattle.grouping_rhythm.specs.Rhythm.{baseMargin, groupsIn}
-use Rattle.evaluator_record.specs.Calls.{Memory, baseThreshold, windowGood}
+use Rattle.grouping_rhythm.specs.Rhythm.{groupsIn}
+use Rattle.evaluator_record.specs.Calls.{Memory, windowGood}
 use Rattle.evaluator_record.proofs.CallsLaws.{groupsOf, judged, judged-is, lengths-same, group-room, chart-refused, window-refused, group-refused, record-done}
 use borrow.Author.Needs.{needs}
 use Rattle.evaluator_record.proofs.record.Statement.{statement}
@@ -21,15 +21,6 @@ not-false : (b : Bool) → not b ≡ false → b ≡ true
 not-false true h = refl
 not-false false h = sym h
 
--- the literals 5.0 and 0.1
-margin-is : ofBits binary64 0x4014_0000_0000_0000 ≡ baseMargin
-unfolding ofBits
-margin-is = refl
-
-threshold-is : ofBits binary64 0x3fb9_9999_9999_999a ≡ baseThreshold
-unfolding ofBits round baseThreshold
-threshold-is = refl
-
 -- the chart and the memory as lent
 abbrev chartOf : tie.Start → Chart
 chartOf c = record { kinds = c .args .kind .now; starts = c .args .start .now; deltas = c .args .delta .now; ratios = c .args .ratio .now }
@@ -41,8 +32,8 @@ memoryOf c = record { work = c .args .work .now; scratch = c .args .scratch .now
 abbrev start : tie.After-enum-told → tie.Start
 start c = c .before .before .before .before .before .before .before .before .before .before
 
-accepted : (c : tie.After-enum-told) → judged (chartOf (start c)) (memoryOf (start c)) ≡ Accepted
-accepted c = judged-is (chartOf (start c)) (memoryOf (start c)) _ (c .before .before .before .short-refusal .ensures) (c .before .before .check .ensures) (c .enum-told .given .1)
+accepted : (c : tie.After-enum-told) → judged baseSettings (chartOf (start c)) (memoryOf (start c)) ≡ Accepted
+accepted c = judged-is baseSettings (chartOf (start c)) (memoryOf (start c)) _ (c .before .before .before .short-refusal .ensures) (c .before .before .check .ensures) (c .enum-told .given .1)
 
 -- ---- once the window is known to be good
 window : (c : tie.Else1) → windowGood (start (c .before .before) .args .window) ≡ true
@@ -52,11 +43,9 @@ window c = sym (c .before .window-good .ensures) ∙ not-false _ (c .if1 .left)
 abbrev told : tie.After-count-groups → tie.After-enum-told
 told c = c .before .before .before
 
-counted : (c : tie.After-count-groups) → c .count-groups .result ≡ groupsOf (chartOf (start (told c)))
+counted : (c : tie.After-count-groups) → c .count-groups .result ≡ groupsOf baseSettings (chartOf (start (told c)))
 unfolding groupsIn rhythmMarks
-counted c =
-    let s = start (told c) in
-    c .count-groups .ensures ∙ ap (λ (x : Float). groupsIn x (s .args .kind .now) (s .args .delta .now)) margin-is
+counted c = c .count-groups .ensures
 
 short-refusal-requires : tie.Need-short-refusal-requires
 short-refusal-requires c κs = search needs
@@ -82,39 +71,39 @@ same-length-2 c = search needs
 returns : tie.Need-returns
 returns c =
     let t = c .before .before in
-    window-refused (chartOf (start t)) (memoryOf (start t)) (start t .args .g) (start t .args .window) (accepted t) (sym (c .before .window-good .ensures) ∙ not-true _ (c .if1 .taken))
+    window-refused baseSettings (chartOf (start t)) (memoryOf (start t)) (start t .args .g) (start t .args .window) (accepted t) (sym (c .before .window-good .ensures) ∙ not-true _ (c .if1 .taken))
 
 count-groups-requires : tie.Need-count-groups-requires
 count-groups-requires c κs =
     let t = c .before .before in
-    lengths-same (chartOf (start t)) (memoryOf (start t)) (accepted t)
+    lengths-same baseSettings (chartOf (start t)) (memoryOf (start t)) (accepted t)
 
 returns-2 : tie.Need-returns-2
 returns-2 c =
     let k = c .before in
     let t = told k in
-    group-refused (chartOf (start t)) (memoryOf (start t)) (start t .args .g) (start t .args .window) (accepted t) (window (k .before)) (omega (arith, counted k, c .if2 .taken))
+    group-refused baseSettings (chartOf (start t)) (memoryOf (start t)) (start t .args .g) (start t .args .window) (accepted t) (window (k .before)) (omega (arith, counted k, c .if2 .taken))
 
 make-record-requires : tie.Need-make-record-requires
 make-record-requires c κs =
     let k = c .before .before .before in
     let t = told k in
-    group-room (chartOf (start t)) (memoryOf (start t)) _ (start t .args .g) (accepted t) (omega (arith, counted k, c .before .before .if2 .left)) margin-is
+    group-room baseSettings (chartOf (start t)) (memoryOf (start t)) (start t .args .g) (accepted t) (omega (arith, counted k, c .before .before .if2 .left))
 
 returns-3 : tie.Need-returns-3
 returns-3 c =
     let v = c .before .before .before in
     let s = v .before .before .before .before .before .before .before .before in
-    chart-refused (chartOf s) (memoryOf s) (s .args .g) (s .args .window) _ _
-    (judged-is (chartOf s) (memoryOf s) _ (v .before .short-refusal .ensures) (v .check .ensures) (c .before .number .given .1))
+    chart-refused baseSettings (chartOf s) (memoryOf s) (s .args .g) (s .args .window) _ _
+    (judged-is baseSettings (chartOf s) (memoryOf s) _ (v .before .short-refusal .ensures) (v .check .ensures) (c .before .number .given .1))
 
 returns-4 : tie.Need-returns-4
 returns-4 c =
     let m = c .before .before .before .before in
     let k = m .before .before .before .before in
     let t = told k in
-    record-done (chartOf (start t)) (memoryOf (start t)) (start t .args .g) (start t .args .window) (accepted t) (window (k .before)) (omega (arith, counted k, m .before .before .before .if2 .left)) _ _ _ _ _
-    (m .make-record .ensures) margin-is threshold-is
+    record-done baseSettings (chartOf (start t)) (memoryOf (start t)) (start t .args .g) (start t .args .window) (accepted t) (window (k .before)) (omega (arith, counted k, m .before .before .before .if2 .left)) _ _ _
+    (m .make-record .ensures)
 
 pub record-spec : {M : Type 1} → statement M
 record-spec =

@@ -2,7 +2,9 @@
 use mathlib.Core.Path.{_≡_}
 use Rattle.grouping_chart.specs.Chart.{Chart, size}
 use Rattle.grouping_chart.specs.Refusal.{verdict}
+use Rattle.grouping_chart.specs.Settings.{baseSettings}
 use Rattle.grouping_chart.specs.declared.chart.Verdict.the-variants.{Accepted}
+use Rattle.grouping_chart.proofs.BaseLaws.{base-permitted}
 use Rattle.grouping_encode.specs.Encode.{Memory, beside}
 use Rattle.grouping_encode.proofs.EncodeLaws.{judged, refused-outcome, done-outcome, has-room, answer-room, filled-is}
 use borrow.Author.Needs.{needs}
@@ -50,7 +52,7 @@ enum-told c = search needs
 encode-kinds-requires : tie.Need-encode-kinds-requires
 encode-kinds-requires c κs =
     let t = c .before .before .before .before .before .before .before in
-    answer-room (chartOf (start t)) (memoryOf (start t)) (accepted t)
+    answer-room baseSettings (chartOf (start t)) (memoryOf (start t)) base-permitted (accepted t)
 
 clear-floats-requires : tie.Need-clear-floats-requires
 clear-floats-requires c κs =
@@ -78,7 +80,7 @@ same-length-6 c = search needs
 returns : tie.Need-returns
 returns c =
     let s = c .before .before .before .before .before .before .before .before .before .before .before .before .before .before .before .before .before .before .before .before .before .before .before .before in
-    refused-outcome (chartOf s) (memoryOf s) _ _ (judged (chartOf s) (memoryOf s) _ _ (c .before .before .before .before .before .too-short .ensures) (c .before .before .before .before .short-refusal .ensures) (c .before .before .before .check .ensures) (c .before .number .given .1))
+    refused-outcome baseSettings (chartOf s) (memoryOf s) _ _ (judged (chartOf s) (memoryOf s) _ _ (c .before .before .before .before .before .too-short .ensures) (c .before .before .before .before .short-refusal .ensures) (c .before .before .before .check .ensures) (c .before .number .given .1))
 
 same-length-7 : tie.Need-same-length-7
 same-length-7 c = search needs
@@ -109,7 +111,7 @@ returns-2 c =
     let t = c .before .before .before .before .before .before .before .before .before .before .before .before .before .before .before .before .before .before .before .before .before .before .before .before .before .before in
     let s = start t in
     let e = c .before .before .before .before .before .before .before .before .before .before .before .before .before .before .before .before .before .before .encode-kinds .ensures in
-    done-outcome (chartOf s) (memoryOf s) _ _ (accepted t) (e .counted) (filled-is (chartOf s .kinds) (memoryOf s) _ _ _ _ _ _ _ _ _ e (c .before .before .clear-floats .ensures))
+    done-outcome baseSettings (chartOf s) (memoryOf s) _ _ (accepted t) (e .counted) (filled-is baseSettings (chartOf s .kinds) (memoryOf s) _ _ _ _ _ _ _ _ _ e (c .before .before .clear-floats .ensures))
 
 pub encode-spec : {M : Type 1} → statement M
 encode-spec =

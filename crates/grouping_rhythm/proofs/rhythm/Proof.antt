@@ -1,18 +1,13 @@
 -- The verdict of the definition is the one that the tests gave, and each case leaves its outcome.
-use mathlib.Core.Path.{_≡_, refl}
-use lib.Ieee.{binary64, ofBits}
+use mathlib.Core.Path.{_≡_}
 use Rattle.grouping_chart.specs.Chart.{Chart}
+use Rattle.grouping_chart.specs.Settings.{baseSettings}
 use Rattle.grouping_chart.specs.declared.chart.Verdict.the-variants.{Accepted}
-use Rattle.grouping_rhythm.specs.Rhythm.{Memory, baseMargin}
+use Rattle.grouping_rhythm.specs.Rhythm.{Memory}
 use Rattle.grouping_rhythm.proofs.RhythmLaws.{judged, judged-is, answer-room, rhythm-refused, rhythm-done}
 use borrow.Author.Needs.{needs}
 use Rattle.grouping_rhythm.proofs.rhythm.Statement.{statement}
 use Rattle.grouping_rhythm.proofs.rhythm.Tie as tie
-
--- the literal 5.0
-margin-is : ofBits binary64 0x4014_0000_0000_0000 ≡ baseMargin
-unfolding ofBits
-margin-is = refl
 
 -- the chart and the memory as lent
 abbrev chartOf : tie.Start → Chart
@@ -25,8 +20,8 @@ memoryOf c = record { group = c .args .group .now; pattern = c .args .pattern .n
 abbrev start : tie.After-enum-told → tie.Start
 start c = c .before .before .before .before .before .before .before .before .before .before .before .before .before .before .before
 
-accepted : (c : tie.After-enum-told) → judged (chartOf (start c)) (memoryOf (start c)) ≡ Accepted
-accepted c = judged-is (chartOf (start c)) (memoryOf (start c)) _ _ (c .before .before .before .before .too-short .ensures) (c .before .before .before .short-refusal .ensures) (c .before .before .check .ensures) (c .enum-told .given .1)
+accepted : (c : tie.After-enum-told) → judged baseSettings (chartOf (start c)) (memoryOf (start c)) ≡ Accepted
+accepted c = judged-is baseSettings (chartOf (start c)) (memoryOf (start c)) _ _ (c .before .before .before .before .too-short .ensures) (c .before .before .before .short-refusal .ensures) (c .before .before .check .ensures) (c .enum-told .given .1)
 
 too-short-requires : tie.Need-too-short-requires
 too-short-requires c κs = search needs
@@ -46,7 +41,7 @@ enum-told c = search needs
 fill-groups-requires : tie.Need-fill-groups-requires
 fill-groups-requires c κs =
     let t = c .before .before .before .before in
-    answer-room (chartOf (start t)) (memoryOf (start t)) (accepted t)
+    answer-room baseSettings (chartOf (start t)) (memoryOf (start t)) (accepted t)
 
 same-length : tie.Need-same-length
 same-length c = search needs
@@ -57,7 +52,7 @@ same-length-2 c = search needs
 returns : tie.Need-returns
 returns c =
     let s = c .before .before .before .before .before .before .before .before .before .before .before .before .before .before .before .before in
-    rhythm-refused (chartOf s) (memoryOf s) _ _ (judged-is (chartOf s) (memoryOf s) _ _ (c .before .before .before .before .before .too-short .ensures) (c .before .before .before .before .short-refusal .ensures) (c .before .before .before .check .ensures) (c .before .number .given .1))
+    rhythm-refused baseSettings (chartOf s) (memoryOf s) _ _ (judged-is baseSettings (chartOf s) (memoryOf s) _ _ (c .before .before .before .before .before .too-short .ensures) (c .before .before .before .before .short-refusal .ensures) (c .before .before .before .check .ensures) (c .before .number .given .1))
 
 same-length-3 : tie.Need-same-length-3
 same-length-3 c = search needs
@@ -74,7 +69,7 @@ same-length-6 c = search needs
 returns-2 : tie.Need-returns-2
 returns-2 c =
     let t = c .before .before .before .before .before .before .before .before .before .before .before .before .before in
-    rhythm-done (chartOf (start t)) (memoryOf (start t)) _ _ _ _ _ _ (accepted t) (c .before .before .before .before .before .before .before .before .fill-groups .ensures) margin-is
+    rhythm-done baseSettings (chartOf (start t)) (memoryOf (start t)) _ _ _ _ _ (accepted t) (c .before .before .before .before .before .before .before .before .fill-groups .ensures)
 
 pub rhythm-spec : {M : Type 1} → statement M
 rhythm-spec =
