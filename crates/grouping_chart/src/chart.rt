@@ -2,7 +2,7 @@
 ghost use mathlib.Core.Path.{_≡_};
 ghost use lib.ListN.{length};
 ghost use Rattle.grouping_chart.specs.Chart.{SameLengths, even};
-ghost use Rattle.grouping_chart.specs.Refusal.{timeGood, ratioGood, objectRefusal, firstRefused, verdict};
+ghost use Rattle.grouping_chart.specs.Refusal.{within, timeGood, ratioGood, objectRefusal, firstRefused, verdict};
 use crate::good;
 use crate::object::ObjectIndex;
 
@@ -12,22 +12,26 @@ pub enum Verdict {
     Refused(u8, ObjectIndex),
 }
 
+// Whether x is from lo to hi, which a NaN is not.
+pub fn value_within(lo: f64, hi: f64, x: f64) -> bool
+    ensures { λ r. ⌜ r ≡ within lo hi x ⌝ }
+{
+    if lo <= x {
+        return x <= hi;
+    }
+    false
+}
+
 fn time_good(time: f64) -> bool
     ensures { λ r. ⌜ r ≡ timeGood time ⌝ }
 {
-    if -16777216.0 <= time {
-        return time <= 16777216.0;
-    }
-    false
+    value_within(-16777216.0, 16777216.0, time)
 }
 
 fn ratio_good(ratio: f64) -> bool
     ensures { λ r. ⌜ r ≡ ratioGood ratio ⌝ }
 {
-    if 0.000000059604644775390625 <= ratio {
-        return ratio <= 16777216.0;
-    }
-    false
+    value_within(0.000000059604644775390625, 16777216.0, ratio)
 }
 
 fn times_refusal(start: f64, delta: f64, ratio: f64) -> u8
