@@ -18,7 +18,7 @@ use Rattle.grouping_color.specs.AlternatingMonoPattern.{patternMarks, coupledAt
 use Rattle.grouping_color.specs.RepeatingHitPatterns.{hitMarks}
 use Rattle.grouping_color.specs.Preprocessor.{patternsOpen, firstLengths, streakCounts, patternTypes, coupledPatterns, hitsOpen}
 use Rattle.grouping_color.proofs.LengthLaws.{length-streakMarks, length-patternMarks, length-coupled, length-hitMarks}
-use Rattle.grouping_color.proofs.MadeLaws.{streakLengths-made, streakTypes-made, patternsOpen-made, firstLengths-made, streakCounts-made, patternTypes-made, hitsOpen-made}
+use Rattle.grouping_color.proofs.MadeLaws.{streakLengths-made, streakTypes-made, patternsOpen-made, firstLengths-made, streakCounts-made, patternTypes-made, coupledPatterns-made, hitsOpen-made}
 use Rattle.grouping_color.proofs.StreakCutLaws.{streakMarksAfter, length-marksAfter, streakMarks-cut, streakLengths-cut, streakTypes-cut}
 use Rattle.grouping_color.proofs.PatternCutLaws.{Uneven, patternMarks-cut, patternMarks-opening, counts-cut, listed-cut}
 use Rattle.grouping_color.proofs.HitCutLaws.{coupled-cut, hitMarks-cut, hitMarks-opening}
@@ -179,7 +179,7 @@ module _ {kinds : List ℕ} {position : ℕ} {marks types : List ℕ} (c : Strea
   back-opening = patternMarks-opening (backLengths marks q)
 
   pub patterns-cut : PatternsCut kinds (groupCount (c .front) + q) (backMarks marks q) (backFirsts marks q) (backFlags marks types q)
-  unfolding coupledPatterns backFlags flags-before
+  unfolding backFlags flags-before
   patterns-cut = record {
     front = front-marks;
     front-firsts = groupFirsts front-marks before;
@@ -187,7 +187,7 @@ module _ {kinds : List ℕ} {position : ℕ} {marks types : List ℕ} (c : Strea
     whole = marks-whole;
     firsts-whole = first-whole;
     flags-whole =
-        (λ i. coupled (first-whole i) (counts-whole i) (pattern-types-whole i))
+        coupledPatterns-made kinds ∙ (λ i. coupled (first-whole i) (counts-whole i) (pattern-types-whole i))
         ∙ coupled-cut (groupFirsts front-marks before) (backFirsts marks q) (groupSizes front-marks) (groupSizes (backMarks marks q)) (groupFirsts front-marks before-types)
         (groupFirsts (backMarks marks q) (drop q types)) (length-sizes front-marks ∙ sym firsts-count) (types-count ∙ sym firsts-count);
     size = front-long ∙ before-long;
@@ -254,7 +254,6 @@ module _ {marks types : List ℕ} {q p : ℕ} (u : Unequal marks q) (v : Uncoupl
     flags-all = level .flags-whole ∙ ap (λ (l : List ℕ). level .front-flags ++ l) flags-split ∙ sym (append-assoc (level .front-flags) (take p (backFlags marks types q)) _)
 
     hits-all : hitsOpen kinds ≡ hitMarks (flags-front ++ 0 ∷ 0 ∷ []) ++ hitMarks (drop (p + 2) (backFlags marks types q))
-    unfolding coupledPatterns
     hits-all = hitsOpen-made kinds ∙ ap hitMarks flags-all ∙ hitMarks-cut flags-front (drop (p + 2) (backFlags marks types q))
 
     hits-long : length (hitMarks (flags-front ++ 0 ∷ 0 ∷ [])) ≡ groupCount (level .front) + (p + 2)

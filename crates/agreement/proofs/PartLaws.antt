@@ -13,12 +13,11 @@ use Rattle.grouping_marks.proofs.CutLaws.{Opening, sizes-cut, firsts-cut, count
 use Rattle.grouping_marks.proofs.NumberLaws.{number-first}
 use Rattle.grouping_marks.proofs.SplitLaws.{Below, Split, below-numbers, below-gathered, split-numbers, split-length, split-at, split-before, split-gathered, split-looked, split-continues}
 use Rattle.grouping_color.specs.MonoStreak.{streakMarks, streakOf}
-use Rattle.grouping_color.specs.AlternatingMonoPattern.{coupled}
 use Rattle.grouping_color.specs.RepeatingHitPatterns.{secondAt, secondLengths, intervals}
-use Rattle.grouping_color.specs.Preprocessor.{patternsOpen, firstLengths, streakCounts, patternTypes, hitsOpen, hitCount, hitSizes, hitFirsts, hitSeconds, streakPlaceOf, patternOf, patternPlaceOf, hitOf, intervalOf}
+use Rattle.grouping_color.specs.Preprocessor.{patternsOpen, firstLengths, streakCounts, patternTypes, coupledPatterns, hitsOpen, hitCount, hitSizes, hitFirsts, hitSeconds, streakPlaceOf, patternOf, patternPlaceOf, hitOf, intervalOf}
 use Rattle.grouping_color.proofs.LengthLaws.{length-streakMarks, length-coupled, length-hitMarks, length-secondLengths}
 use Rattle.grouping_color.proofs.BoundLaws.{length-patternsOpen, length-hitsOpen, streakPlaceOf-looked, patternOf-looked, patternPlaceOf-looked, hitOf-looked, intervalOf-looked}
-use Rattle.grouping_color.proofs.MadeLaws.{streakOf-made, hitsOpen-made, hitCount-made, hitSizes-made, hitFirsts-made, hitSeconds-made, hitIntervals-made}
+use Rattle.grouping_color.proofs.MadeLaws.{streakOf-made, coupledPatterns-made, hitsOpen-made, hitCount-made, hitSizes-made, hitFirsts-made, hitSeconds-made, hitIntervals-made}
 use Rattle.grouping_color.proofs.HitCutLaws.{secondLengths-cut}
 use Rattle.grouping_color.proofs.IntervalCutLaws.{intervals-back}
 use Rattle.agreement.specs.Agreement.{HitsCut, Agree}
@@ -161,7 +160,8 @@ module _ {kinds : List ℕ} {k : Back} (x : Parted kinds k) where
         ap length (x .lengths-whole),
         length-append (x .lengths) (k .lengths),
         x .lengths-count,
-        length-hitMarks (coupled (firstLengths kinds) (streakCounts kinds) (patternTypes kinds)),
+        length-hitMarks (coupledPatterns kinds),
+        ap length (coupledPatterns-made kinds),
         length-coupled (firstLengths kinds) (streakCounts kinds) (patternTypes kinds),
       )
 

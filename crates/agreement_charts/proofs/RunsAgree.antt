@@ -22,7 +22,6 @@ use Rattle.agreement_rhythm.proofs.RhythmClaimed.{rhythm-numbers, share-group}
 -- the number that a run leaves at note p
 pub number-left : (margin : Float) (values : List Float) (old new : List ℕ) (r : ℕ) → Grouped margin values old new r → (p : ℕ) → p < length values
     → getD new p 0 ≡ groupAt margin values p
-unfolding groupAt
 number-left margin values old new r g p h =
     let numbers : List ℕ = groupNumbers (intervalMarks margin values) in
     let l : length numbers ≡ length values = length-numbers (intervalMarks margin values) ∙ length-marks margin values in

@@ -1,19 +1,17 @@
 -- Stretches behind a landmark: their objects' values are their counterparts', so the sums, the means and the tenths are too.
-use mathlib.Core.Path.{_≡_, sym, ap, _∙_, subst₂}
+use mathlib.Core.Path.{_≡_, sym, _∙_, subst₂}
 use mathlib.Core.List.{List}
 use Prim.Native.Nat.{ℕ, _+_, _-_, _≤_, _<_}
 use native.Mathlib.Omega.{arith}
-use lib.IntN.{pos}
 use lib.ListN.{length, getD}
 use lib.Seq.{ext-getD}
-use lib.Ieee.{Float, nan, binary64, div, ofInt}
-use Rattle.numeric.specs.Constants.{zero}
-use Rattle.numeric.specs.Tenths.{tenthsOf}
+use lib.Ieee.{Float, nan}
 use Rattle.grouping_marks.specs.Over.{part}
 use Rattle.grouping_marks.proofs.OverLaws.{length-part, getD-part}
 use Rattle.grouping_color.specs.Preprocessor.{hitOf}
 use Rattle.evaluator_calls.specs.Colour.{colourAt, colourValues}
-use Rattle.evaluator_calls.specs.Stretch.{sumFrom, meanOf, meanTenths}
+use Rattle.evaluator_calls.specs.Stretch.{meanOf, meanTenths}
+use Rattle.evaluator_calls.proofs.AlikeLaws.{mean-alike, tenths-alike}
 use Rattle.evaluator_calls.proofs.LookLaws.{length-values, value-of}
 use Rattle.agreement.specs.CommonTail.{Counterparts, CommonTail}
 use Rattle.agreement.specs.Agreement.{Agree}
@@ -62,9 +60,7 @@ module _ {limit : ℕ} {kinds : List ℕ} {a g : ℕ} {kinds′ : List ℕ} {b h
           ∙ sym (getD-part s′ (e′ - s′) values′ i nan (omega arith)))
 
       pub mean-agree : meanOf values s e ≡ meanOf values′ s′ e′
-      unfolding meanOf
-      mean-agree t = div binary64 (sumFrom zero (same-part t)) (ofInt binary64 (pos (same-size t)))
+      mean-agree = mean-alike values values′ s e s′ e′ same-size same-part
 
       pub tenths-agree : meanTenths values s e ≡ meanTenths values′ s′ e′
-      unfolding meanTenths
-      tenths-agree = ap tenthsOf mean-agree
+      tenths-agree = tenths-alike values values′ s e s′ e′ mean-agree

@@ -22,7 +22,6 @@ use Rattle.agreement_rhythm.proofs.NoteLaws.{notes-fit, same-count, not
 
 -- group numbers never fall
 pub group-rise : (margin : Float) (deltas : List Float) (p q : ℕ) → p ≤ q → q < length deltas → groupAt margin deltas p ≤ groupAt margin deltas q
-unfolding groupAt
 group-rise margin deltas p q l h = numbers-rise (intervalMarks margin deltas) p q l (omega (arith, length-marks margin deltas))
 
 -- from notes a and b on, counterparts have group numbers that differ by a constant
@@ -82,7 +81,6 @@ module _ (margin : Float) (xs ys : List Float) (t : ℕ) (fits : t ≤ length xs
     (c : Counterparts xs ys i i′) (m : RhythmLandmark margin xs t i ⊎ RhythmLandmark margin ys t i′) where
   -- the numbers differ by a constant from the note before the landmark on
   pub rhythm-numbers : Shifted margin xs (i - 1) ys (i′ - 1)
-  unfolding groupAt
   rhythm-numbers = record {
     start = omega (arith, some, some′);
     shift = λ p q l h d.
@@ -121,7 +119,6 @@ module _ (margin : Float) (xs ys : List Float) (t : ℕ) (fits : t ≤ length xs
 -- ---- the claim is not empty: a group opens at the landmark or at the next note
 
 opens-by-mark : (margin : Float) (deltas : List Float) (p : ℕ) → suc p < length deltas → getD (intervalMarks margin deltas) (suc p) 0 ≡ 1 → OpensAt margin deltas (suc p)
-unfolding groupAt
 opens-by-mark margin deltas p l e = record {
   there = l;
   first = λ n h g.

@@ -144,7 +144,7 @@ unfoldable riseBefore : List Float → ℕ → Bool
 riseBefore deltas i = isThere deltas (i + 1) && risesAt deltas (i - 1)
 
 rise-computed : refutes riseBefore (wholes (100 ∷ [])) [] (wholes (100 ∷ 200 ∷ 200 ∷ [])) 1 ≡ true
-unfolding refutes changes riseBefore isThere risesAt groupAt margin wholes scan opened groupNumbers intervalMarks marksAfter rises isNear absOf add sub le lt ofInt round
+unfolding refutes changes riseBefore isThere risesAt margin wholes scan opened groupNumbers intervalMarks marksAfter rises isNear absOf add sub le lt ofInt round
 rise-computed = refl
 
 rise-fails : ClaimFrom riseBefore → ⊥
@@ -155,7 +155,7 @@ unfoldable riseThenNotNear : List Float → ℕ → Bool
 riseThenNotNear deltas i = isThere deltas (i + 1) && (risesAt deltas (i - 1) && not (nearAt deltas i))
 
 rise-then-not-near-computed : refutes riseThenNotNear (wholes (100 ∷ [])) [] (wholes (100 ∷ 200 ∷ 300 ∷ [])) 1 ≡ true
-unfolding refutes changes riseThenNotNear isThere risesAt nearAt groupAt margin wholes scan opened groupNumbers intervalMarks marksAfter rises isNear absOf add sub le lt ofInt round
+unfolding refutes changes riseThenNotNear isThere risesAt nearAt margin wholes scan opened groupNumbers intervalMarks marksAfter rises isNear absOf add sub le lt ofInt round
 rise-then-not-near-computed = refl
 
 rise-then-not-near-fails : ClaimFrom riseThenNotNear → ⊥
@@ -166,7 +166,7 @@ unfoldable nearBefore : List Float → ℕ → Bool
 nearBefore deltas i = nearAt deltas (i - 1)
 
 last-computed : refutes nearBefore [] (wholes (100 ∷ [])) (wholes (100 ∷ 100 ∷ [])) 1 ≡ true
-unfolding refutes changes nearBefore nearAt groupAt margin wholes scan opened groupNumbers intervalMarks marksAfter rises isNear absOf add sub le lt ofInt round
+unfolding refutes changes nearBefore nearAt margin wholes scan opened groupNumbers intervalMarks marksAfter rises isNear absOf add sub le lt ofInt round
 last-computed = refl
 
 last-fails : ClaimFrom nearBefore → ⊥
@@ -177,7 +177,7 @@ unfoldable noteEarlier : List Float → ℕ → Bool
 noteEarlier deltas i = threeNotes deltas (i + 1)
 
 earlier-computed : refutes noteEarlier (wholes (50 ∷ [])) [] (wholes (50 ∷ 100 ∷ 100 ∷ 200 ∷ [])) 1 ≡ true
-unfolding refutes changes noteEarlier threeNotes isThere nearAt groupAt margin wholes scan opened groupNumbers intervalMarks marksAfter rises isNear absOf add sub le lt ofInt round
+unfolding refutes changes noteEarlier threeNotes isThere nearAt margin wholes scan opened groupNumbers intervalMarks marksAfter rises isNear absOf add sub le lt ofInt round
 earlier-computed = refl
 
 earlier-fails : ClaimFrom noteEarlier → ⊥

@@ -17,7 +17,7 @@ use Rattle.agreement_rhythm.specs.RhythmLandmark.{RhythmLandmark}
 -- ---- two lists of notes, given by their deltas
 
 -- the number of note p's rhythm group
-unfoldable pub groupAt : Float → List Float → ℕ → ℕ
+abbrev pub groupAt : Float → List Float → ℕ → ℕ
 groupAt margin deltas p = getD (groupNumbers (intervalMarks margin deltas)) p 0
 
 -- "A group opens at its first object": there is a note p, and no note before it is of its group

@@ -60,7 +60,7 @@ module _ (s : Settings) (c : Chart) (beside : ℕ) (accepted : verdict c beside 
 
   value-is : (i : ℕ) → i < size c
       → getD (valuesOf s c) i nan ≡ mul binary64 (objectSum (lookedAt (s .limit) (c .kinds) i)) (ratioPenalty (s .tolerance) i (getD (c .ratios) i nan) (getD (c .ratios) (i - 2) nan))
-  unfolding valuesOf colourAt
+  unfolding colourAt
   value-is i h = value-of (s .limit) (s .tolerance) (c .kinds) (c .ratios) i h
 
   ratio-at : (i : ℕ) → i < size c → T (le lowest (getD (c .ratios) i nan)) × T (le (getD (c .ratios) i nan) highest)
@@ -81,7 +81,6 @@ module _ (s : Settings) (c : Chart) (beside : ℕ) (accepted : verdict c beside 
   value-no-nan i h = number-no-nan (value-number i h)
 
   pub length-valuesOf : length (valuesOf s c) ≡ size c
-  unfolding valuesOf
   length-valuesOf = length-values (s .limit) (s .tolerance) (c .kinds) (c .ratios)
 
   module _ (a b : ℕ) (some : a < b) (inside : b ≤ size c) where

@@ -71,7 +71,7 @@ module _ (s : Settings) (c : Chart) (m : Memory) where
   -- the memory that the passes leave is the definition's
   pub filled-is : (value scratch : List Float) (work : List ℕ) → Coloured (s .limit) (s .tolerance) (c .kinds) (c .ratios) (m .value) value (m .work) work (m .scratch) scratch
       → _≡_ {A = Memory} (record { value = value; work = work; scratch = scratch }) (filled s c m)
-  unfolding filled valuesOf
+  unfolding filled
   filled-is value scratch work e t = record { value = e .values t; work = e .cleared t; scratch = e .floats t }
 
   pub colour-refused : (number : ℕ) (place : ObjectIndex) → judged ≡ Refused number place

@@ -2,6 +2,8 @@
 pub mod LookLaws
 pub mod CallsLaws
 pub mod BoundLaws
+pub mod AlikeLaws
+pub mod AnswerLaws
 mod TablesLaws
 mod StretchLaws
 mod Examples

@@ -4,13 +4,14 @@ use mathlib.Core.List.{List}
 use Prim.Native.Nat.{ℕ, _+_, _-_, _≤_, _<_}
 use native.Mathlib.Omega.{arith}
 use lib.IntN.{pos}
-use lib.ListN.{length, take, drop, getD}
-use lib.Seq.{getD-take, ext-getD}
+use lib.ListN.{length, take, drop}
+use lib.Seq.{ext-getD}
 use lib.Ieee.{Float, nan, binary64, div, ofInt}
 use Rattle.numeric.specs.Constants.{zero}
 use Rattle.numeric.specs.Tenths.{InTenthsRange}
 use Rattle.grouping_marks.specs.Over.{over, part}
-use Rattle.grouping_marks.proofs.OverLaws.{length-over, front, length-part, getD-part, lent-part}
+use Rattle.grouping_marks.proofs.PieceLaws.{getD-over}
+use Rattle.grouping_marks.proofs.OverLaws.{length-over, length-part, getD-part, lent-part}
 use Rattle.grouping_chart.specs.Chart.{Chart, size}
 use Rattle.grouping_chart.specs.Settings.{Settings, Permitted}
 use Rattle.evaluator_calls.specs.Stretch.{sumFrom, meanOf}
@@ -19,16 +20,12 @@ use Rattle.evaluator_calls.specs.Passes.{Coloured}
 use Rattle.evaluator_calls.proofs.CallsLaws.{Within, judged, chart-room}
 use Rattle.evaluator_calls.proofs.BoundLaws.{length-valuesOf, mean-tenths}
 
-getD-over : (new old : List Float) (i : ℕ) → i < length new → getD (over new old) i nan ≡ getD new i nan
-getD-over new old i h =
-    sym (getD-take (length new) (over new old) i nan h) ∙ ap (λ (l : List Float). getD l i nan) (front new old (length new) (λ _. length new))
-
 -- a part that lies in what was written
 part-over : (a n : ℕ) (new old : List Float) → a + n ≤ length new → length new ≤ length old → part a n (over new old) ≡ part a n new
 part-over a n new old h r =
     let l : length (part a n (over new old)) ≡ n = length-part a n (over new old) (omega (arith, length-over new old r)) in
     ext-getD nan (part a n (over new old)) (part a n new) (l ∙ sym (length-part a n new h))
-    (λ i k. let j : i < n = omega arith in getD-part a n (over new old) i nan j ∙ getD-over new old (a + i) (omega arith) ∙ sym (getD-part a n new i nan j))
+    (λ i k. let j : i < n = omega arith in getD-part a n (over new old) i nan j ∙ getD-over new old (a + i) nan (omega arith) ∙ sym (getD-part a n new i nan j))
 
 -- ---- an accepted stretch, after the values are filled
 module _ (s : Settings) (p : Permitted s) (c : Chart) (m : Memory) (a b : ℕ) (w : Within (judged s c m) (size c) a b) (value scratch : List Float) (work : List ℕ)
@@ -40,7 +37,6 @@ module _ (s : Settings) (p : Permitted s) (c : Chart) (m : Memory) (a b : ℕ) (
   long = length-valuesOf s c (beside (size c) m) (w .accepted)
 
   filled-value : value ≡ over values (m .value)
-  unfolding valuesOf
   filled-value = e .values
 
   room : length values ≤ length (m .value)

@@ -34,7 +34,7 @@ unfoldable pub beside : ℕ → Memory → ℕ
 beside n m = shortRefusal (anyShort n (length (m .value) ∷ [])) n (length (m .work)) (length (m .scratch))
 
 -- the chart's colour values
-unfoldable pub valuesOf : Settings → Chart → List Float
+abbrev pub valuesOf : Settings → Chart → List Float
 valuesOf s c = colourValues (s .limit) (s .tolerance) (c .kinds) (c .ratios)
 
 -- the memory after an accepted call

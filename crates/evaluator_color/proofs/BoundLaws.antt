@@ -11,6 +11,7 @@ use lib.Ieee.Positive.{positive, between, le→cross}
 use Rattle.numeric.specs.Constants.{zero, half, one, two, eightTenths}
 use Rattle.numeric.specs.Logistic.{logisticAt}
 use Rattle.numeric.specs.Near.{isNear}
+use Rattle.numeric.proofs.ConstantLaws.{eight-tenths-bounded}
 use Rattle.numeric.proofs.Bounded.{Bounded, bounded-more, round-bounded, add-bounded, sub-bounded, mul-bounded, div-bounded}
 use Rattle.numeric.proofs.logistic.Bounds.{logistic-bounded, rest-bounded}
 use Rattle.evaluator_color.specs.declared.Looked.{Looked}
@@ -71,12 +72,12 @@ pub ratio-bounded : (r : Float) → T (le lowest r) → T (le r highest) → Bou
 ratio-bounded r lo hi = below-highest r (between lowest r highest tt tt lo hi) hi
 
 pub lowered-bounded : (r : Float) → T (le lowest r) → T (le r highest) → Bounded (lowered r) (2 ^ 24 + 1)
-unfolding lowered eightTenths
+unfolding lowered
 lowered-bounded r lo hi =
     sub-bounded one (mul binary64 (div binary64 r two) eightTenths) 1 (2 ^ 24) (leb→le (2 ^ 24 + 1) (2 ^ 53) tt) (leb→le 1 1 tt)
     (mul-bounded (div binary64 r two) eightTenths (2 ^ 24) 1 (leb→le (2 ^ 24) (2 ^ 53) tt)
     (div-bounded r two (2 ^ 24) 1 (leb→le (2 ^ 24) (2 ^ 53) tt) (ratio-bounded r lo hi) (leb→le 1 2 tt))
-    (round-bounded false 8 10 1 (zero-lt-suc 9) (leb→le 1 (2 ^ 53) tt) (leb→le 8 10 tt)))
+    eight-tenths-bounded)
 
 either : (b : Bool) (x y : Float) (B : ℕ) → Bounded x B → Bounded y B → Bounded (cond b x y) B
 either true x y B h g = h

@@ -7,7 +7,7 @@ use native.Mathlib.Omega.{arith}
 use lib.ListN.{length, take, drop, getD, replicate, length-replicate}
 use lib.Seq.{getD-take}
 use lib.Ieee.{Float, nan, binary64, ofBits}
-use Rattle.grouping_marks.specs.Over.{over, put, write, written}
+use Rattle.grouping_marks.specs.Over.{over, put, write}
 use Rattle.grouping_marks.proofs.OverLaws.{length-over, front, drop-over, put-front, over-agree, lent-part, written-append}
 use Rattle.grouping_same_rhythm.specs.Own.{ratioOf}
 use Rattle.grouping_same_rhythm.specs.SameRhythm.{groupObjects, firstsOf, startsOf, intervalsOf, groupIntervals}
@@ -80,7 +80,7 @@ module _ {margin : Float} {kinds : List ℕ} {starts deltas : List Float} {g : �
         → FoundIs margin kinds starts deltas g work₀ work scratch₀ scratch (
         record { first = r .first; notes = r .notes; owns = r .owns; duration = r .duration; interval = getD scratch g nan; pattern = p }
         )
-    unfolding written findWrites
+    unfolding findWrites
     found p e = record {
       first = at .first;
       notes = at .notes;

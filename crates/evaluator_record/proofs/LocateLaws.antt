@@ -9,7 +9,7 @@ use lib.ListN.{length, take, drop, getD}
 use lib.Seq.{getD-take}
 use lib.Ieee.{Float, nan, binary64, sub}
 use lib.Ieee.Scale.{finite}
-use Rattle.grouping_marks.specs.Over.{over, put, part, written}
+use Rattle.grouping_marks.specs.Over.{over, put, part}
 use Rattle.grouping_marks.specs.Marks.{groupCount}
 use Rattle.grouping_marks.specs.Parted.{parted}
 use Rattle.grouping_marks.proofs.OverLaws.{length-over, front, drop-over, put-front, length-part, getD-part, length-put, drop-put, part-put-same, getD-put-before}
@@ -180,7 +180,7 @@ module _ {margin : Float} {kinds : List ℕ} {starts deltas : List Float} {g : �
             groups = groups;
           }
           )
-      unfolding durationOf written workWrites locateWrites
+      unfolding durationOf workWrites locateWrites
       located kept =
           let long : length left ≡ m = kept ∙ front-long in
           let back : left ++ drop m scratch₁ ≡ over left scratch₁ = over-pieces left scratch₁ m long in

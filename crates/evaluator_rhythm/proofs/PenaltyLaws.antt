@@ -2,7 +2,6 @@
 use mathlib.Core.Bool.{true, false, not, cond}
 use mathlib.Core.List.{List}
 use Prim.Native.Nat.{ℕ, _+_, _*_, _^_}
-use native.Mathlib.Nat.{zero-lt-suc}
 use native.Mathlib.Omega.{arith}
 use lib.IntN.{pos, negsuc}
 use lib.Dec.{T, ltb, leb→le}
@@ -12,7 +11,8 @@ use lib.Ieee.Fits.{mul-fits}
 use lib.Ieee.Positive.{positive, between, le→cross}
 use Rattle.numeric.specs.Constants.{one, eightTenths}
 use Rattle.numeric.proofs.Values.{number-no-nan}
-use Rattle.numeric.proofs.Bounded.{Bounded, AtLeast, bounded-number, round-bounded, cond-bounded, sub-bounded, mul-bounded, div-bounded}
+use Rattle.numeric.proofs.ConstantLaws.{eight-tenths-bounded}
+use Rattle.numeric.proofs.Bounded.{Bounded, AtLeast, bounded-number, cond-bounded, sub-bounded, mul-bounded, div-bounded}
 use Rattle.grouping_same_rhythm.specs.declared.own.Own.{Own}
 use Rattle.grouping_same_rhythm.specs.declared.owns.Recent.{Recent}
 use Rattle.evaluator_rhythm.specs.RepeatedInterval.{present, somePair, walkPenalty, newestFirst, smaller, larger, durationPenalty, repeatedIntervalPenalty}
@@ -22,11 +22,11 @@ one-bounded : Bounded one 1
 one-bounded = leb→le 1 1 tt
 
 walk-bounded : (threshold : Float) (k : ℕ) (owns : List Own) → Bounded (walkPenalty threshold k owns) 1
-unfolding walkPenalty eightTenths
+unfolding walkPenalty
 walk-bounded threshold k owns =
     let xs = present (take k owns) in
     cond-bounded (ltb (length xs) k) one (cond (somePair threshold xs) eightTenths one) 1 one-bounded
-    (cond-bounded (somePair threshold xs) eightTenths one 1 (round-bounded false 8 10 1 (zero-lt-suc 9) (leb→le 1 (2 ^ 53) tt) (leb→le 8 10 tt)) one-bounded)
+    (cond-bounded (somePair threshold xs) eightTenths one 1 eight-tenths-bounded one-bounded)
 
 smaller-bounded : (x y : Float) (B : ℕ) → Bounded x B → Bounded y B → Bounded (smaller x y) B
 unfolding smaller

@@ -37,8 +37,12 @@ module _ (kinds : List ℕ) where
   unfolding patternTypes
   patternTypes-made = refl
 
-  pub hitsOpen-made : hitsOpen kinds ≡ hitMarks (coupled (firstLengths kinds) (streakCounts kinds) (patternTypes kinds))
-  unfolding coupledPatterns hitsOpen
+  pub coupledPatterns-made : coupledPatterns kinds ≡ coupled (firstLengths kinds) (streakCounts kinds) (patternTypes kinds)
+  unfolding coupledPatterns
+  coupledPatterns-made = refl
+
+  pub hitsOpen-made : hitsOpen kinds ≡ hitMarks (coupledPatterns kinds)
+  unfolding hitsOpen
   hitsOpen-made = refl
 
   pub hitCount-made : hitCount kinds ≡ groupCount (hitsOpen kinds)

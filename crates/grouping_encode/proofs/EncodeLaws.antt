@@ -1,12 +1,13 @@
 -- The outcome of encode, case by case, over plain lists: a refusal leaves all as lent, and an accepted chart has room in every slice.
-use mathlib.Core.Path.{_≡_, sym, ap, _∙_}
+use mathlib.Core.Path.{_≡_, refl, sym, ap, _∙_}
 use mathlib.Core.Bool.{Bool}
 use mathlib.Core.List.{List}
-use Prim.Native.Nat.{ℕ, _*_, _≤_}
-use lib.ListN.{length, replicate}
+use Prim.Native.Nat.{ℕ, _*_, _≤_, _<_}
+use lib.ListN.{length, getD, replicate}
 use lib.Ieee.{Float, binary64, ofBits}
 use native.Mathlib.Omega.{arith}
 use Rattle.grouping_marks.specs.Over.{over}
+use Rattle.grouping_marks.proofs.PieceLaws.{getD-over}
 use Rattle.grouping_chart.specs.Chart.{Chart, size}
 use Rattle.grouping_chart.specs.Refusal.{verdict}
 use Rattle.grouping_chart.specs.Room.{anyShort, shortRefusal}
@@ -17,7 +18,8 @@ use Rattle.grouping_chart.specs.declared.chart.Verdict.the-variants.{Accepted, 
 use Rattle.grouping_chart.proofs.AcceptedLaws.{accepted-good}
 use Rattle.grouping_chart.proofs.RefusalLaws.{verdict-is}
 use Rattle.grouping_chart.proofs.RoomLaws.{roomy, long-enough}
-use Rattle.grouping_color.specs.Preprocessor.{hitCount}
+use Rattle.grouping_color.specs.Preprocessor.{hitOf, intervalOf, hitCount}
+use Rattle.grouping_color.proofs.BoundLaws.{length-hitOf, length-intervalOf}
 use Rattle.grouping_encode.specs.declared.Encoding.the-variants as answer
 use Rattle.grouping_encode.specs.Encode.{Memory, Outcome, places, beside, filled, outcomeBy, encodeOutcome}
 use Rattle.grouping_encode.specs.Passes.{AnswerRoom, Encoded}
@@ -112,3 +114,18 @@ filled-is s kinds m streak place pattern outer hit interval work scratch count e
   work = e .cleared t;
   scratch = f t;
 }
+
+-- ---- what an accepted call writes, place by place
+module _ (s : Settings) (c : Chart) (lent : Memory) (accepted : verdict c (beside (size c) lent) ≡ Accepted) where
+  left : encodeOutcome s c lent .memory ≡ filled s (c .kinds) lent
+  left = sym (ap (λ (o : Outcome). o .memory) (done-outcome s c lent _ (filled s (c .kinds) lent) accepted refl refl))
+
+  pub hit-written : (i : ℕ) → i < size c → getD (encodeOutcome s c lent .memory .hit) i 0 ≡ getD (hitOf (c .kinds)) i 0
+  unfolding filled
+  hit-written i h = ap (λ (m : Memory). getD (m .hit) i 0) left ∙ getD-over (hitOf (c .kinds)) (lent .hit) i 0 (omega (arith, length-hitOf (c .kinds)))
+
+  pub interval-written : (i : ℕ) → i < size c → getD (encodeOutcome s c lent .memory .interval) i 0 ≡ getD (intervalOf (s .limit) (c .kinds)) i 0
+  unfolding filled
+  interval-written i h =
+      ap (λ (m : Memory). getD (m .interval) i 0) left
+      ∙ getD-over (intervalOf (s .limit) (c .kinds)) (lent .interval) i 0 (omega (arith, length-intervalOf (c .kinds) (s .limit)))

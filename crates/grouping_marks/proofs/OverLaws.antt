@@ -174,6 +174,5 @@ module _ {A : Type 0} where
   lent-front n w = refl
 
   pub written-append : (xs ys : List (Write A)) (w : List A) → written (xs ++ ys) w ≡ written ys (written xs w)
-  unfolding written
   written-append [] ys w = refl
   written-append (x ∷ xs) ys w = written-append xs ys (put (x .place) (x .items) w)

@@ -25,6 +25,6 @@ abbrev pub write : {A : Type 0} → ℕ → List A → Write A
 write place items = record { place = place; items = items }
 
 -- `old` after some lists were written, one after the other
-unfoldable pub written : {A : Type 0} → List (Write A) → List A → List A
+abbrev pub written : {A : Type 0} → List (Write A) → List A → List A
 written [] old = old
 written (x ∷ xs) old = written xs (put (x .place) (x .items) old)

@@ -14,9 +14,10 @@ use Rattle.grouping_marks.proofs.MarksLaws.{length-numbers, length-places, leng
 use Rattle.grouping_color.specs.MonoStreak.{streakMarks, streakOf, streakLengths, streakTypes}
 use Rattle.grouping_color.specs.AlternatingMonoPattern.{patternMarks, coupled}
 use Rattle.grouping_color.specs.RepeatingHitPatterns.{hitMarks, secondLengths, intervals}
-use Rattle.grouping_color.specs.Preprocessor.{patternsOpen, firstLengths, streakCounts, patternTypes, coupledPatterns, hitsOpen, hitCount, hitSizes, hitFirsts, hitSeconds, hitIntervals}
+use Rattle.grouping_color.specs.Preprocessor.{patternsOpen, firstLengths, streakCounts, patternTypes, coupledPatterns, hitsOpen}
 use Rattle.grouping_color.specs.Passes.{Apart}
 use Rattle.grouping_color.proofs.LengthLaws.{length-streakMarks, length-patternMarks, length-coupled, length-hitMarks, length-secondLengths, length-intervals}
+use Rattle.grouping_color.proofs.MadeLaws.{streakOf-made, streakLengths-made, streakTypes-made, patternsOpen-made, firstLengths-made, streakCounts-made, patternTypes-made, coupledPatterns-made, hitsOpen-made, hitCount-made, hitSizes-made, hitFirsts-made, hitSeconds-made, hitIntervals-made}
 use Rattle.grouping_preprocessor.specs.Writes.{streakWrites, patternWrites, hitMarkWrites, hitWrites, coupledWrites, encoderWrites}
 use Rattle.grouping_preprocessor.specs.Passes.{Regions, Outside, Streaks, Patterns, Kept, HitMarks, Hits, Encodes}
 
@@ -94,13 +95,16 @@ pub streaks-made : (kinds w₀ w₁ w₂ w₃ w : List ℕ) (s : ℕ) → Region
     → w₃ ≡ put (2 * length kinds) (groupFirsts (part (7 * length kinds) (length kinds) w₂) kinds) w₂
     → (s ≡ groupCount (part (7 * length kinds) (length kinds) w₃)) × (w ≡ put (length kinds) (groupSizes (part (7 * length kinds) (length kinds) w₃)) w₃)
     → Streaks kinds w₀ w s
-unfolding streakOf streakLengths streakTypes written streakWrites
+unfolding streakWrites
 streaks-made kinds w₀ w₁ w₂ w₃ w s r e₁ e₂ e₃ e₄ =
     let n : ℕ = length kinds in
     let m : List ℕ = streakMarks kinds in
     let q : ℕ = groupCount m in
     let lm : length m ≡ n = length-streakMarks kinds in
     let few : q ≤ n = omega (arith, count-le m) in
+    let streak : groupNumbers m ≡ streakOf kinds = sym (streakOf-made kinds) in
+    let lengths : groupSizes m ≡ streakLengths kinds = sym (streakLengths-made kinds) in
+    let types : groupFirsts m kinds ≡ streakTypes kinds = sym (streakTypes-made kinds) in
     let o₁ : Wrote (7 * n) n m w₀ w₁ = record { is = e₁; size = lm; room = omega arith } in
     let l₁ : length w₁ ≡ length w₀ = long o₁ in
     let m₁ : part (7 * n) n w₁ ≡ m = here o₁ in
@@ -115,11 +119,12 @@ streaks-made kinds w₀ w₁ w₂ w₃ w s r e₁ e₂ e₃ e₄ =
     let made : Streaks kinds w₀ w q = record {
       counted = refl;
       memory =
-          o₄ .is ∙ ap (put n (groupSizes m)) (o₃ .is ∙ ap (put (2 * n) (groupFirsts m kinds)) (o₂ .is ∙ ap (put 0 (groupNumbers m)) (o₁ .is)));
+          o₄ .is ∙ ap (put n (groupSizes m)) (o₃ .is ∙ ap (put (2 * n) (groupFirsts m kinds)) (o₂ .is ∙ ap (put 0 (groupNumbers m)) (o₁ .is)))
+          ∙ (λ i. put n (lengths i) (put (2 * n) (types i) (put 0 (streak i) (put (7 * n) m w₀))));
       few = few;
-      streak = below o₄ 0 n (omega arith) ∙ below o₃ 0 n (omega arith) ∙ here o₂;
-      lengths = here o₄;
-      types = above o₄ (2 * n) q (omega arith) ∙ here o₃;
+      streak = below o₄ 0 n (omega arith) ∙ below o₃ 0 n (omega arith) ∙ here o₂ ∙ streak;
+      lengths = here o₄ ∙ lengths;
+      types = above o₄ (2 * n) q (omega arith) ∙ here o₃ ∙ types;
       outside =
           outside-then (outside o₁ n (omega arith)) (outside-then (outside o₂ n (omega arith)) (outside-then (outside o₃ n (omega arith)) (outside o₄ n (omega arith))));
     } in
@@ -135,7 +140,7 @@ pub patterns-made : (n s : ℕ) (w₀ w₁ w₂ w₃ w₄ w₅ w : List ℕ) (p 
     → w₅ ≡ put (2 * n) (groupFirsts (part (7 * n) s w₄) (part (2 * n) s w₄)) w₄
     → (p ≡ groupCount (part (7 * n) s w₅)) × (w ≡ put (5 * n) (groupSizes (part (7 * n) s w₅)) w₅)
     → Patterns n s (part n s w₀) (part (2 * n) s w₀) w₀ w p
-unfolding written patternWrites
+unfolding patternWrites
 patterns-made n s w₀ w₁ w₂ w₃ w₄ w₅ w p r hs e₁ e₂ e₃ e₄ e₅ e₆ =
     let x : List ℕ = part n s w₀ in
     let t : List ℕ = part (2 * n) s w₀ in
@@ -199,7 +204,7 @@ pub hit-marks-made : (n p : ℕ) (w₀ w₁ w₂ w : List ℕ) → Regions n w�
     → w₂ ≡ put (6 * n) (hitMarks (part (6 * n) p w₁)) w₁
     → w ≡ put (2 * n) (secondLengths (part n p w₂) (part (6 * n) p w₂)) w₂
     → HitMarks n p (part n p w₀) (coupled (part n p w₀) (part (5 * n) p w₀) (part (2 * n) p w₀)) w₀ w
-unfolding written hitMarkWrites
+unfolding hitMarkWrites
 hit-marks-made n p w₀ w₁ w₂ w r hp e₁ e₂ e₃ =
     let x : List ℕ = part n p w₀ in
     let f : List ℕ = coupled x (part (5 * n) p w₀) (part (2 * n) p w₀) in
@@ -231,7 +236,7 @@ pub hits-made : (limit n p : ℕ) (x f w₀ w₁ w₂ w₃ w₄ w₅ w₆ w : Li
     → w₆ ≡ put n (groupNumbers (part (6 * n) p w₅)) w₅
     → w ≡ put (2 * n) (groupPlaces (part (6 * n) p w₆)) w₆
     → Hits limit n p x f w₀ w h
-unfolding written hitWrites coupledWrites
+unfolding hitWrites coupledWrites
 hits-made limit n p x f w₀ w₁ w₂ w₃ w₄ w₅ w₆ w h r hp k e₂ e₃ e₄ e₅ e₆ e₇ =
     let m : List ℕ = hitMarks f in
     let q : ℕ = groupCount m in
@@ -303,17 +308,17 @@ pub encoded : (limit : ℕ) (kinds w₀ w₁ w₂ w : List ℕ) (s p h : ℕ) �
     → Patterns (length kinds) s (part (length kinds) s w₁) (part (2 * length kinds) s w₁) w₁ w₂ p
     → Hits limit (length kinds) p (part (length kinds) p w₂) (coupled (part (length kinds) p w₂) (part (5 * length kinds) p w₂) (part (2 * length kinds) p w₂)) w₂ w h
     → Encodes limit kinds w₀ w (record { streaks = s; patterns = p; hits = h; limit = limit })
-unfolding patternsOpen firstLengths streakCounts patternTypes coupledPatterns hitsOpen hitCount hitSizes hitFirsts hitSeconds hitIntervals encoderWrites
+unfolding encoderWrites
 encoded limit kinds w₀ w₁ w₂ w s p h S P H =
     let n : ℕ = length kinds in
     let x : part n s w₁ ≡ streakLengths kinds = S .lengths in
     let t : part (2 * n) s w₁ ≡ streakTypes kinds = S .types in
-    let m : patternMarks (part n s w₁) ≡ patternsOpen kinds = ap patternMarks x in
-    let y : part n p w₂ ≡ firstLengths kinds = P .firsts ∙ (λ i. groupFirsts (m i) (x i)) in
-    let c : part (5 * n) p w₂ ≡ streakCounts kinds = P .counts ∙ ap groupSizes m in
-    let u : part (2 * n) p w₂ ≡ patternTypes kinds = P .types-of ∙ (λ i. groupFirsts (m i) (t i)) in
-    let f : coupled (part n p w₂) (part (5 * n) p w₂) (part (2 * n) p w₂) ≡ coupledPatterns kinds = λ i. coupled (y i) (c i) (u i) in
-    let g : hitMarks (coupled (part n p w₂) (part (5 * n) p w₂) (part (2 * n) p w₂)) ≡ hitsOpen kinds = ap hitMarks f in
+    let m : patternMarks (part n s w₁) ≡ patternsOpen kinds = ap patternMarks x ∙ sym (patternsOpen-made kinds) in
+    let y : part n p w₂ ≡ firstLengths kinds = P .firsts ∙ (λ i. groupFirsts (m i) (x i)) ∙ sym (firstLengths-made kinds) in
+    let c : part (5 * n) p w₂ ≡ streakCounts kinds = P .counts ∙ ap groupSizes m ∙ sym (streakCounts-made kinds) in
+    let u : part (2 * n) p w₂ ≡ patternTypes kinds = P .types-of ∙ (λ i. groupFirsts (m i) (t i)) ∙ sym (patternTypes-made kinds) in
+    let f : coupled (part n p w₂) (part (5 * n) p w₂) (part (2 * n) p w₂) ≡ coupledPatterns kinds = (λ i. coupled (y i) (c i) (u i)) ∙ sym (coupledPatterns-made kinds) in
+    let g : hitMarks (coupled (part n p w₂) (part (5 * n) p w₂) (part (2 * n) p w₂)) ≡ hitsOpen kinds = ap hitMarks f ∙ sym (hitsOpen-made kinds) in
     let a : List (Write ℕ) = patternWrites n (streakLengths kinds) (streakTypes kinds) in
     let b : List (Write ℕ) = coupledWrites limit n (firstLengths kinds) (coupledPatterns kinds) in
     record {
@@ -324,7 +329,7 @@ encoded limit kinds w₀ w₁ w₂ w s p h S P H =
       tables = record {
         count-s = S .counted;
         count-p = P .counted ∙ ap groupCount m;
-        count-h = H .counted ∙ ap groupCount g;
+        count-h = H .counted ∙ ap groupCount g ∙ sym (hitCount-made kinds);
         searched = refl;
         few-s = S .few;
         few-p = omega arith;
@@ -334,7 +339,9 @@ encoded limit kinds w₀ w₁ w₂ w s p h S P H =
         streak-place = part-shorter (4 * n) s n w₂ w (S .few) (H .kept .place) ∙ P .places ∙ ap groupPlaces m;
         hit = H .numbers ∙ ap groupNumbers g;
         pattern-place = H .places ∙ ap groupPlaces g;
-        interval = H .interval ∙ (λ i. intervals limit (groupSizes (g i)) (groupFirsts (g i) (y i)) (groupFirsts (g i) (secondLengths (y i) (g i))));
+        interval =
+            H .interval ∙ (λ i. intervals limit (groupSizes (g i)) (groupFirsts (g i) (y i)) (groupFirsts (g i) (secondLengths (y i) (g i))))
+            ∙ sym (hitIntervals-made kinds limit ∙ (λ i. intervals limit (hitSizes-made kinds i) (hitFirsts-made kinds i) (hitSeconds-made kinds i)));
         outside = outside-then (S .outside) (outside-then (P .outside) (H .kept .outside));
       };
     }

@@ -6,7 +6,7 @@ use native.Mathlib.Omega.{arith}
 use lib.ListN.{length, take, drop, getD}
 use lib.Seq.{length-take-le}
 use lib.Ieee.{Float}
-use Rattle.grouping_marks.specs.Over.{over, put, part, written}
+use Rattle.grouping_marks.specs.Over.{over, put, part}
 use Rattle.grouping_marks.specs.Marks.{groupCount, groupNumbers}
 use Rattle.grouping_marks.specs.Parted.{parted}
 use Rattle.grouping_marks.proofs.OverLaws.{length-over, front, drop-over, put-front, length-put, drop-put, part-put-same, part-put-before}
@@ -162,7 +162,7 @@ module _ {kinds : List ℕ} {starts deltas : List Float} {work₀ : List ℕ} {s
 
     pub tabled : {work : List ℕ} {scratch : List Float} {patterns : ℕ} → GroupsNumbered margin starts (length kinds) groups work₁ work scratch₁ scratch patterns
         → Tabled margin kinds starts deltas work₀ work scratch₀ scratch (record { notes = m; groups = groups; patterns = patterns })
-    unfolding patternGroupsIn written workWrites scratchWrites
+    unfolding patternGroupsIn workWrites scratchWrites
     tabled {work} {scratch} {patterns} b =
         let n : ℕ = length kinds in
         let values : List Float = groupIntervals margin kinds starts deltas in

@@ -2,6 +2,7 @@
 pub mod Values
 pub mod Monotone
 pub mod Bounded
+pub mod ConstantLaws
 mod Tests
 mod Sign
 mod Units

@@ -5,8 +5,7 @@ use native.Mathlib.Omega.{arith}
 use Rattle.grouping_chart.specs.Chart.{Chart}
 use Rattle.grouping_chart.specs.Settings.{baseSettings}
 use Rattle.grouping_chart.specs.declared.chart.Verdict.the-variants.{Accepted}
-use Rattle.grouping_same_rhythm.specs.SameRhythm.{rhythmMarks}
-use Rattle.grouping_rhythm.specs.Rhythm.{groupsIn}
+use Rattle.grouping_rhythm.proofs.TablesLaws.{groups-counted}
 use Rattle.evaluator_record.specs.Calls.{Memory, windowGood}
 use Rattle.evaluator_record.proofs.CallsLaws.{groupsOf, judged, judged-is, lengths-same, group-room, chart-refused, window-refused, group-refused, record-done}
 use borrow.Author.Needs.{needs}
@@ -44,8 +43,8 @@ abbrev told : tie.After-count-groups → tie.After-enum-told
 told c = c .before .before .before
 
 counted : (c : tie.After-count-groups) → c .count-groups .result ≡ groupsOf baseSettings (chartOf (start (told c)))
-unfolding groupsIn rhythmMarks
-counted c = c .count-groups .ensures
+counted c =
+    c .count-groups .ensures ∙ sym (groups-counted _ _ _ (lengths-same baseSettings (chartOf (start (told c))) (memoryOf (start (told c))) (accepted (told c))))
 
 short-refusal-requires : tie.Need-short-refusal-requires
 short-refusal-requires c κs = search needs

@@ -1,14 +1,14 @@
 -- `penalty_if` meets its contract, arm by arm: each literal computes to its value.
-use mathlib.Core.Path.{sym, ap}
+use mathlib.Core.Path.{sym, ap, _∙_}
 use mathlib.Core.Bool.{Bool, cond}
-use lib.Ieee.{ofBits, round}
+use lib.Ieee.{ofBits}
 use Rattle.numeric.specs.Constants.{one, eightTenths}
+use Rattle.numeric.proofs.ConstantLaws.{eight-tenths-bits}
 use Rattle.evaluator_rhythm.proofs.penalty_if.Statement.{statement}
 use Rattle.evaluator_rhythm.proofs.penalty_if.Tie as tie
 
 returns : tie.Need-returns
-unfolding eightTenths ofBits round
-returns c = sym (ap (λ (b : Bool). cond b eightTenths one) (c .if1 .taken))
+returns c = eight-tenths-bits ∙ sym (ap (λ (b : Bool). cond b eightTenths one) (c .if1 .taken))
 
 returns-2 : tie.Need-returns-2
 unfolding ofBits

@@ -3,7 +3,7 @@
 use std::collections::BTreeSet;
 use std::fs;
 
-use document_tests::{declaration, found, has_name, named, root, Named};
+use repository_tests::{declaration, found, has_name, named, root, Named};
 
 const DOCUMENTS: [&str; 4] = [
     "README.md",
