@@ -165,13 +165,24 @@ landmark-opens margin deltas t i m = by (rises margin (getD deltas i nan) (getD 
 
 -- ---- two charts
 
+module _ {margin : Float} {m : ℕ} {kinds : List ℕ} {deltas : List Float} {kinds′ : List ℕ} {deltas′ : List Float} (c : CommonTail m kinds deltas kinds′ deltas′) (i i′ : ℕ)
+    (d : Counterparts (noteDeltas kinds deltas) (noteDeltas kinds′ deltas′) i i′)
+    (x : RhythmLandmark margin (noteDeltas kinds deltas) (tailNotes m kinds deltas) i ⊎ RhythmLandmark margin (noteDeltas kinds′ deltas′) (tailNotes m kinds′ deltas′) i′) where
+  fits : tailNotes m kinds deltas ≤ length (noteDeltas kinds deltas)
+  fits = notes-fit m kinds deltas (c .whole) (c .inside)
+
+  fits′ : tailNotes m kinds deltas ≤ length (noteDeltas kinds′ deltas′)
+  fits′ = omega (arith, same-count c, notes-fit m kinds′ deltas′ (c .whole′) (c .inside′))
+
+  either : RhythmLandmark margin (noteDeltas kinds deltas) (tailNotes m kinds deltas) i ⊎ RhythmLandmark margin (noteDeltas kinds′ deltas′) (tailNotes m kinds deltas) i′
+  either = subst (λ (n : ℕ). RhythmLandmark margin (noteDeltas kinds deltas) (tailNotes m kinds deltas) i ⊎ RhythmLandmark margin (noteDeltas kinds′ deltas′) n i′) (sym (same-count c)) x
+
+  pub chart-numbers : Shifted margin (noteDeltas kinds deltas) (i - 1) (noteDeltas kinds′ deltas′) (i′ - 1)
+  chart-numbers = rhythm-numbers margin (noteDeltas kinds deltas) (noteDeltas kinds′ deltas′) (tailNotes m kinds deltas) fits fits′ (notes-alike c) i i′ d either
+
+  chart-claim : RhythmClaim margin (noteDeltas kinds deltas) i (noteDeltas kinds′ deltas′) i′
+  chart-claim = rhythm-claim margin (noteDeltas kinds deltas) (noteDeltas kinds′ deltas′) (tailNotes m kinds deltas) fits fits′ (notes-alike c) i i′ d either
+
 pub rhythm-half : (margin : Float) (m : ℕ) (kinds : List ℕ) (deltas : List Float) (kinds′ : List ℕ) (deltas′ : List Float) → CommonTail m kinds deltas kinds′ deltas′
     → RhythmHalf margin m kinds deltas kinds′ deltas′
-rhythm-half margin m kinds deltas kinds′ deltas′ c = record {
-  both-notes = same-kind c;
-  note-counterparts = note-counterparts c;
-  from-landmark = λ i i′ d x.
-      rhythm-claim margin (noteDeltas kinds deltas) (noteDeltas kinds′ deltas′) (tailNotes m kinds deltas) (notes-fit m kinds deltas (c .whole) (c .inside))
-      (omega (arith, same-count c, notes-fit m kinds′ deltas′ (c .whole′) (c .inside′))) (notes-alike c) i i′ d
-      (subst (λ (n : ℕ). RhythmLandmark margin (noteDeltas kinds deltas) (tailNotes m kinds deltas) i ⊎ RhythmLandmark margin (noteDeltas kinds′ deltas′) n i′) (sym (same-count c)) x);
-}
+rhythm-half margin m kinds deltas kinds′ deltas′ c = record { both-notes = same-kind c; note-counterparts = note-counterparts c; from-landmark = chart-claim c }

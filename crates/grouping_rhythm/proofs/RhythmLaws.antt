@@ -1,10 +1,15 @@
 -- The outcome of rhythm, case by case, over plain lists: a refusal leaves all as lent, and an accepted call has room in every slice.
 use mathlib.Core.Path.{_≡_, sym, ap, _∙_}
-use mathlib.Core.Bool.{Bool}
+use mathlib.Core.Bool.{Bool, true, cond}
 use mathlib.Core.List.{List, [], _∷_}
-use Prim.Native.Nat.{ℕ}
-use lib.ListN.{length}
+use Prim.Native.Nat.{ℕ, _<_}
+use native.Mathlib.Omega.{arith}
+use lib.ListN.{length, getD}
 use lib.Ieee.{Float}
+use Rattle.grouping_marks.specs.Marks.{groupNumbers}
+use Rattle.grouping_marks.proofs.PieceLaws.{getD-over}
+use Rattle.grouping_chart.specs.Object.{isNote, noteIdx}
+use Rattle.grouping_chart.specs.Notes.{noteDeltas}
 use Rattle.grouping_chart.specs.Chart.{Chart, size}
 use Rattle.grouping_chart.specs.Refusal.{verdict}
 use Rattle.grouping_chart.specs.Room.{anyShort, shortRefusal}
@@ -15,10 +20,13 @@ use Rattle.grouping_chart.specs.declared.chart.Verdict.the-variants.{Accepted, 
 use Rattle.grouping_chart.proofs.AcceptedLaws.{accepted-good}
 use Rattle.grouping_chart.proofs.RefusalLaws.{verdict-is}
 use Rattle.grouping_chart.proofs.RoomLaws.{roomy, long-enough}
+use Rattle.grouping_interval.specs.IntervalGrouping.{intervalMarks}
+use Rattle.grouping_same_rhythm.proofs.MadeLaws.{rhythmMarks-made}
 use Rattle.grouping_rhythm.specs.declared.Grouping.the-variants as answer
 use Rattle.grouping_rhythm.specs.declared.tables.Counts.{Counts}
-use Rattle.grouping_rhythm.specs.Rhythm.{Memory, Outcome, beside, filled, outcomeBy, rhythmOutcome}
+use Rattle.grouping_rhythm.specs.Rhythm.{Memory, Outcome, noteGroup, groupOf, beside, filled, outcomeBy, rhythmOutcome}
 use Rattle.grouping_rhythm.specs.Passes.{AnswerRoom, Grouped}
+use Rattle.grouping_rhythm.proofs.PerNoteLaws.{length-per-note, per-note-at}
 
 -- ---- what the tests that were run say of the definition's verdict
 module _ (s : Settings) (c : Chart) (m : Memory) where
@@ -60,3 +68,14 @@ module _ (s : Settings) (c : Chart) (m : Memory) where
         memory = record { group = e .groups t; pattern = e .patterns t; work = e .cleared t; scratch = e .floats t };
       })
       ∙ sym (ap (λ (v : Verdict). outcomeBy v s c m) h)
+
+  -- what an accepted call writes for an object that is a note: the group of its note, by the notes' deltas
+  pub group-written : judged ≡ Accepted → (o : ℕ) → o < size c → isNote (getD (c .kinds) o 0) ≡ true
+      → getD (rhythmOutcome s c m .memory .group) o 0 ≡ getD (groupNumbers (intervalMarks (s .margin) (noteDeltas (c .kinds) (c .deltas)))) (noteIdx (c .kinds) o) 0
+  unfolding rhythmOutcome outcomeBy filled groupOf noteGroup
+  group-written h o l n =
+      ap (λ (v : Verdict). getD (outcomeBy v s c m .memory .group) o 0) h
+      ∙ getD-over (groupOf (s .margin) (c .kinds) (c .deltas)) (m .group) o 0 (omega (arith, length-per-note (noteGroup (s .margin) (c .kinds) (c .deltas)) (c .kinds)))
+      ∙ per-note-at (noteGroup (s .margin) (c .kinds) (c .deltas)) (c .kinds) o l
+      ∙ ap (λ (b : Bool). cond b (noteGroup (s .margin) (c .kinds) (c .deltas) (noteIdx (c .kinds) o)) 65535) n
+      ∙ ap (λ (marks : List ℕ). getD (groupNumbers marks) (noteIdx (c .kinds) o) 0) (rhythmMarks-made (s .margin) (c .kinds) (c .deltas))
