@@ -84,8 +84,8 @@ module _ (s : Settings) (c c′ : Chart) (m position position′ : ℕ) (tail : 
     value = value;
     written = λ i i′ y e. value-written s c lent x i (y .there) ∙ value i i′ y e ∙ sym (value-written s c′ lent′ x′ i′ (omega (arith, y .there)));
     done = stretch-answered s c lent x;
-    stretch = λ a b a′ b′ y some inside from to. stretch-answered s c lent x a b some inside ∙ (λ t. Done (k .mean a b a′ b′ y some inside from to t) (k .tenths a b a′ b′ y some inside from to t))
-        ∙ sym (stretch-answered s c′ lent′ x′ a′ b′ (omega arith) (omega arith));
+    stretch = λ a b a′ b′ y z from to. stretch-answered s c lent x a b z ∙ (λ t. Done (k .mean a b a′ b′ y z from to t) (k .tenths a b a′ b′ y z from to t))
+        ∙ sym (stretch-answered s c′ lent′ x′ a′ b′ (k .stretch a b a′ b′ y z from to));
   }
     where
       k : ColourClaim (s .limit) (s .tolerance) (c .kinds) (c .ratios) (c′ .kinds) (c′ .ratios) position position′

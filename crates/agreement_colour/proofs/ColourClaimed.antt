@@ -19,7 +19,7 @@ use Rattle.agreement.proofs.ColourAgree.{colour-agree, landmark-late}
 use Rattle.agreement_colour.specs.ColourClaim.{Settled, ColourClaim}
 use Rattle.agreement_colour.proofs.ValueAgree.{first-agree}
 use Rattle.agreement_colour.proofs.RiseLaws.{hit-rises}
-use Rattle.agreement_colour.proofs.StretchAgree.{at-counterparts, colour-at, mean-agree, tenths-agree}
+use Rattle.agreement_colour.proofs.StretchAgree.{at-counterparts, colour-at, stretch-agree, mean-agree, tenths-agree}
 
 -- ---- a cut between two hit patterns
 
@@ -91,8 +91,9 @@ module _ {limit : ℕ} {kinds : List ℕ} {a g : ℕ} {kinds′ : List ℕ} {b h
     interval = λ i i′ s e. interval-agree i i′ (s .after) e (s .there) (settled-counts (r .cut) s);
     value = λ i i′ s e. colour-at r tolerance ratios ratios′ m c late i i′ (s .after) e (s .there) (settled-counts (r .cut) s);
     onwards = settled-onwards;
-    mean = λ s e s′ e′ x some inside from to. mean-agree r tolerance ratios ratios′ m c late s e s′ e′ (x .after) some inside from to (settled-counts (r .cut) x);
-    tenths = λ s e s′ e′ x some inside from to. tenths-agree r tolerance ratios ratios′ m c late s e s′ e′ (x .after) some inside from to (settled-counts (r .cut) x);
+    stretch = λ s e s′ e′ x y from to. stretch-agree r tolerance ratios ratios′ m c late s e s′ e′ (x .after) y from to (settled-counts (r .cut) x);
+    mean = λ s e s′ e′ x y from to. mean-agree r tolerance ratios ratios′ m c late s e s′ e′ (x .after) y from to (settled-counts (r .cut) x);
+    tenths = λ s e s′ e′ x y from to. tenths-agree r tolerance ratios ratios′ m c late s e s′ e′ (x .after) y from to (settled-counts (r .cut) x);
   }
 
 -- ---- the theorem

@@ -91,6 +91,7 @@ module _ (opening : List ℕ) (before ratios : List Float) (e : length before �
   any-opening = claim .value 37 (length opening + 37) settled (omega (arith, long))
 
   -- and the stretch of these two objects has the mean of the tail alone
-  pub any-stretch : meanOf (colourValues (baseSettings .limit) (baseSettings .tolerance) tail ratios) 37 39
-      ≡ meanOf (colourValues (baseSettings .limit) (baseSettings .tolerance) (opening ++ tail) (before ++ ratios)) (length opening + 37) (length opening + 39)
-  any-stretch = claim .mean 37 39 (length opening + 37) (length opening + 39) settled (omega arith) (omega arith) (omega (arith, long)) (omega (arith, long))
+  pub any-stretch : meanOf (baseSettings .limit) (baseSettings .tolerance) tail ratios 37 39
+      ≡ meanOf (baseSettings .limit) (baseSettings .tolerance) (opening ++ tail) (before ++ ratios) (length opening + 37) (length opening + 39)
+  any-stretch =
+      claim .mean 37 39 (length opening + 37) (length opening + 39) settled (record { some = omega arith; inside = omega arith }) (omega (arith, long)) (omega (arith, long))

@@ -10,8 +10,8 @@ use Rattle.grouping_chart.specs.Settings.{Settings}
 use Rattle.grouping_encode.specs.Encode as encode
 use Rattle.grouping_encode.specs.Encode.{encodeOutcome}
 use Rattle.evaluator_calls.specs.Colour.{isFirst}
-use Rattle.evaluator_calls.specs.Stretch.{meanOf, meanTenths}
-use Rattle.evaluator_calls.specs.Calls.{Memory, valuesOf, colourOutcome, stretchOutcome}
+use Rattle.evaluator_calls.specs.Stretch.{Stretch}
+use Rattle.evaluator_calls.specs.Calls.{Memory, valuesOf, chartMean, chartTenths, colourOutcome, stretchOutcome}
 use Rattle.evaluator_calls.specs.declared.Stretching.the-variants.{Done}
 use Rattle.agreement.specs.CommonTail.{Counterparts, lastOf}
 use Rattle.agreement_colour.specs.ColourClaim.{Settled}
@@ -44,7 +44,7 @@ pub record CallsClaim (s : Settings) (c c′ : Chart) (lent lent′ : Memory) (p
   pub written : (i i′ : ℕ) → Settled (s .limit) (c .kinds) position i → Counterparts (c .kinds) (c′ .kinds) i i′
       → getD (colourOutcome s c lent .memory .value) i nan ≡ getD (colourOutcome s c′ lent′ .memory .value) i′ nan
   -- stretch answers a mean and its tenths, no refusal,
-  pub done : (a b : ℕ) → a < b → b ≤ size c → stretchOutcome s c a b lent .answer ≡ Done (meanOf (valuesOf s c) a b) (meanTenths (valuesOf s c) a b)
+  pub done : (a b : ℕ) → Stretch (c .kinds) a b → stretchOutcome s c a b lent .answer ≡ Done (chartMean s c a b) (chartTenths s c a b)
   -- and the same ones for the counterpart of a stretch whose objects are all of the M-th hit pattern or later ones
-  pub stretch : (a b a′ b′ : ℕ) → Settled (s .limit) (c .kinds) position a → a < b → b ≤ size c
+  pub stretch : (a b a′ b′ : ℕ) → Settled (s .limit) (c .kinds) position a → Stretch (c .kinds) a b
       → Counterparts (c .kinds) (c′ .kinds) a a′ → Counterparts (c .kinds) (c′ .kinds) b b′ → stretchOutcome s c a b lent .answer ≡ stretchOutcome s c′ a′ b′ lent′ .answer

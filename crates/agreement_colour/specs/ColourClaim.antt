@@ -10,8 +10,8 @@ use mathlib.Core.List.{List}
 use lib.ListN.{length, getD}
 use lib.Ieee.{Float}
 use Rattle.grouping_color.specs.Preprocessor.{hitOf, intervalOf}
-use Rattle.evaluator_calls.specs.Colour.{isFirst, colourAt, colourValues}
-use Rattle.evaluator_calls.specs.Stretch.{meanOf, meanTenths}
+use Rattle.evaluator_calls.specs.Colour.{isFirst, colourAt}
+use Rattle.evaluator_calls.specs.Stretch.{Stretch, meanOf, meanTenths}
 use Rattle.agreement.specs.CommonTail.{Counterparts}
 
 -- object i is of the M-th hit pattern after the landmark or of a later one: hit patterns are numbered in order, and the first after the landmark opens at object `position`
@@ -45,11 +45,11 @@ pub record ColourClaim (limit : ℕ) (tolerance : Float) (kinds : List ℕ) (rat
       → colourAt limit tolerance kinds ratios i ≡ colourAt limit tolerance kinds′ ratios′ i′
   -- every later object is there too, so that a stretch lies wholly there when its first object does
   pub onwards : (i j : ℕ) → Settled limit kinds position i → i ≤ j → j < length kinds → Settled limit kinds position j
-  -- the stretch from a to b, b not included, has its counterpart's mean
-  pub mean : (a b a′ b′ : ℕ) → Settled limit kinds position a → a < b → b ≤ length kinds
-      → Counterparts kinds kinds′ a a′ → Counterparts kinds kinds′ b b′
-      → meanOf (colourValues limit tolerance kinds ratios) a b ≡ meanOf (colourValues limit tolerance kinds′ ratios′) a′ b′
+  -- a stretch from a to b, b not included, that is not refused has a counterpart that is not refused,
+  pub stretch : (a b a′ b′ : ℕ) → Settled limit kinds position a → Stretch kinds a b → Counterparts kinds kinds′ a a′ → Counterparts kinds kinds′ b b′ → Stretch kinds′ a′ b′
+  -- its counterpart's mean
+  pub mean : (a b a′ b′ : ℕ) → Settled limit kinds position a → Stretch kinds a b → Counterparts kinds kinds′ a a′ → Counterparts kinds kinds′ b b′
+      → meanOf limit tolerance kinds ratios a b ≡ meanOf limit tolerance kinds′ ratios′ a′ b′
   -- and tenths
-  pub tenths : (a b a′ b′ : ℕ) → Settled limit kinds position a → a < b → b ≤ length kinds
-      → Counterparts kinds kinds′ a a′ → Counterparts kinds kinds′ b b′
-      → meanTenths (colourValues limit tolerance kinds ratios) a b ≡ meanTenths (colourValues limit tolerance kinds′ ratios′) a′ b′
+  pub tenths : (a b a′ b′ : ℕ) → Settled limit kinds position a → Stretch kinds a b → Counterparts kinds kinds′ a a′ → Counterparts kinds kinds′ b b′
+      → meanTenths limit tolerance kinds ratios a b ≡ meanTenths limit tolerance kinds′ ratios′ a′ b′

@@ -2,23 +2,23 @@
 use mathlib.Core.Path.{_≡_, refl, sym, ap, _∙_}
 use mathlib.Core.Bool.{true, false, cond, not}
 use mathlib.Core.List.{List}
-use Prim.Native.Nat.{ℕ, _-_, _≤_}
+use Prim.Native.Nat.{ℕ, _+_, _-_, _≤_, _<_}
 use native.Mathlib.Omega.{arith}
 use borrow.Author.Tests.{le-ltb}
 use lib.Dec.{eqb}
-use lib.IntN.{pos}
 use lib.ListN.{getD}
-use lib.Ieee.{Float, nan, binary64, mul, div, ofInt}
-use Rattle.numeric.specs.Constants.{zero}
+use lib.Seq.{ext-getD}
+use lib.Ieee.{Float, nan, binary64, mul}
 use Rattle.numeric.specs.Tenths.{tenthsOf}
-use Rattle.grouping_marks.specs.Over.{part}
+use Rattle.grouping_marks.proofs.OverLaws.{length-part, getD-part}
 use Rattle.grouping_color.specs.MonoStreak.{streakOf}
 use Rattle.grouping_color.specs.Preprocessor.{streakPlaceOf, patternOf, patternPlaceOf, hitOf, intervalOf}
 use Rattle.evaluator_color.specs.Color.{objectSum}
 use Rattle.evaluator_color.specs.RatioPenalty.{ratioPenalty}
 use Rattle.evaluator_color.proofs.PenaltyCases.{tested}
-use Rattle.evaluator_calls.specs.Colour.{isFirst, lookedAt, colourAt}
-use Rattle.evaluator_calls.specs.Stretch.{sumFrom, meanOf, meanTenths}
+use Rattle.evaluator_calls.specs.Colour.{isFirst, lookedAt, colourAt, colourValues}
+use Rattle.evaluator_calls.specs.Stretch.{Stretch, stretchValues, averageOf, meanOf, meanTenths}
+use Rattle.evaluator_calls.proofs.LookLaws.{length-values, value-of}
 
 -- the same object of two lists of group numbers, by its number and the one before
 pub first-alike : (xs ys : List ℕ) (i : ℕ) → getD xs i 0 ≡ getD ys i 0 → getD xs (i - 1) 0 ≡ getD ys (i - 1) 0 → isFirst xs i ≡ isFirst ys i
@@ -52,12 +52,23 @@ colour-alike {limit} tolerance ratios {i} {kinds′} ratios′ {i′} l this ear
     (λ t. mul binary64 (objectSum (looked-alike l t)) (ratioPenalty tolerance i (this t) (earlier t)))
     ∙ ap (λ (x : Float). mul binary64 (objectSum (lookedAt limit kinds′ i′)) x) (penalty-late tolerance i i′ _ _ h k)
 
--- ---- a stretch whose values are the same
-module _ (values values′ : List Float) (a b a′ b′ : ℕ) where
-  pub mean-alike : b - a ≡ b′ - a′ → part a (b - a) values ≡ part a′ (b′ - a′) values′ → meanOf values a b ≡ meanOf values′ a′ b′
-  unfolding meanOf
-  mean-alike n e t = div binary64 (sumFrom zero (e t)) (ofInt binary64 (pos (n t)))
+-- ---- stretches of two charts, whose objects have the same values
+module _ (limit : ℕ) (tolerance : Float) (kinds : List ℕ) (ratios : List Float) (kinds′ : List ℕ) (ratios′ : List Float) (a b a′ b′ : ℕ) (x : Stretch kinds a b) (x′ : Stretch kinds′ a′ b′)
+    (size : b - a ≡ b′ - a′) (values : (i : ℕ) → i < b - a → colourAt limit tolerance kinds ratios (a + i) ≡ colourAt limit tolerance kinds′ ratios′ (a′ + i)) where
+  made-alike : stretchValues limit tolerance kinds ratios a b ≡ stretchValues limit tolerance kinds′ ratios′ a′ b′
+  unfolding stretchValues
+  made-alike =
+      let l = length-part a (b - a) (colourValues limit tolerance kinds ratios) (omega (arith, x, length-values limit tolerance kinds ratios)) in
+      let l′ = length-part a′ (b′ - a′) (colourValues limit tolerance kinds′ ratios′) (omega (arith, x′, length-values limit tolerance kinds′ ratios′)) in
+      ext-getD nan _ _ (l ∙ size ∙ sym l′)
+      (λ i k. let h : i < b - a = omega (arith, l) in
+      getD-part a (b - a) (colourValues limit tolerance kinds ratios) i nan h ∙ value-of limit tolerance kinds ratios (a + i) (omega (arith, x)) ∙ values i h
+      ∙ sym (getD-part a′ (b′ - a′) (colourValues limit tolerance kinds′ ratios′) i nan (omega arith) ∙ value-of limit tolerance kinds′ ratios′ (a′ + i) (omega (arith, x′))))
 
-  pub tenths-alike : meanOf values a b ≡ meanOf values′ a′ b′ → meanTenths values a b ≡ meanTenths values′ a′ b′
+  pub mean-alike : meanOf limit tolerance kinds ratios a b ≡ meanOf limit tolerance kinds′ ratios′ a′ b′
+  unfolding meanOf
+  mean-alike = ap averageOf made-alike
+
+  pub tenths-alike : meanTenths limit tolerance kinds ratios a b ≡ meanTenths limit tolerance kinds′ ratios′ a′ b′
   unfolding meanTenths
-  tenths-alike e = ap tenthsOf e
+  tenths-alike = ap tenthsOf mean-alike

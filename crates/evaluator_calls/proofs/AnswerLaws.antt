@@ -1,8 +1,7 @@
 -- What an accepted call of colour or stretch writes and answers, place by place, for crates above this one.
 use mathlib.Core.Path.{_≡_, refl, sym, ap, _∙_}
-use Prim.Native.Nat.{ℕ, _≤_, _<_}
+use Prim.Native.Nat.{ℕ, _<_}
 use native.Mathlib.Omega.{arith}
-use borrow.Author.Tests.{le-ltb, lt-leb}
 use lib.ListN.{getD}
 use lib.Ieee.{nan}
 use Rattle.grouping_marks.proofs.PieceLaws.{getD-over}
@@ -11,9 +10,9 @@ use Rattle.grouping_chart.specs.Settings.{Settings}
 use Rattle.grouping_chart.specs.declared.chart.Verdict.the-variants.{Accepted}
 use Rattle.evaluator_calls.specs.declared.Stretching.{Stretching}
 use Rattle.evaluator_calls.specs.declared.Stretching.the-variants.{Done}
-use Rattle.evaluator_calls.specs.Stretch.{meanOf, meanTenths}
-use Rattle.evaluator_calls.specs.Calls.{Memory, Outcome, beside, valuesOf, filled, colourOutcome, stretchVerdict, stretchOutcome}
-use Rattle.evaluator_calls.proofs.CallsLaws.{judged, colour-done, stretch-done}
+use Rattle.evaluator_calls.specs.Stretch.{Stretch}
+use Rattle.evaluator_calls.specs.Calls.{Memory, Outcome, beside, valuesOf, filled, chartMean, chartTenths, colourOutcome, stretchOutcome}
+use Rattle.evaluator_calls.proofs.CallsLaws.{stretch-accepted, judged, colour-done, stretch-done}
 use Rattle.evaluator_calls.proofs.BoundLaws.{length-valuesOf}
 
 module _ (s : Settings) (c : Chart) (lent : Memory) (accepted : judged s c lent ≡ Accepted) where
@@ -23,9 +22,6 @@ module _ (s : Settings) (c : Chart) (lent : Memory) (accepted : judged s c lent 
       ap (λ (o : Outcome _). getD (o .memory .value) i nan) (sym (colour-done s c lent (filled s c lent) accepted refl))
       ∙ getD-over (valuesOf s c) (lent .value) i nan (omega (arith, length-valuesOf s c (beside (size c) lent) accepted))
 
-  in-bounds : (a b : ℕ) → a < b → b ≤ size c → stretchVerdict (judged s c lent) (size c) a b ≡ Accepted
-  unfolding stretchVerdict
-  in-bounds a b h k = rw (accepted, lt-leb b a h, le-ltb (size c) b k)
-
-  pub stretch-answered : (a b : ℕ) → a < b → b ≤ size c → stretchOutcome s c a b lent .answer ≡ Done (meanOf (valuesOf s c) a b) (meanTenths (valuesOf s c) a b)
-  stretch-answered a b h k = sym (ap (λ (o : Outcome Stretching). o .answer) (stretch-done s c lent a b _ _ (filled s c lent) (in-bounds a b h k) refl refl refl))
+  pub stretch-answered : (a b : ℕ) → Stretch (c .kinds) a b → stretchOutcome s c a b lent .answer ≡ Done (chartMean s c a b) (chartTenths s c a b)
+  stretch-answered a b x =
+      sym (ap (λ (o : Outcome Stretching). o .answer) (stretch-done s c lent a b _ _ (filled s c lent) (stretch-accepted _ (c .kinds) a b accepted x) refl refl refl))

@@ -28,8 +28,8 @@ use Rattle.evaluator_color.specs.RatioPenalty.{ratioPenalty}
 use Rattle.evaluator_color.proofs.BoundLaws as formulas
 use Rattle.evaluator_color.proofs.BoundLaws.{lowest, highest}
 use Rattle.evaluator_calls.specs.Colour.{lookedAt, colourAt}
-use Rattle.evaluator_calls.specs.Stretch.{sumFrom, meanOf}
-use Rattle.evaluator_calls.specs.Calls.{valuesOf}
+use Rattle.evaluator_calls.specs.Stretch.{Stretch, stretchValues, sumFrom, averageOf, meanOf}
+use Rattle.evaluator_calls.specs.Calls.{valuesOf, chartMean}
 use Rattle.evaluator_calls.proofs.LookLaws.{length-values, value-of}
 
 -- 5 * (2 ^ 24 + 1): an object's sum times its penalty
@@ -52,6 +52,15 @@ sum-bounded B C sum (x ∷ xs) k h g =
 
     upto : (p q : ℕ) → p ≤ p + q
     upto p q = omega arith
+
+-- and divided by how many there are
+average-bounded : (B : ℕ) (xs : List Float) → 0 < length xs → length xs ≤ 2 ^ 53 → B ≤ 2 ^ 53 → length xs * B ≤ 2 ^ 53
+    → ((i : ℕ) → i < length xs → Bounded (getD xs i nan) B) → Bounded (averageOf xs) B
+unfolding averageOf
+average-bounded B xs some few k l g =
+    bounds.mean-bounded (sumFrom constant.zero xs) (length xs) B some few k
+    (subst (λ (n : ℕ). Bounded (sumFrom constant.zero xs) n) (zero-add (length xs * B))
+    (sum-bounded B 0 constant.zero xs (le-trans (le-of-eq (zero-add (length xs * B))) l) (leb→le 0 0 tt) g))
 
 -- ---- the values of an accepted chart
 module _ (s : Settings) (c : Chart) (beside : ℕ) (accepted : verdict c beside ≡ Accepted) where
@@ -83,31 +92,37 @@ module _ (s : Settings) (c : Chart) (beside : ℕ) (accepted : verdict c beside 
   pub length-valuesOf : length (valuesOf s c) ≡ size c
   length-valuesOf = length-values (s .limit) (s .tolerance) (c .kinds) (c .ratios)
 
-  module _ (a b : ℕ) (some : a < b) (inside : b ≤ size c) where
-    length-stretch : length (part a (b - a) (valuesOf s c)) ≡ b - a
-    length-stretch = length-part a (b - a) (valuesOf s c) (omega (arith, length-valuesOf))
+  module _ (a b : ℕ) (x : Stretch (c .kinds) a b) where
+    -- the values that the mean is made of: some, few, and each bounded
+    abbrev made : List Float
+    made = stretchValues (s .limit) (s .tolerance) (c .kinds) (c .ratios) a b
 
-    stretch-bounded : (i : ℕ) → i < length (part a (b - a) (valuesOf s c)) → Bounded (getD (part a (b - a) (valuesOf s c)) i nan) largestColour
-    stretch-bounded i h =
-        let l : i < b - a = omega (arith, length-stretch) in
-        subst (λ (x : Float). Bounded x largestColour) (sym (getD-part a (b - a) (valuesOf s c) i nan l)) (value-bounded (a + i) (omega arith))
+    length-made : length made ≡ b - a
+    unfolding stretchValues
+    length-made = length-part a (b - a) (valuesOf s c) (omega (arith, length-valuesOf, x .some, x .inside))
 
-    total-bounded : Bounded (sumFrom constant.zero (part a (b - a) (valuesOf s c))) ((b - a) * largestColour)
-    total-bounded =
-        subst (λ (n : ℕ). Bounded (sumFrom constant.zero (part a (b - a) (valuesOf s c))) (n * largestColour)) length-stretch
-        (subst (λ (n : ℕ). Bounded (sumFrom constant.zero (part a (b - a) (valuesOf s c))) n) (zero-add (length (part a (b - a) (valuesOf s c)) * largestColour))
-        (sum-bounded largestColour 0 constant.zero (part a (b - a) (valuesOf s c)) (omega (arith, length-stretch, good .few)) (leb→le 0 0 tt) stretch-bounded))
+    made-some : 0 < length made
+    made-some = omega (arith, length-made, x .some)
 
-    pub mean-bounded : Bounded (meanOf (valuesOf s c) a b) largestColour
+    made-few : length made ≤ 16384
+    made-few = omega (arith, length-made, x .inside, good .few)
+
+    made-bounded : (i : ℕ) → i < length made → Bounded (getD made i nan) largestColour
+    unfolding stretchValues
+    made-bounded i h =
+        let l : i < b - a = omega (arith, length-made) in
+        subst (λ (x : Float). Bounded x largestColour) (sym (getD-part a (b - a) (valuesOf s c) i nan l)) (value-bounded (a + i) (omega (arith, x .inside)))
+
+    pub mean-bounded : Bounded (chartMean s c a b) largestColour
     unfolding meanOf
-    mean-bounded = bounds.mean-bounded (sumFrom constant.zero (part a (b - a) (valuesOf s c))) (b - a) largestColour (omega arith) (omega (arith, good .few)) (lit≤ tt) total-bounded
+    mean-bounded = average-bounded largestColour made made-some (omega (arith, made-few)) (lit≤ tt) (omega (arith, made-few)) made-bounded
 
-    pub mean-number : Number (meanOf (valuesOf s c) a b)
-    unfolding meanOf
-    mean-number = bounded-number (meanOf (valuesOf s c) a b) largestColour (div-fits binary64 _ _) mean-bounded
+    pub mean-number : Number (chartMean s c a b)
+    unfolding meanOf averageOf
+    mean-number = bounded-number (chartMean s c a b) largestColour (div-fits binary64 _ _) mean-bounded
 
-    pub mean-no-nan : T (not (isNan (meanOf (valuesOf s c) a b)))
+    pub mean-no-nan : T (not (isNan (chartMean s c a b)))
     mean-no-nan = number-no-nan mean-number
 
-    pub mean-tenths : InTenthsRange (meanOf (valuesOf s c) a b)
-    mean-tenths = bounded-tenths (meanOf (valuesOf s c) a b) largestColour (lit≤ tt) mean-bounded
+    pub mean-tenths : InTenthsRange (chartMean s c a b)
+    mean-tenths = bounded-tenths (chartMean s c a b) largestColour (lit≤ tt) mean-bounded

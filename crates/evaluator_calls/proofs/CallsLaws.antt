@@ -1,48 +1,54 @@
 -- The outcomes of colour and stretch, case by case, over plain lists: a refusal leaves all as lent, and an accepted call has room in every slice.
 use mathlib.Core.Path.{_≡_, refl, sym, ap, _∙_}
-use mathlib.Core.Bool.{Bool, true, false, _||_, cond}
+use mathlib.Core.Bool.{Bool, true, false, cond}
 use mathlib.Core.List.{List}
 use Prim.Native.Nat.{ℕ, _≤_, _<_}
 use native.Mathlib.Omega.{arith}
-use borrow.Author.Tests.{ltb-false, leb-false}
-use lib.Dec.{ltb, leb}
+use borrow.Author.Tests.{eqb-true}
+use lib.Dec.{eqb, ltb}
 use lib.IntN.{ℤ}
 use lib.ListN.{length}
 use lib.Ieee.{Float}
 use Rattle.grouping_chart.specs.Chart.{Chart, size}
-use Rattle.grouping_chart.specs.Refusal.{verdict}
+use Rattle.grouping_chart.specs.Refusal.{verdict, refused}
 use Rattle.grouping_chart.specs.Room.{shortRefusal}
 use Rattle.grouping_chart.specs.declared.object.ObjectIndex.{ObjectIndex}
 use Rattle.grouping_chart.specs.declared.chart.Verdict.{Verdict}
 use Rattle.grouping_chart.specs.declared.chart.Verdict.the-variants.{Accepted, Refused}
 use Rattle.grouping_chart.proofs.AcceptedLaws.{accepted-good}
 use Rattle.grouping_chart.proofs.RefusalLaws.{verdict-is}
-use Rattle.grouping_chart.proofs.RoomLaws.{roomy, either-false, long-enough, short-last}
+use Rattle.grouping_chart.proofs.RoomLaws.{roomy, long-enough, short-last}
 use Rattle.grouping_chart.specs.Settings.{Settings, Permitted}
 use Rattle.evaluator_calls.specs.declared.Colouring.{Colouring}
 use Rattle.evaluator_calls.specs.declared.Colouring.the-variants as colouring
 use Rattle.evaluator_calls.specs.declared.Stretching.{Stretching}
 use Rattle.evaluator_calls.specs.declared.Stretching.the-variants as stretching
-use Rattle.evaluator_calls.specs.Stretch.{meanOf, meanTenths}
-use Rattle.evaluator_calls.specs.Calls.{Memory, Outcome, beside, valuesOf, filled, colourBy, colourOutcome, stretchVerdict, stretchBy, stretchOutcome}
+use Rattle.evaluator_calls.specs.Stretch.{stretchRefusal, Stretch}
+use Rattle.evaluator_calls.specs.Calls.{Memory, Outcome, beside, filled, colourBy, colourOutcome, stretchVerdict, chartMean, chartTenths, stretchBy, stretchOutcome}
 use Rattle.evaluator_calls.specs.Passes.{ChartRoom, Coloured}
+use Rattle.evaluator_calls.proofs.StretchCases.{stretch-good, good-stretch}
 
--- ---- a stretch that is not refused
-pub record Within (v : Verdict) (n a b : ℕ) : Type 0 where
-  pub accepted : v ≡ Accepted
-  pub some : a < b
-  pub inside : b ≤ n
-
-not-refused : (b : Bool) (number : ℕ) (at : ObjectIndex) → cond b (Refused number at) Accepted ≡ Accepted → b ≡ false
-not-refused true number at e = absurd (let z : _≡_ {A = ℕ} 0 1 = cc in omega arith)
-not-refused false number at e = refl
-
-pub within-bounds : (v : Verdict) (n a b : ℕ) → stretchVerdict v n a b ≡ Accepted → Within v n a b
+-- ---- the verdict on a stretch, by the number of what is refused of it
+pub stretch-refusal : (v : Verdict) (kinds : List ℕ) (a b n : ℕ) → v ≡ Accepted → n ≡ stretchRefusal kinds a b → cond (eqb n 0) Accepted (refused n) ≡ stretchVerdict v kinds a b
 unfolding stretchVerdict
-within-bounds Accepted n a b e =
-    let t = either-false _ _ (not-refused (leb b a || ltb n b) _ _ e) in
-    record { accepted = refl; some = leb-false _ _ (t .0); inside = ltb-false _ _ (t .1) }
-within-bounds (Refused number at) n a b e = absurd (let z : _≡_ {A = ℕ} 0 1 = cc in omega arith)
+stretch-refusal v kinds a b n e f = ap (λ (k : ℕ). cond (eqb k 0) Accepted (refused k)) f ∙ sym (ap (λ (x : Verdict). stretchVerdict x kinds a b) e)
+
+pub stretch-accepted : (v : Verdict) (kinds : List ℕ) (a b : ℕ) → v ≡ Accepted → Stretch kinds a b → stretchVerdict v kinds a b ≡ Accepted
+stretch-accepted v kinds a b e x = sym (stretch-refusal v kinds a b 0 e (sym (stretch-good x)))
+
+-- a chart and a stretch that are not refused
+pub record Within (v : Verdict) (kinds : List ℕ) (a b : ℕ) : Type 0 where
+  pub accepted : v ≡ Accepted
+  pub stretch : Stretch kinds a b
+
+none-refused : (zero : Bool) (number : ℕ) → cond zero Accepted (refused number) ≡ Accepted → zero ≡ true
+none-refused true number e = refl
+none-refused false number e = absurd (let z : _≡_ {A = ℕ} 0 1 = cc in omega arith)
+
+pub within-bounds : (v : Verdict) (kinds : List ℕ) (a b : ℕ) → stretchVerdict v kinds a b ≡ Accepted → Within v kinds a b
+unfolding stretchVerdict
+within-bounds Accepted kinds a b e = record { accepted = refl; stretch = good-stretch kinds a b (eqb-true _ 0 (none-refused (eqb (stretchRefusal kinds a b) 0) _ e)) }
+within-bounds (Refused number at) kinds a b e = absurd (let z : _≡_ {A = ℕ} 0 1 = cc in omega arith)
 
 -- ---- what the tests that were run say of the definition's verdict
 module _ (s : Settings) (c : Chart) (m : Memory) where
@@ -86,15 +92,15 @@ module _ (s : Settings) (c : Chart) (m : Memory) where
   module _ (a b : ℕ) where
     -- the same, with what `with_bounds` answered
     pub stretch-is : (n : ℕ) {u v w : Verdict} → n ≡ shortRefusal (ltb (length (m .value)) (size c)) (size c) (length (m .work)) (length (m .scratch)) → u ≡ verdict c n
-        → v ≡ stretchVerdict u (size c) a b → v ≡ w → stretchVerdict judged (size c) a b ≡ w
-    stretch-is n e f g h = ap (λ (x : Verdict). stretchVerdict x (size c) a b) (judged-is n e f refl) ∙ sym g ∙ h
+        → v ≡ stretchVerdict u (c .kinds) a b → v ≡ w → stretchVerdict judged (c .kinds) a b ≡ w
+    stretch-is n e f g h = ap (λ (x : Verdict). stretchVerdict x (c .kinds) a b) (judged-is n e f refl) ∙ sym g ∙ h
 
-    pub stretch-refused : (number : ℕ) (place : ObjectIndex) → stretchVerdict judged (size c) a b ≡ Refused number place
+    pub stretch-refused : (number : ℕ) (place : ObjectIndex) → stretchVerdict judged (c .kinds) a b ≡ Refused number place
         → _≡_ {A = Outcome Stretching} (record { answer = stretching.Refused number place; memory = m }) (stretchOutcome s c a b m)
     unfolding stretchOutcome stretchBy
     stretch-refused number place h = sym (ap (λ (v : Verdict). stretchBy v s c a b m) h)
 
-    pub stretch-done : (mean : Float) (tenths : ℤ) (new : Memory) → stretchVerdict judged (size c) a b ≡ Accepted → mean ≡ meanOf (valuesOf s c) a b → tenths ≡ meanTenths (valuesOf s c) a b
+    pub stretch-done : (mean : Float) (tenths : ℤ) (new : Memory) → stretchVerdict judged (c .kinds) a b ≡ Accepted → mean ≡ chartMean s c a b → tenths ≡ chartTenths s c a b
         → new ≡ filled s c m → _≡_ {A = Outcome Stretching} (record { answer = stretching.Done mean tenths; memory = new }) (stretchOutcome s c a b m)
     unfolding stretchOutcome stretchBy
     stretch-done mean tenths new h e f g =

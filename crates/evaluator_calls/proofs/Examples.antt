@@ -29,7 +29,7 @@ use Rattle.evaluator_calls.specs.declared.Colouring.the-variants as colo
 use Rattle.evaluator_calls.specs.declared.Stretching.{Stretching}
 use Rattle.evaluator_calls.specs.declared.Stretching.the-variants as stretching
 use Rattle.evaluator_calls.specs.Colour.{isFirst, lookedAt, colourAt, colourValues}
-use Rattle.evaluator_calls.specs.Stretch.{sumFrom, meanOf, meanTenths}
+use Rattle.evaluator_calls.specs.Stretch.{stretchRefusal, stretchValues, sumFrom, averageOf, meanOf, meanTenths}
 use Rattle.evaluator_calls.specs.Calls.{Memory, Outcome, beside, filled, colourBy, colourOutcome, stretchVerdict, stretchBy, stretchOutcome}
 
 -- starts and deltas 0.0, ratios 1.0
@@ -96,5 +96,5 @@ stretches =
 -- every one of the two lists comes out as it says
 pub examples-right : (map (λ (e : Example). shown (colourOutcome baseSettings (chart (e .kinds)) (lent (length (e .kinds))))) examples ≡ map (λ (e : Example). e .outcome) examples)
     × (map (λ (e : StretchExample). shown (stretchOutcome baseSettings (chart (e .kinds)) (e .a) (e .b) (lent (length (e .kinds))))) stretches ≡ map (λ (e : StretchExample). e .outcome) stretches)
-unfolding examples stretches chart lent shown colourOutcome colourBy stretchOutcome stretchBy stretchVerdict meanTenths tenthsOf meanOf sumFrom part ofInt beside anyShort shortRefusal verdict even firstRefused objectRefusal timeGood ratioGood within filled colourValues colourAt lookedAt isFirst over tabulate scan after gathered opened groupCount groupNumbers placeAt groupPlaces sizesFrom groupSizes firstsFrom groupFirsts isNote notes noteIdx noteBefore previousNote continues opensStreak streakMarks streakOf streakLengths streakTypes opensPattern patternMarks coupledAt coupled stageAfter opensHit hitMarks secondAt secondLengths matches nearestMatch intervalAt intervals patternsOpen firstLengths streakCounts patternTypes coupledPatterns hitsOpen hitCount hitSizes hitFirsts hitSeconds hitIntervals streakPlaceOf patternOf patternPlaceOf hitOf intervalOf objectSum hitValue altValue monoValue addIf ratioPenalty lowered eightTenths logisticAt tableBits isNear round add sub mul div le ofBits toBits
+unfolding examples stretches chart lent shown colourOutcome colourBy stretchOutcome stretchBy stretchVerdict stretchRefusal meanTenths tenthsOf meanOf averageOf stretchValues sumFrom part ofInt beside anyShort shortRefusal verdict even firstRefused objectRefusal timeGood ratioGood within filled colourValues colourAt lookedAt isFirst over tabulate scan after gathered opened groupCount groupNumbers placeAt groupPlaces sizesFrom groupSizes firstsFrom groupFirsts isNote notes noteIdx noteBefore previousNote continues opensStreak streakMarks streakOf streakLengths streakTypes opensPattern patternMarks coupledAt coupled stageAfter opensHit hitMarks secondAt secondLengths matches nearestMatch intervalAt intervals patternsOpen firstLengths streakCounts patternTypes coupledPatterns hitsOpen hitCount hitSizes hitFirsts hitSeconds hitIntervals streakPlaceOf patternOf patternPlaceOf hitOf intervalOf objectSum hitValue altValue monoValue addIf ratioPenalty lowered eightTenths logisticAt tableBits isNear round add sub mul div le ofBits toBits
 examples-right = (refl, refl)

@@ -6,4 +6,5 @@ pub mod AlikeLaws
 pub mod AnswerLaws
 mod TablesLaws
 mod StretchLaws
+mod StretchCases
 mod Examples

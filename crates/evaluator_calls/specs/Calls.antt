@@ -1,8 +1,9 @@
 -- Document 01, "Calls and what they fill", colour and stretch: what each answers, and what every lent slice holds afterwards. Refusal 9 is tested after 1 to 7.
 use Prim.Native.Nat.{ℕ, _*_}
-use mathlib.Core.Bool.{_||_, cond}
+use mathlib.Core.Bool.{cond}
 use mathlib.Core.List.{List, [], _∷_}
-use lib.Dec.{ltb, leb}
+use lib.Dec.{eqb}
+use lib.IntN.{ℤ}
 use lib.ListN.{length, replicate}
 use lib.Ieee.{Float, binary64, ofBits}
 use Rattle.grouping_marks.specs.Over.{over}
@@ -13,7 +14,7 @@ use Rattle.grouping_chart.specs.declared.chart.Verdict.{Verdict}
 use Rattle.grouping_chart.specs.declared.chart.Verdict.the-variants.{Accepted, Refused}
 use Rattle.grouping_chart.specs.Settings.{Settings}
 use Rattle.evaluator_calls.specs.Colour.{colourValues}
-use Rattle.evaluator_calls.specs.Stretch.{meanOf, meanTenths}
+use Rattle.evaluator_calls.specs.Stretch.{stretchRefusal, meanOf, meanTenths}
 use Rattle.evaluator_calls.specs.declared.Colouring.{Colouring}
 use Rattle.evaluator_calls.specs.declared.Colouring.the-variants as colouring
 use Rattle.evaluator_calls.specs.declared.Stretching.{Stretching}
@@ -53,14 +54,21 @@ colourBy (Refused number place) s c m = record { answer = colouring.Refused numb
 unfoldable pub colourOutcome : Settings → Chart → Memory → Outcome Colouring
 colourOutcome s c m = colourBy (verdict c (beside (size c) m)) s c m
 
--- "9 stretch with a ≥ b or b > n"
-unfoldable pub stretchVerdict : Verdict → ℕ → ℕ → ℕ → Verdict
-stretchVerdict Accepted n a b = cond (leb b a || ltb n b) (refused 9) Accepted
-stretchVerdict (Refused number place) n a b = Refused number place
+-- what is refused of the stretch comes after what is refused of the chart
+unfoldable pub stretchVerdict : Verdict → List ℕ → ℕ → ℕ → Verdict
+stretchVerdict Accepted kinds a b = cond (eqb (stretchRefusal kinds a b) 0) Accepted (refused (stretchRefusal kinds a b))
+stretchVerdict (Refused number place) kinds a b = Refused number place
+
+-- the mean of a stretch of the chart, and its tenths
+abbrev pub chartMean : Settings → Chart → ℕ → ℕ → Float
+chartMean s c a b = meanOf (s .limit) (s .tolerance) (c .kinds) (c .ratios) a b
+
+abbrev pub chartTenths : Settings → Chart → ℕ → ℕ → ℤ
+chartTenths s c a b = meanTenths (s .limit) (s .tolerance) (c .kinds) (c .ratios) a b
 
 unfoldable pub stretchBy : Verdict → Settings → Chart → ℕ → ℕ → Memory → Outcome Stretching
-stretchBy Accepted s c a b m = record { answer = stretching.Done (meanOf (valuesOf s c) a b) (meanTenths (valuesOf s c) a b); memory = filled s c m }
+stretchBy Accepted s c a b m = record { answer = stretching.Done (chartMean s c a b) (chartTenths s c a b); memory = filled s c m }
 stretchBy (Refused number place) s c a b m = record { answer = stretching.Refused number place; memory = m }
 
 unfoldable pub stretchOutcome : Settings → Chart → ℕ → ℕ → Memory → Outcome Stretching
-stretchOutcome s c a b m = stretchBy (stretchVerdict (verdict c (beside (size c) m)) (size c) a b) s c a b m
+stretchOutcome s c a b m = stretchBy (stretchVerdict (verdict c (beside (size c) m)) (c .kinds) a b) s c a b m

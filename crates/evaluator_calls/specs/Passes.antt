@@ -61,6 +61,12 @@ pub record ChartRoom (n limit : ℕ) (ratios value : List Float) (work : List �
   pub some : 1 ≤ limit
   pub small : limit < 65535
 
+-- the values from a to b are there, and few
+pub record StretchRoom (value : List Float) (a b : ℕ) : Type 0 where
+  pub ordered : a ≤ b
+  pub inside : b ≤ length value
+  pub few : b ≤ 16384
+
 -- what both calls do with an accepted chart, under a search limit and a tolerance
 pub record Coloured (limit : ℕ) (tolerance : Float) (kinds : List ℕ) (ratios value₀ value : List Float) (work₀ work : List ℕ) (scratch₀ scratch : List Float) : Type 0 where
   pub values : value ≡ over (colourValues limit tolerance kinds ratios) value₀

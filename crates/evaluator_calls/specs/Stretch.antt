@@ -1,20 +1,41 @@
 -- Document 01, "Stretch": "For a to b, b not included: colour values summed left to right from 0.0, divided by b − a.
--- Shown in tenths: the largest whole number not above ten times that mean, exactly."
-use Prim.Native.Nat.{ℕ, _-_}
+-- Shown in tenths: the largest whole number not above ten times that mean, exactly." And which stretches are refused.
+use Prim.Native.Nat.{ℕ, _-_, _≤_, _<_}
+use mathlib.Core.Bool.{_||_, cond}
 use mathlib.Core.List.{List, [], _∷_}
+use lib.Dec.{ltb, leb}
 use lib.IntN.{ℤ, pos}
+use lib.ListN.{length}
 use lib.Ieee.{Float, binary64, add, div, ofInt}
 use Rattle.numeric.specs.Constants.{zero}
 use Rattle.numeric.specs.Tenths.{tenthsOf}
 use Rattle.grouping_marks.specs.Over.{part}
+use Rattle.evaluator_calls.specs.Colour.{colourValues}
+
+-- the number of what is refused of a stretch, or 0: "9 stretch with a ≥ b or b > n"
+unfoldable pub stretchRefusal : List ℕ → ℕ → ℕ → ℕ
+stretchRefusal kinds a b = cond (leb b a || ltb (length kinds) b) 9 0
+
+-- a stretch of which nothing is refused, of a chart with these kinds
+pub record Stretch (kinds : List ℕ) (a b : ℕ) : Type 0 where
+  pub some : a < b
+  pub inside : b ≤ length kinds
+
+-- the values that a stretch's mean is made of
+unfoldable pub stretchValues : ℕ → Float → List ℕ → List Float → ℕ → ℕ → List Float
+stretchValues limit tolerance kinds ratios a b = part a (b - a) (colourValues limit tolerance kinds ratios)
 
 -- each sum rounded
 unfoldable pub sumFrom : Float → List Float → Float
 sumFrom sum [] = sum
 sumFrom sum (x ∷ xs) = sumFrom (add binary64 sum x) xs
 
-unfoldable pub meanOf : List Float → ℕ → ℕ → Float
-meanOf values a b = div binary64 (sumFrom zero (part a (b - a) values)) (ofInt binary64 (pos (b - a)))
+-- divided by how many there are
+unfoldable pub averageOf : List Float → Float
+averageOf values = div binary64 (sumFrom zero values) (ofInt binary64 (pos (length values)))
 
-unfoldable pub meanTenths : List Float → ℕ → ℕ → ℤ
-meanTenths values a b = tenthsOf (meanOf values a b)
+unfoldable pub meanOf : ℕ → Float → List ℕ → List Float → ℕ → ℕ → Float
+meanOf limit tolerance kinds ratios a b = averageOf (stretchValues limit tolerance kinds ratios a b)
+
+unfoldable pub meanTenths : ℕ → Float → List ℕ → List Float → ℕ → ℕ → ℤ
+meanTenths limit tolerance kinds ratios a b = tenthsOf (meanOf limit tolerance kinds ratios a b)

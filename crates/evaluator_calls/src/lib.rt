@@ -93,11 +93,11 @@ pub fn stretch(
     let n = kind.len();
     let beside = short_refusal(value.len() < n, n, work.len(), scratch.len());
     let verdict = grouping_chart::chart::check(kind, start, delta, ratio, beside);
-    match mean::with_bounds(verdict, n, a, b) {
+    match mean::with_bounds(verdict, kind, a, b) {
         Verdict::Refused(number, place) => Stretching::Refused(number, place),
         Verdict::Accepted => {
             fill_chart(kind, ratio, SEARCH_LIMIT, TOLERANCE, value, work, scratch);
-            let mean = mean::mean(&value[a..b]);
+            let mean = mean::mean(value, a, b);
             Stretching::Done(mean, numeric::tenths::tenths(mean))
         }
     }

@@ -1,30 +1,41 @@
-// The mean of a stretch, and its refusal.
+// The mean of a stretch, and its refusals.
 ghost use mathlib.Core.Path.{_≡_};
-ghost use Prim.Native.Nat.{_≤_};
-ghost use lib.IntN.{pos};
+ghost use Prim.Native.Nat.{_-_, _≤_};
 ghost use lib.ListN.{length};
-ghost use lib.Ieee as Ieee;
-ghost use lib.Ieee.{binary64};
 ghost use Rattle.numeric.specs.Constants.{zero};
-ghost use Rattle.evaluator_calls.specs.Stretch.{sumFrom};
+ghost use Rattle.grouping_marks.specs.Over.{part};
+ghost use Rattle.evaluator_calls.specs.Stretch.{stretchRefusal, sumFrom, averageOf};
 ghost use Rattle.evaluator_calls.specs.Calls.{stretchVerdict};
+ghost use Rattle.evaluator_calls.specs.Passes.{StretchRoom};
 use grouping_chart::chart::Verdict;
 use grouping_chart::object::ObjectIndex;
 
-// The verdict on a stretch: the chart's own refusal, else 9 where a is not below b or b is above n.
-pub fn with_bounds(verdict: Verdict, n: usize, a: usize, b: usize) -> Verdict
-    ensures { λ r. ⌜ r ≡ stretchVerdict verdict n a b ⌝ }
+// The number of what is refused of a stretch, or 0: 9 where a is not below b or b is above n.
+fn stretch_refusal(kind: &[u8], a: usize, b: usize) -> u8
+    ensures { λ r. ⌜ r ≡ stretchRefusal (now (kind .entry)) a b ⌝ }
+{
+    let n = kind.len();
+    if b <= a {
+        return 9;
+    }
+    if n < b {
+        return 9;
+    }
+    0
+}
+
+// The verdict on a stretch: the chart's own refusal, else the stretch's.
+pub fn with_bounds(verdict: Verdict, kind: &[u8], a: usize, b: usize) -> Verdict
+    ensures { λ r. ⌜ r ≡ stretchVerdict verdict (now (kind .entry)) a b ⌝ }
 {
     match verdict {
         Verdict::Refused(number, place) => Verdict::Refused(number, place),
         Verdict::Accepted => {
-            if b <= a {
-                return Verdict::Refused(9, ObjectIndex(0));
+            let number = stretch_refusal(kind, a, b);
+            if number == 0 {
+                return Verdict::Accepted;
             }
-            if n < b {
-                return Verdict::Refused(9, ObjectIndex(0));
-            }
-            Verdict::Accepted
+            Verdict::Refused(number, ObjectIndex(0))
         }
     }
 }
@@ -43,10 +54,18 @@ fn sum(values: &[f64]) -> f64
 }
 
 // The sum divided by how many there are.
-pub fn mean(values: &[f64]) -> f64
+fn average(values: &[f64]) -> f64
     requires { ⌜ length (now values) ≤ 16384 ⌝ }
-    ensures { λ r. ⌜ r ≡ Ieee.div binary64 (sumFrom zero (now (values .entry))) (Ieee.ofInt binary64 (pos (length (now (values .entry))))) ⌝ }
+    ensures { λ r. ⌜ r ≡ averageOf (now (values .entry)) ⌝ }
 {
     let n = values.len();
     sum(values) / (n as f64)
+}
+
+// The average of the values from a to b, b not included.
+pub fn mean(value: &[f64], a: usize, b: usize) -> f64
+    requires { ⌜ StretchRoom (now value) a b ⌝ }
+    ensures { λ r. ⌜ r ≡ averageOf (part a (b - a) (now (value .entry))) ⌝ }
+{
+    average(&value[a..b])
 }

@@ -1,6 +1,5 @@
 -- `stretch` meets its contract: the verdict of the definition is the one that the tests gave, each case leaves its outcome, and the mean of an accepted stretch is small enough for its tenths.
 use mathlib.Core.Path.{_≡_, ap, _∙_}
-use native.Mathlib.Omega.{arith}
 use mir.Facts.{toZ-ofZ}
 use Rattle.numeric.specs.Tenths.{tenthsOf}
 use Rattle.grouping_chart.specs.Chart.{Chart, size}
@@ -11,7 +10,7 @@ use Rattle.evaluator_calls.specs.Stretch.{meanTenths}
 use Rattle.evaluator_calls.specs.Calls.{Memory, stretchVerdict}
 use Rattle.evaluator_calls.specs.Passes.{ChartRoom}
 use Rattle.evaluator_calls.proofs.CallsLaws.{Within, judged, within-bounds, chart-room, filled-is, stretch-is, stretch-refused, stretch-done}
-use Rattle.evaluator_calls.proofs.StretchLaws.{lent-few, end-inside, mean-is, mean-in-range}
+use Rattle.evaluator_calls.proofs.StretchLaws.{stretch-room, mean-is, mean-in-range}
 use borrow.Author.Needs.{needs}
 use Rattle.evaluator_calls.proofs.stretch.Statement.{statement}
 use Rattle.evaluator_calls.proofs.stretch.Tie as tie
@@ -27,12 +26,12 @@ memoryOf c = record { value = c .args .value .now; work = c .args .work .now; sc
 abbrev start : tie.After-enum-told → tie.Start
 start c = c .before .before .before .before .before .before .before .before .before .before .before .before
 
-accepted : (c : tie.After-enum-told) → stretchVerdict (judged baseSettings (chartOf (start c)) (memoryOf (start c))) (size (chartOf (start c))) (start c .args .a) (start c .args .b) ≡ Accepted
+accepted : (c : tie.After-enum-told) → stretchVerdict (judged baseSettings (chartOf (start c)) (memoryOf (start c))) (chartOf (start c) .kinds) (start c .args .a) (start c .args .b) ≡ Accepted
 accepted c =
     stretch-is baseSettings (chartOf (start c)) (memoryOf (start c)) _ _ _ (c .before .before .before .before .short-refusal .ensures) (c .before .before .before .check .ensures) (c .before .before .with-bounds .ensures)
     (c .enum-told .given .1)
 
-inside : (c : tie.After-enum-told) → Within (judged baseSettings (chartOf (start c)) (memoryOf (start c))) (size (chartOf (start c))) (start c .args .a) (start c .args .b)
+inside : (c : tie.After-enum-told) → Within (judged baseSettings (chartOf (start c)) (memoryOf (start c))) (chartOf (start c) .kinds) (start c .args .a) (start c .args .b)
 inside c = within-bounds _ _ _ _ (accepted c)
 
 room : (c : tie.After-enum-told) → ChartRoom (size (chartOf (start c))) (baseSettings .limit) (start c .args .ratio .now) (start c .args .value .now) (start c .args .work .now) (start c .args .scratch .now)
@@ -60,30 +59,14 @@ enum-told c = search needs
 fill-chart-requires : tie.Need-fill-chart-requires
 fill-chart-requires c κs = room (c .before .before .before)
 
-mul-mean : tie.Need-mul-mean
-mul-mean c = omega (arith, inside (c .before .before .before .before .before .before .before .before .before .before), room (c .before .before .before .before .before .before .before .before .before .before) .regions)
-
-sub-mean : tie.Need-sub-mean
-sub-mean c = omega (arith, inside (c .before .before .before .before .before .before .before .before .before .before))
-
-part-mean-start : tie.Need-part-mean-start
-part-mean-start c =
-    let f = c .before .before .before .before .before .before .before in
-    omega (arith, inside (told f), end-inside baseSettings base-permitted (chartOf (start (told f))) (memoryOf (start (told f))) _ _ (inside (told f)) _ _ _ (f .fill-chart .ensures))
-
-part-mean-end : tie.Need-part-mean-end
-part-mean-end c =
-    let f = c .before .before .before .before .before .before .before in
-    end-inside baseSettings base-permitted (chartOf (start (told f))) (memoryOf (start (told f))) _ _ (inside (told f)) _ _ _ (f .fill-chart .ensures)
-
 mean-requires : tie.Need-mean-requires
 mean-requires c κs =
-    let f = c .before .before .before .before .before .before .before .before in
-    lent-few baseSettings base-permitted (chartOf (start (told f))) (memoryOf (start (told f))) _ _ (inside (told f)) _ _ _ (f .fill-chart .ensures)
+    let f = c .before .before .before .before .before .before .before in
+    stretch-room baseSettings base-permitted (chartOf (start (told f))) (memoryOf (start (told f))) _ _ (inside (told f)) _ _ _ (f .fill-chart .ensures)
 
 tenths-requires : tie.Need-tenths-requires
 tenths-requires c κs =
-    let f = c .before .before .before .before .before .before .before .before .before in
+    let f = c .before .before .before .before .before .before .before .before in
     mean-in-range baseSettings base-permitted (chartOf (start (told f))) (memoryOf (start (told f))) _ _ (inside (told f)) _ _ _ (f .fill-chart .ensures) _ (c .mean .ensures)
 
 same-length : tie.Need-same-length
@@ -105,7 +88,7 @@ returns c =
 returns-2 : tie.Need-returns-2
 unfolding meanTenths
 returns-2 c =
-    let f = c .before .before .before .before .before .before .before .before .before .before in
+    let f = c .before .before .before .before .before .before .before .before .before in
     let s = start (told f) in
     let mean = mean-is baseSettings base-permitted (chartOf s) (memoryOf s) _ _ (inside (told f)) _ _ _ (f .fill-chart .ensures) _ (c .before .mean .ensures) in
     let tenths = toZ-ofZ (record { sfits = c .tenths .ok }) ∙ c .tenths .ensures ∙ ap tenthsOf mean in
@@ -121,10 +104,6 @@ stretch-spec =
     enum-known-number
     enum-told
     fill-chart-requires
-    mul-mean
-    sub-mean
-    part-mean-start
-    part-mean-end
     mean-requires
     tenths-requires
     returns

@@ -1,27 +1,30 @@
--- `mean` meets its contract: a count up to 2 ^ 53 is a value of the format.
-use mathlib.Core.Path.{ap}
-use Prim.Native.Nat.{ℕ, _≤_, _^_}
-use native.Mathlib.Nat.{le-trans}
-use lib.Dec.{T, le→leb, lit≤}
-use lib.IntN.{pos}
-use lib.ListN.{length}
-use lib.Ieee.{Float, binary64, inFloat, div, ofInt}
+-- `mean` meets its contract: the part that it lends is the stretch.
+use mathlib.Core.Path.{ap, _∙_}
+use Rattle.grouping_marks.proofs.PieceLaws.{part-pieces}
+use Rattle.evaluator_calls.specs.Stretch.{averageOf}
 use borrow.Author.Needs.{needs}
 use Rattle.evaluator_calls.proofs.mean.mean.Statement.{statement}
 use Rattle.evaluator_calls.proofs.mean.mean.Tie as tie
 
-counted : (n : ℕ) → n ≤ 16384 → T (inFloat binary64 (pos n))
-unfolding inFloat
-counted n h = le→leb n (2 ^ 53) (le-trans h (lit≤ tt))
+mul-average : tie.Need-mul-average
+mul-average c = search needs
 
-sum-requires : tie.Need-sum-requires
-sum-requires c κs = search needs
+sub-average : tie.Need-sub-average
+sub-average c = search needs
 
-int-to-float-result : tie.Need-int-to-float-result
-int-to-float-result c = counted _ (c .before .before .before .pre)
+part-average-start : tie.Need-part-average-start
+part-average-start c = search needs
+
+part-average-end : tie.Need-part-average-end
+part-average-end c = search needs
+
+average-requires : tie.Need-average-requires
+average-requires c κs = search needs
 
 returns : tie.Need-returns
-returns c = ap (λ (z : Float). div binary64 z (ofInt binary64 (pos (length (c .before .before .before .args .values .now))))) (c .before .sum .ensures)
+returns c = c .average .ensures ∙ ap averageOf (part-pieces _ _ _)
 
 pub mean-spec : {M : Type 1} → statement M
-mean-spec = tie.close (tie.spec sum-requires int-to-float-result returns)
+mean-spec =
+    tie.close
+    (tie.spec mul-average sub-average part-average-start part-average-end average-requires returns)

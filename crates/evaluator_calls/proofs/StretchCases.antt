@@ -1,0 +1,34 @@
+-- What is refused of a stretch, test by test, and that a stretch of which nothing is refused is a `Stretch`.
+use mathlib.Core.Path.{_≡_, refl, sym, _∙_}
+use mathlib.Core.Bool.{Bool, true, false, _||_, cond}
+use mathlib.Core.List.{List}
+use Prim.Native.Nat.{ℕ, _≤_, _<_}
+use native.Mathlib.Omega.{arith}
+use borrow.Author.Tests.{lt-ltb, le-ltb, le-leb, lt-leb, ltb-false, leb-false}
+use lib.Dec.{ltb, leb}
+use lib.ListN.{length}
+use Rattle.grouping_chart.proofs.RoomLaws.{either-false}
+use Rattle.evaluator_calls.specs.Stretch.{stretchRefusal, Stretch}
+
+module _ (kinds : List ℕ) (a b : ℕ) where
+  pub none-refused : b ≤ a → 9 ≡ stretchRefusal kinds a b
+  unfolding stretchRefusal
+  none-refused h = rw (le-leb b a h)
+
+  pub past-refused : a < b → length kinds < b → 9 ≡ stretchRefusal kinds a b
+  unfolding stretchRefusal
+  past-refused h k = rw (lt-leb b a h, lt-ltb (length kinds) b k)
+
+  zero-of : (outside : Bool) → _≡_ {A = ℕ} (cond outside 9 0) 0 → outside ≡ false
+  zero-of true e = absurd (omega arith)
+  zero-of false e = refl
+
+  pub good-stretch : stretchRefusal kinds a b ≡ 0 → Stretch kinds a b
+  unfolding stretchRefusal
+  good-stretch e =
+      let t = either-false _ _ (zero-of (leb b a || ltb (length kinds) b) e) in
+      record { some = leb-false _ _ (t .0); inside = ltb-false _ _ (t .1) }
+
+pub stretch-good : {kinds : List ℕ} {a b : ℕ} → Stretch kinds a b → stretchRefusal kinds a b ≡ 0
+unfolding stretchRefusal
+stretch-good {kinds} {a} {b} x = rw (lt-leb b a (x .some), le-ltb (length kinds) b (x .inside))
