@@ -10,15 +10,14 @@ use lib.ListN.{getD}
 use lib.Seq.{ext-getD}
 use lib.Ieee.{Float, nan, binary64, mul}
 use Rattle.numeric.specs.Tenths.{tenthsOf}
-use Rattle.grouping_marks.proofs.OverLaws.{length-part, getD-part}
 use Rattle.grouping_color.specs.MonoStreak.{streakOf}
 use Rattle.grouping_color.specs.Preprocessor.{streakPlaceOf, patternOf, patternPlaceOf, hitOf, intervalOf}
 use Rattle.evaluator_color.specs.Color.{objectSum}
 use Rattle.evaluator_color.specs.RatioPenalty.{ratioPenalty}
 use Rattle.evaluator_color.proofs.PenaltyCases.{tested}
-use Rattle.evaluator_calls.specs.Colour.{isFirst, lookedAt, colourAt, colourValues}
+use Rattle.evaluator_calls.specs.Colour.{isFirst, lookedAt, colourAt}
 use Rattle.evaluator_calls.specs.Stretch.{Stretch, stretchValues, averageOf, meanOf, meanTenths}
-use Rattle.evaluator_calls.proofs.LookLaws.{length-values, value-of}
+use Rattle.evaluator_calls.proofs.LookLaws.{length-stretch, stretch-value}
 
 -- the same object of two lists of group numbers, by its number and the one before
 pub first-alike : (xs ys : List ℕ) (i : ℕ) → getD xs i 0 ≡ getD ys i 0 → getD xs (i - 1) 0 ≡ getD ys (i - 1) 0 → isFirst xs i ≡ isFirst ys i
@@ -56,14 +55,11 @@ colour-alike {limit} tolerance ratios {i} {kinds′} ratios′ {i′} l this ear
 module _ (limit : ℕ) (tolerance : Float) (kinds : List ℕ) (ratios : List Float) (kinds′ : List ℕ) (ratios′ : List Float) (a b a′ b′ : ℕ) (x : Stretch kinds a b) (x′ : Stretch kinds′ a′ b′)
     (size : b - a ≡ b′ - a′) (values : (i : ℕ) → i < b - a → colourAt limit tolerance kinds ratios (a + i) ≡ colourAt limit tolerance kinds′ ratios′ (a′ + i)) where
   made-alike : stretchValues limit tolerance kinds ratios a b ≡ stretchValues limit tolerance kinds′ ratios′ a′ b′
-  unfolding stretchValues
   made-alike =
-      let l = length-part a (b - a) (colourValues limit tolerance kinds ratios) (omega (arith, x, length-values limit tolerance kinds ratios)) in
-      let l′ = length-part a′ (b′ - a′) (colourValues limit tolerance kinds′ ratios′) (omega (arith, x′, length-values limit tolerance kinds′ ratios′)) in
-      ext-getD nan _ _ (l ∙ size ∙ sym l′)
+      let l = length-stretch limit tolerance kinds ratios a b x in
+      ext-getD nan _ _ (l ∙ size ∙ sym (length-stretch limit tolerance kinds′ ratios′ a′ b′ x′))
       (λ i k. let h : i < b - a = omega (arith, l) in
-      getD-part a (b - a) (colourValues limit tolerance kinds ratios) i nan h ∙ value-of limit tolerance kinds ratios (a + i) (omega (arith, x)) ∙ values i h
-      ∙ sym (getD-part a′ (b′ - a′) (colourValues limit tolerance kinds′ ratios′) i nan (omega arith) ∙ value-of limit tolerance kinds′ ratios′ (a′ + i) (omega (arith, x′))))
+      stretch-value limit tolerance kinds ratios a b x i h ∙ values i h ∙ sym (stretch-value limit tolerance kinds′ ratios′ a′ b′ x′ i (omega arith)))
 
   pub mean-alike : meanOf limit tolerance kinds ratios a b ≡ meanOf limit tolerance kinds′ ratios′ a′ b′
   unfolding meanOf

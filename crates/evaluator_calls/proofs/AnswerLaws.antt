@@ -11,16 +11,16 @@ use Rattle.grouping_chart.specs.declared.chart.Verdict.the-variants.{Accepted}
 use Rattle.evaluator_calls.specs.declared.Stretching.{Stretching}
 use Rattle.evaluator_calls.specs.declared.Stretching.the-variants.{Done}
 use Rattle.evaluator_calls.specs.Stretch.{Stretch}
-use Rattle.evaluator_calls.specs.Calls.{Memory, Outcome, beside, valuesOf, filled, chartMean, chartTenths, colourOutcome, stretchOutcome}
+use Rattle.evaluator_calls.specs.Calls.{Memory, Outcome, valuesOf, filled, chartMean, chartTenths, colourOutcome, stretchOutcome}
 use Rattle.evaluator_calls.proofs.CallsLaws.{stretch-accepted, judged, colour-done, stretch-done}
-use Rattle.evaluator_calls.proofs.BoundLaws.{length-valuesOf}
+use Rattle.evaluator_calls.proofs.LookLaws.{length-values}
 
 module _ (s : Settings) (c : Chart) (lent : Memory) (accepted : judged s c lent ≡ Accepted) where
   pub value-written : (i : ℕ) → i < size c → getD (colourOutcome s c lent .memory .value) i nan ≡ getD (valuesOf s c) i nan
   unfolding filled
   value-written i h =
       ap (λ (o : Outcome _). getD (o .memory .value) i nan) (sym (colour-done s c lent (filled s c lent) accepted refl))
-      ∙ getD-over (valuesOf s c) (lent .value) i nan (omega (arith, length-valuesOf s c (beside (size c) lent) accepted))
+      ∙ getD-over (valuesOf s c) (lent .value) i nan (omega (arith, length-values (s .limit) (s .tolerance) (c .kinds) (c .ratios)))
 
   pub stretch-answered : (a b : ℕ) → Stretch (c .kinds) a b → stretchOutcome s c a b lent .answer ≡ Done (chartMean s c a b) (chartTenths s c a b)
   stretch-answered a b x =

@@ -15,8 +15,6 @@ use Rattle.numeric.specs.Tenths.{InTenthsRange}
 use Rattle.numeric.proofs.Values.{Number, number-no-nan}
 use Rattle.numeric.proofs.Bounded as bounds
 use Rattle.numeric.proofs.Bounded.{Bounded, bounded-more, bounded-number, bounded-tenths, add-bounded}
-use Rattle.grouping_marks.specs.Over.{part}
-use Rattle.grouping_marks.proofs.OverLaws.{length-part, getD-part}
 use Rattle.grouping_chart.specs.Chart.{Chart, size}
 use Rattle.grouping_chart.specs.Refusal.{verdict}
 use Rattle.grouping_chart.specs.declared.chart.Verdict.the-variants.{Accepted}
@@ -30,7 +28,7 @@ use Rattle.evaluator_color.proofs.BoundLaws.{lowest, highest}
 use Rattle.evaluator_calls.specs.Colour.{lookedAt, colourAt}
 use Rattle.evaluator_calls.specs.Stretch.{Stretch, stretchValues, sumFrom, averageOf, meanOf}
 use Rattle.evaluator_calls.specs.Calls.{valuesOf, chartMean}
-use Rattle.evaluator_calls.proofs.LookLaws.{length-values, value-of}
+use Rattle.evaluator_calls.proofs.LookLaws.{value-of, length-stretch, stretch-value}
 
 -- 5 * (2 ^ 24 + 1): an object's sum times its penalty
 abbrev pub largestColour : ℕ
@@ -89,17 +87,13 @@ module _ (s : Settings) (c : Chart) (beside : ℕ) (accepted : verdict c beside 
   pub value-no-nan : (i : ℕ) → i < size c → T (not (isNan (getD (valuesOf s c) i nan)))
   value-no-nan i h = number-no-nan (value-number i h)
 
-  pub length-valuesOf : length (valuesOf s c) ≡ size c
-  length-valuesOf = length-values (s .limit) (s .tolerance) (c .kinds) (c .ratios)
-
   module _ (a b : ℕ) (x : Stretch (c .kinds) a b) where
     -- the values that the mean is made of: some, few, and each bounded
     abbrev made : List Float
     made = stretchValues (s .limit) (s .tolerance) (c .kinds) (c .ratios) a b
 
     length-made : length made ≡ b - a
-    unfolding stretchValues
-    length-made = length-part a (b - a) (valuesOf s c) (omega (arith, length-valuesOf, x .some, x .inside))
+    length-made = length-stretch (s .limit) (s .tolerance) (c .kinds) (c .ratios) a b x
 
     made-some : 0 < length made
     made-some = omega (arith, length-made, x .some)
@@ -108,10 +102,11 @@ module _ (s : Settings) (c : Chart) (beside : ℕ) (accepted : verdict c beside 
     made-few = omega (arith, length-made, x .inside, good .few)
 
     made-bounded : (i : ℕ) → i < length made → Bounded (getD made i nan) largestColour
-    unfolding stretchValues
     made-bounded i h =
         let l : i < b - a = omega (arith, length-made) in
-        subst (λ (x : Float). Bounded x largestColour) (sym (getD-part a (b - a) (valuesOf s c) i nan l)) (value-bounded (a + i) (omega (arith, x .inside)))
+        let k : a + i < size c = omega (arith, x .inside) in
+        subst (λ (x : Float). Bounded x largestColour)
+        (value-of (s .limit) (s .tolerance) (c .kinds) (c .ratios) (a + i) k ∙ sym (stretch-value (s .limit) (s .tolerance) (c .kinds) (c .ratios) a b x i l)) (value-bounded (a + i) k)
 
     pub mean-bounded : Bounded (chartMean s c a b) largestColour
     unfolding meanOf

@@ -16,7 +16,8 @@ use Rattle.evaluator_calls.specs.Stretch.{stretchValues, averageOf, mean
 use Rattle.evaluator_calls.specs.Calls.{Memory, beside, valuesOf, chartMean}
 use Rattle.evaluator_calls.specs.Passes.{Coloured, StretchRoom}
 use Rattle.evaluator_calls.proofs.CallsLaws.{Within, judged, chart-room}
-use Rattle.evaluator_calls.proofs.BoundLaws.{length-valuesOf, mean-tenths}
+use Rattle.evaluator_calls.proofs.LookLaws.{length-values}
+use Rattle.evaluator_calls.proofs.BoundLaws.{mean-tenths}
 
 -- a part that lies in what was written
 part-over : (a n : ℕ) (new old : List Float) → a + n ≤ length new → length new ≤ length old → part a n (over new old) ≡ part a n new
@@ -32,7 +33,7 @@ module _ (s : Settings) (p : Permitted s) (c : Chart) (m : Memory) (a b : ℕ) (
   values = valuesOf s c
 
   long : length values ≡ size c
-  long = length-valuesOf s c (beside (size c) m) (w .accepted)
+  long = length-values (s .limit) (s .tolerance) (c .kinds) (c .ratios)
 
   room : length values ≤ length (m .value)
   room = omega (arith, long, chart-room s c m p (w .accepted) .values .room)

@@ -30,7 +30,7 @@ unfoldable pub sumFrom : Float → List Float → Float
 sumFrom sum [] = sum
 sumFrom sum (x ∷ xs) = sumFrom (add binary64 sum x) xs
 
--- divided by how many there are
+-- divided by how many there are, which in a stretch is b − a: `length-stretch`, in proofs/LookLaws.antt
 unfoldable pub averageOf : List Float → Float
 averageOf values = div binary64 (sumFrom zero values) (ofInt binary64 (pos (length values)))
 
