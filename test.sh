@@ -7,10 +7,16 @@ cd "$(dirname "$0")"
 export RT_JOBS=4
 
 rt fmt --check
-rt check numeric_host grouping_host dresserduck letters
+(cd tests/repository && cargo test --release --offline --quiet)
+
+# an archive's own crate is proved once more as it is made, so these are made side by side, and what they use is proved before
+rt check evaluator_calls evaluator_record letters
+rt staticlib dresserduck &
+archive=$!
 rt staticlib numeric_host
 rt staticlib grouping_host
-rt staticlib dresserduck
+wait "$archive"
+
 (cd tests/numeric && cargo test --release --offline --quiet)
 tests/numeric/table.sh
 (cd tests/grouping && cargo test --release --offline --quiet)
