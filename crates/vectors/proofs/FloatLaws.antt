@@ -4,12 +4,12 @@ use mathlib.Core.Bool.{Bool, true, not}
 use mathlib.Core.List.{List}
 use Prim.Native.Nat.{ℕ, _+_, _*_, _%_, _≤_, _<_}
 use native.Mathlib.Omega.{arith}
-use borrow.Author.Tests.{lt-ltb, le-ltb}
+use borrow.Author.Tests.{lt-ltb, le-ltb, eq-eqb, ne-eqb}
 use lib.Dec.{T}
 use lib.Ieee.{Float, nan, inf, fin, binary64, isNan, ofBits, nanBits}
 use lib.Ieee.Bits.{nanBits-is, nanBits-above}
 use Rattle.vectors.specs.Case.{numberAt, wordAt, columnWord}
-use Rattle.vectors.specs.Table.{entryAt}
+use Rattle.vectors.specs.Table.{placeAt, entryAt}
 
 only-nan : (x : Float) → isNan x ≡ true → nan ≡ x
 unfolding isNan
@@ -23,7 +23,17 @@ a-nan n h = only-nan (ofBits binary64 n) (sym (nanBits-is binary64 n) ∙ nanBit
 pub no-nan : (n : ℕ) → n % 0x8000_0000_0000_0000 ≤ 0x7FF0_0000_0000_0000 → T (not (nanBits binary64 n))
 no-nan n h = subst (λ (b : Bool). T (not b)) (sym (nanBits-above binary64 n ∙ le-ltb _ _ h)) tt
 
-pub entry-is : (s : List ℕ) (table column width i place bits : ℕ) (r : Float) → place ≡ numberAt s column width i → bits ≡ wordAt s (table + 8 * place)
+-- ---- floats of a table
+
+pub place-own : (s : List ℕ) (column width i : ℕ) → width ≡ 0 → i ≤ 16384 → (i ≡ placeAt s column width i) × (i < 65536)
+unfolding placeAt
+place-own s column width i e h = (rw (eq-eqb width 0 e), omega arith)
+
+pub place-named : (s : List ℕ) (column width i r : ℕ) → (width ≡ 0 → ⊥) → r ≡ numberAt s column width i → r < 65536 → (r ≡ placeAt s column width i) × (r < 65536)
+unfolding placeAt
+place-named s column width i r e q h = (rw (ne-eqb width 0 e) q, h)
+
+pub entry-is : (s : List ℕ) (table column width i place bits : ℕ) (r : Float) → place ≡ placeAt s column width i → bits ≡ wordAt s (table + 8 * place)
     → r ≡ ofBits binary64 bits → r ≡ entryAt s table column width i
 unfolding entryAt columnWord
 entry-is s table column width i place bits r p q e = e ∙ ap (ofBits binary64) (q ∙ ap (λ (k : ℕ). wordAt s (table + 8 * k)) p)

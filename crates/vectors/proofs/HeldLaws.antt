@@ -1,39 +1,23 @@
 -- When a comparison may answer: false at a slice that is too short or at the first place that differs, true once every place was passed.
-use mathlib.Core.Path.{_≡_, refl}
-use mathlib.Core.Bool.{true, false}
+use mathlib.Core.Path.{_≡_, refl, sym, ap, subst, _∙_}
+use mathlib.Core.Bool.{Bool, true, false}
 use mathlib.Core.List.{List, [], _∷_}
 use Prim.Native.Nat.{ℕ, zero, suc, _+_, _<_, _≤_}
-use native.Mathlib.Nat.{le-of-suc-le-suc, not-suc-le-zero}
+use native.Mathlib.Nat.{not-suc-le-zero}
 use native.Mathlib.Omega.{arith}
 use borrow.Author.Count.{below-more}
-use borrow.Author.Tests.{lt-ltb, le-ltb}
-use lib.ListN.{length, getD, length-map}
+use borrow.Author.Tests.{lt-ltb, le-ltb, ltb-true, ltb-false}
+use lib.Dec.{ltb}
+use lib.ListN.{length, take, getD, length-take, length-map, replicate, length-replicate, getD-replicate}
+use lib.Seq.{length-take-le, getD-take, ext-getD}
 use lib.Ieee.{Float, binary64, toBits}
+use Rattle.grouping_marks.specs.Over.{over}
+use Rattle.grouping_marks.specs.Scan.{tabulate}
+use Rattle.grouping_marks.proofs.OverLaws.{front, length-over, put-front, getD-put-after}
+use Rattle.grouping_marks.proofs.FillLaws.{length-tabulate, getD-tabulate, getD-map}
+use Rattle.vectors.specs.Case.{pair, pairAt, quadAt, wordAt, numberAt, column, columnWord, words}
 use Rattle.vectors.specs.Held.{Tells, Held, expected, bitsOf}
-
--- a false answer, where P does not hold
-denied : {P : Type 0} → (P → ⊥) → Tells false P
-denied f = (λ e. absurd (let z : _≡_ {A = ℕ} 0 1 = cc in omega arith), λ p. absurd (f p))
-
--- the first i places hold what is expected
-pub record Passed (n : ℕ) (want : ℕ → ℕ) (mark : ℕ) (got : List ℕ) (i : ℕ) : Type 0 where
-  pub each : (k : ℕ) → k < i → getD got k 0 ≡ expected n want mark k
-
-module _ {n mark : ℕ} {want : ℕ → ℕ} {got : List ℕ} where
-  pub none-passed : Passed n want mark got 0
-  none-passed = record { each = λ k h. absurd (not-suc-le-zero h) }
-
-  pub one-passed : {i : ℕ} → Passed n want mark got i → getD got i 0 ≡ expected n want mark i → Passed n want mark got (i + 1)
-  one-passed {i} p e = record { each = below-more (λ (k : ℕ). getD got k 0 ≡ expected n want mark k) i (p .each) e }
-
-  pub all-passed : {i : ℕ} → Passed n want mark got i → n ≤ length got → length got ≤ i → Tells true (Held n want mark got)
-  all-passed p r h = (λ e. record { room = r; each = λ k l. p .each k (omega arith) }, λ q. refl)
-
-  pub too-short : length got < n → Tells false (Held n want mark got)
-  too-short h = denied (λ p. let r = p .room in omega arith)
-
-  pub differs : {i : ℕ} → i < length got → (getD got i 0 ≡ expected n want mark i → ⊥) → Tells false (Held n want mark got)
-  differs {i} h f = denied (λ p. f (p .each i h))
+use Rattle.vectors.proofs.TellsLaws.{denied, granted}
 
 -- ---- what is expected, case by case
 
@@ -46,6 +30,85 @@ module _ (n : ℕ) (want : ℕ → ℕ) (mark i r : ℕ) where
   unfolding expected
   expected-past h e = rw (le-ltb i n h) e
 
+-- ---- `new` written over marks, place by place
+
+module _ (new : List ℕ) (mark room i : ℕ) where
+  marks-front : i < length new → getD (over new (replicate room mark)) i 0 ≡ getD new i 0
+  marks-front h =
+      sym (getD-take (length new) (over new (replicate room mark)) i 0 h)
+      ∙ ap (λ (xs : List ℕ). getD xs i 0) (front new (replicate room mark) (length new) refl)
+
+  marks-past : length new ≤ i → i < room → getD (over new (replicate room mark)) i 0 ≡ mark
+  marks-past l h =
+      let old : length (replicate room mark) ≡ room = length-replicate room mark in
+      ap (λ (xs : List ℕ). getD xs i 0) (sym (put-front new (replicate room mark)))
+      ∙ getD-put-after 0 new (replicate room mark) i 0 (omega arith) (omega arith)
+      ∙ getD-replicate room i mark 0 h
+
+length-marks : (new : List ℕ) (mark room : ℕ) → length new ≤ room → length (over new (replicate room mark)) ≡ room
+length-marks new mark room h =
+    let old : length (replicate room mark) ≡ room = length-replicate room mark in
+    length-over new (replicate room mark) (omega arith) ∙ old
+
+-- more marks than there is room for may be cut off
+pub marks-cut : (new : List ℕ) (mark room more : ℕ) → length new ≤ room → room ≤ more → take room (over new (replicate more mark)) ≡ over new (replicate room mark)
+marks-cut new mark room more h l =
+    let long : length (over new (replicate more mark)) ≡ more = length-marks new mark more (omega arith) in
+    let cut : length (take room (over new (replicate more mark))) ≡ room = length-take-le room (over new (replicate more mark)) (omega arith) in
+    ext-getD 0 (take room (over new (replicate more mark))) (over new (replicate room mark)) (cut ∙ sym (length-marks new mark room h))
+    (λ i k. getD-take room (over new (replicate more mark)) i 0 (omega arith) ∙ by i (omega arith) (ltb i (length new)) refl)
+  where
+    by : (i : ℕ) → i < room → (b : Bool) → ltb i (length new) ≡ b → getD (over new (replicate more mark)) i 0 ≡ getD (over new (replicate room mark)) i 0
+    by i k true e = marks-front new mark more i (ltb-true _ _ e) ∙ sym (marks-front new mark room i (ltb-true _ _ e))
+    by i k false e = marks-past new mark more i (ltb-false _ _ e) (omega arith) ∙ sym (marks-past new mark room i (ltb-false _ _ e) k)
+
+-- n answers
+answers-at : (want : ℕ → ℕ) (n mark room i : ℕ) → i < room → getD (over (tabulate want n) (replicate room mark)) i 0 ≡ expected n want mark i
+answers-at want n mark room i h = by (ltb i n) refl
+  where
+    new : length (tabulate want n) ≡ n
+    new = length-tabulate want n
+
+    by : (b : Bool) → ltb i n ≡ b → getD (over (tabulate want n) (replicate room mark)) i 0 ≡ expected n want mark i
+    by true e =
+        let l : i < n = ltb-true i n e in
+        expected-front n want mark i _ l (marks-front (tabulate want n) mark room i (omega (arith, new)) ∙ getD-tabulate want n i 0 l)
+    by false e = let l : n ≤ i = ltb-false i n e in expected-past n want mark i _ l (marks-past (tabulate want n) mark room i (omega (arith, new)) h)
+
+-- what is held has room for what was written
+pub held-room : {new got : List ℕ} {mark : ℕ} → Held new mark got → length new ≤ length got
+held-room {new} {got} {mark} p =
+    let e : take (length new) got ≡ new = ap (take (length new)) (p .all) ∙ front new (replicate (length got) mark) (length new) refl in
+    omega (arith, length-take (length new) got, ap length e)
+
+-- ---- a loop over the places: the first i hold what is expected
+
+pub record Passed (n : ℕ) (want : ℕ → ℕ) (mark : ℕ) (got : List ℕ) (i : ℕ) : Type 0 where
+  pub each : (k : ℕ) → k < i → getD got k 0 ≡ expected n want mark k
+
+module _ (want : ℕ → ℕ) (n mark : ℕ) (got : List ℕ) where
+  pub too-short : length got < n → Tells false (Held (tabulate want n) mark got)
+  too-short h = denied (λ p. omega (arith, held-room p, length-tabulate want n))
+
+  pub differs : (i : ℕ) → i < length got → (getD got i 0 ≡ expected n want mark i → ⊥) → Tells false (Held (tabulate want n) mark got)
+  differs i h f = denied (λ p. f (ap (λ (xs : List ℕ). getD xs i 0) (p .all) ∙ answers-at want n mark (length got) i h))
+
+module _ {n mark : ℕ} {want : ℕ → ℕ} {got : List ℕ} where
+  pub none-passed : Passed n want mark got 0
+  none-passed = record { each = λ k h. absurd (not-suc-le-zero h) }
+
+  pub one-passed : {i : ℕ} → Passed n want mark got i → getD got i 0 ≡ expected n want mark i → Passed n want mark got (i + 1)
+  one-passed {i} p e = record { each = below-more (λ (k : ℕ). getD got k 0 ≡ expected n want mark k) i (p .each) e }
+
+  pub all-passed : {i : ℕ} → Passed n want mark got i → n ≤ length got → length got ≤ i → Tells true (Held (tabulate want n) mark got)
+  all-passed p r h =
+      let new : length (tabulate want n) ≡ n = length-tabulate want n in
+      granted
+      (record {
+        all = ext-getD 0 got (over (tabulate want n) (replicate (length got) mark)) (sym (length-marks (tabulate want n) mark (length got) (omega arith)))
+            (λ k l. p .each k (omega arith) ∙ sym (answers-at want n mark (length got) k l));
+      })
+
 -- ---- floats by their bits
 
 pub length-bits : (xs : List Float) → length (bitsOf xs) ≡ length xs
@@ -54,6 +117,23 @@ length-bits xs = length-map xs (toBits binary64)
 
 pub bits-at : (xs : List Float) (i : ℕ) (d : Float) → i < length xs → getD (bitsOf xs) i 0 ≡ toBits binary64 (getD xs i d)
 unfolding bitsOf
-bits-at [] i d h = absurd (not-suc-le-zero h)
-bits-at (x ∷ xs) zero d h = refl
-bits-at (x ∷ xs) (suc i) d h = bits-at xs i d (le-of-suc-le-suc h)
+bits-at xs i d h = getD-map (toBits binary64) xs i d 0 h
+
+-- ---- no column at all
+
+pub held-as : {new new′ : List ℕ} {mark : ℕ} {got : List ℕ} {r : Bool} → new ≡ new′ → Tells r (Held new mark got) → Tells r (Held new′ mark got)
+held-as {mark} {got} {r} e t = subst (λ (l : List ℕ). Tells r (Held l mark got)) e t
+
+zeros-agree : (want : ℕ → ℕ) (n : ℕ) → ((i : ℕ) → want i ≡ 0) → tabulate want n ≡ replicate n 0
+zeros-agree want n z =
+    let l : length (tabulate want n) ≡ n = length-tabulate want n in
+    ext-getD 0 (tabulate want n) (replicate n 0) (l ∙ sym (length-replicate n 0))
+    (λ i h. getD-tabulate want n i 0 (omega arith) ∙ z i ∙ sym (getD-replicate n i 0 0 (omega arith)))
+
+pub no-numbers : (n : ℕ) → column [] 0 1 n ≡ replicate n 0
+unfolding column numberAt
+no-numbers n = zeros-agree (numberAt [] 0 1) n (λ i. refl)
+
+pub no-words : (n : ℕ) → words [] 0 n ≡ replicate n 0
+unfolding words columnWord wordAt quadAt pairAt pair
+no-words n = zeros-agree (columnWord [] 0) n (λ i. refl)

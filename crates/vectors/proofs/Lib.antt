@@ -1,4 +1,5 @@
 pub mod CaseLaws
 pub mod FloatLaws
 pub mod HeldLaws
-pub mod LentLaws
+pub mod RowLaws
+pub mod TellsLaws

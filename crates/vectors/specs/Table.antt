@@ -1,16 +1,27 @@
--- Floats that a column names by their places in a table of distinct ones.
-use mathlib.Core.Path.{_≡_}
+-- Floats that a column names by their places in a table of distinct ones, or that stand in turn.
+use mathlib.Core.Bool.{cond}
 use mathlib.Core.List.{List}
-use Prim.Native.Nat.{ℕ, _<_}
-use lib.ListN.{length, getD}
-use lib.Ieee.{Float, nan, binary64, ofBits}
+use Prim.Native.Nat.{ℕ, _+_, _*_, _^_, _<_, _≤_}
+use lib.Dec.{eqb}
+use lib.ListN.{length}
+use lib.Ieee.{Float, binary64, ofBits}
+use Rattle.grouping_marks.specs.Scan.{tabulate}
 use Rattle.vectors.specs.Case.{numberAt, columnWord}
 
--- the float that number i of the column names
-unfoldable pub entryAt : List ℕ → ℕ → ℕ → ℕ → ℕ → Float
-entryAt s table column width i = ofBits binary64 (columnWord s table (numberAt s column width i))
+-- which float of the table is meant at i: the one that number i of the column names or, for a column whose numbers have no bytes, the next
+unfoldable pub placeAt : List ℕ → ℕ → ℕ → ℕ → ℕ
+placeAt s column width i = cond (eqb width 0) i (numberAt s column width i)
 
--- n places, each with the float that is wanted there
-pub record Entries (n : ℕ) (want : ℕ → Float) (got : List Float) : Type 0 where
-  pub long : length got ≡ n
-  pub each : (i : ℕ) → i < n → getD got i nan ≡ want i
+unfoldable pub entryAt : List ℕ → ℕ → ℕ → ℕ → ℕ → Float
+entryAt s table column width i = ofBits binary64 (columnWord s table (placeAt s column width i))
+
+-- n of them
+unfoldable pub entries : List ℕ → ℕ → ℕ → ℕ → ℕ → List Float
+entries s table column width n = tabulate (entryAt s table column width) n
+
+-- table and column begin below 2 ^ 31, and there is room for n floats
+pub record EntriesRoom (table column n : ℕ) (out : List Float) : Type 0 where
+  pub low : table < 2 ^ 31
+  pub near : column < 2 ^ 31
+  pub few : n ≤ 16384
+  pub room : n ≤ length out

@@ -4,7 +4,7 @@ ghost use Prim.Native.Nat.{_+_, _*_, _^_, _<_, _≤_};
 ghost use lib.ListN.{getD};
 ghost use lib.Ieee as Ieee;
 ghost use lib.Ieee.{binary64};
-ghost use Rattle.vectors.specs.Case.{pair, columnSize, numberAt, quadAt, wordAt, headOf};
+ghost use Rattle.vectors.specs.Case.{pair, pairAt, columnSize, numberAt, quadAt, wordAt, headOf};
 
 // Which call, how many bytes a number of its columns has, how many objects, and how many bytes the body.
 pub struct Head {
@@ -31,9 +31,36 @@ fn number(low: u8, high: u8) -> u16
 // The number of two bytes at a place.
 pub fn pair_at(s: &[u8], at: usize) -> u16
     requires { ⌜ at < 2 ^ 32 ⌝ }
-    ensures { λ r. ⌜ r ≡ pair (getD (now (s .entry)) at 0) (getD (now (s .entry)) (at + 1) 0) ⌝ }
+    ensures { λ r. ⌜ r ≡ pairAt (now (s .entry)) at ⌝ }
 {
     number(byte_at(s, at), byte_at(s, at + 1))
+}
+
+// The number of four bytes at a place.
+pub fn quad_at(s: &[u8], at: usize) -> u64
+    requires { ⌜ at + 4 < 2 ^ 32 ⌝ }
+    ensures { λ r. ⌜ (r ≡ quadAt (now (s .entry)) at) × (r < 2 ^ 32) ⌝ }
+{
+    pair_at(s, at) as u64 + 65536 * (pair_at(s, at + 2) as u64)
+}
+
+// The number of eight bytes at a place.
+pub fn word_at(s: &[u8], at: usize) -> u64
+    requires { ⌜ at + 8 < 2 ^ 32 ⌝ }
+    ensures { λ r. ⌜ r ≡ wordAt (now (s .entry)) at ⌝ }
+{
+    quad_at(s, at) + 4294967296 * quad_at(s, at + 4)
+}
+
+pub fn read_head(s: &[u8]) -> Head
+    ensures { λ r. ⌜ r ≡ headOf (now (s .entry)) ⌝ }
+{
+    Head {
+        call: byte_at(s, 0),
+        width: byte_at(s, 1),
+        objects: pair_at(s, 2) as usize,
+        size: quad_at(s, 4) as usize,
+    }
 }
 
 // How many bytes a column of n numbers has.
@@ -55,22 +82,6 @@ pub fn number_at(s: &[u8], at: usize, width: u8, i: usize) -> u16
     pair_at(s, at + 2 * i)
 }
 
-// The number of four bytes at a place.
-pub fn quad_at(s: &[u8], at: usize) -> u64
-    requires { ⌜ at + 4 < 2 ^ 32 ⌝ }
-    ensures { λ r. ⌜ (r ≡ quadAt (now (s .entry)) at) × (r < 2 ^ 32) ⌝ }
-{
-    pair_at(s, at) as u64 + 65536 * (pair_at(s, at + 2) as u64)
-}
-
-// The number of eight bytes at a place.
-pub fn word_at(s: &[u8], at: usize) -> u64
-    requires { ⌜ at + 8 < 2 ^ 32 ⌝ }
-    ensures { λ r. ⌜ r ≡ wordAt (now (s .entry)) at ⌝ }
-{
-    quad_at(s, at) + 4294967296 * quad_at(s, at + 4)
-}
-
 // The float that has these bits.
 pub fn float_of(bits: u64) -> f64
     ensures { λ r. ⌜ r ≡ Ieee.ofBits binary64 bits ⌝ }
@@ -79,15 +90,4 @@ pub fn float_of(bits: u64) -> f64
         return 0.0 / 0.0;
     }
     f64::from_bits(bits)
-}
-
-pub fn read_head(s: &[u8]) -> Head
-    ensures { λ r. ⌜ r ≡ headOf (now (s .entry)) ⌝ }
-{
-    Head {
-        call: byte_at(s, 0),
-        width: byte_at(s, 1),
-        objects: pair_at(s, 2) as usize,
-        size: pair_at(s, 4) as usize + 65536 * (pair_at(s, 6) as usize),
-    }
 }

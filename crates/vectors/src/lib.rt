@@ -1,5 +1,4 @@
 // Stored cases of the original: reading them out of bytes, and holding lent slices to them.
 pub mod case;
 pub mod held;
-pub mod lent;
 pub mod table;

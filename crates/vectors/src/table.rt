@@ -1,26 +1,36 @@
 // A column of places in a table of floats: reading the floats that it names into a slice.
 ghost use mathlib.Core.Path.{_≡_};
-ghost use Prim.Native.Nat.{_+_, _*_, _^_, _<_};
-ghost use lib.ListN.{length};
-ghost use Rattle.vectors.specs.Table.{entryAt, Entries};
+ghost use Prim.Native.Nat.{_^_, _≤_, _<_};
+ghost use Rattle.grouping_marks.specs.Over.{over};
+ghost use Rattle.vectors.specs.Table.{placeAt, entryAt, entries, EntriesRoom};
 use crate::case;
 
-// The float that number i of the column names.
-fn entry_at(s: &[u8], table: usize, column: usize, width: u8, i: usize) -> f64
-    requires { ⌜ (table < 2 ^ 31) × (column + 2 * i < 2 ^ 32) ⌝ }
-    ensures { λ r. ⌜ r ≡ entryAt (now (s .entry)) table column width i ⌝ }
+// Which float of the table is meant at i: the one that number i of the column names, or the next where the width is 0.
+fn place_at(s: &[u8], column: usize, width: u8, i: usize) -> usize
+    requires { ⌜ (column < 2 ^ 31) × (i ≤ 16384) ⌝ }
+    ensures { λ r. ⌜ (r ≡ placeAt (now (s .entry)) column width i) × (r < 65536) ⌝ }
 {
-    let place = case::number_at(s, column, width, i) as usize;
-    case::float_of(case::word_at(s, table + 8 * place))
+    if width == 0 {
+        return i;
+    }
+    case::number_at(s, column, width, i) as usize
 }
 
-// Reads a float for each place of `out`.
-pub fn read(s: &[u8], table: usize, column: usize, width: u8, out: &mut [f64])
-    requires { ⌜ (table < 2 ^ 31) × (column + 2 * length (now out) < 2 ^ 32) ⌝ }
-    ensures { λ r. ⌜ Entries (length (now (out .entry))) (entryAt (now (s .entry)) table column width) (now (out .exit)) ⌝ }
+// The float that is meant at i.
+fn entry_at(s: &[u8], table: usize, column: usize, width: u8, i: usize) -> f64
+    requires { ⌜ (table < 2 ^ 31) × ((column < 2 ^ 31) × (i ≤ 16384)) ⌝ }
+    ensures { λ r. ⌜ r ≡ entryAt (now (s .entry)) table column width i ⌝ }
+{
+    case::float_of(case::word_at(s, table + 8 * place_at(s, column, width, i)))
+}
+
+// Reads n floats of the table that begins at a place: those that the column names or, where the column's numbers have no bytes, the first n.
+pub fn read(s: &[u8], table: usize, column: usize, width: u8, n: usize, out: &mut [f64])
+    requires { ⌜ EntriesRoom table column n (now out) ⌝ }
+    ensures { λ r. ⌜ now (out .exit) ≡ over (entries (now (s .entry)) table column width n) (now (out .entry)) ⌝ }
 {
     let mut i = 0;
-    while i < out.len() {
+    while i < n {
         out[i] = entry_at(s, table, column, width, i);
         i += 1;
     }

@@ -3,7 +3,7 @@ use Prim.Native.Nat.{_-_}
 use mathlib.Core.Path.{sym, _∙_}
 use lib.ListN.{length}
 use lib.Ieee.{binary64, toBits}
-use Rattle.vectors.specs.Case.{columnWord}
+use Rattle.vectors.specs.Case.{columnWord, words}
 use Rattle.vectors.specs.Held.{bitsOf}
 use Rattle.vectors.proofs.HeldLaws.{Passed, none-passed, one-passed, all-passed, too-short, differs, length-bits, bits-at}
 use native.Mathlib.Omega.{arith}
@@ -17,7 +17,8 @@ abbrev μ-loop : tie.MeasureT-loop
 μ-loop s at n mark got i₀ i = length got - i
 
 returns : tie.Need-returns Inv-loop μ-loop
-returns c = too-short (omega (arith, length-bits (c .before .before .before .args .got .now)))
+unfolding words
+returns c = too-short _ _ _ _ (omega (arith, length-bits (c .before .before .before .args .got .now)))
 
 loop-holds : tie.Need-loop-holds Inv-loop μ-loop
 loop-holds c = none-passed
@@ -35,10 +36,11 @@ bits-expected-requires : tie.Need-bits-expected-requires Inv-loop μ-loop
 bits-expected-requires c κs = omega arith
 
 returns-2 : tie.Need-returns-2 Inv-loop μ-loop
+unfolding words
 returns-2 c =
     let h = c .before .before .before .before .loop-test .taken in
     let e = length-bits (c .before .before .before .before .before .before .before .before .before .args .got .now) in
-    differs (omega arith) (λ q. c .if2 .taken (c .before .before .bits .ensures ∙ sym (bits-at _ _ _ h) ∙ q ∙ sym (c .before .bits-expected .ensures)))
+    differs _ _ _ _ _ (omega arith) (λ q. c .if2 .taken (c .before .before .bits .ensures ∙ sym (bits-at _ _ _ h) ∙ q ∙ sym (c .before .bits-expected .ensures)))
 
 add-i : tie.Need-add-i Inv-loop μ-loop
 add-i c = omega arith
@@ -52,6 +54,7 @@ loop-again c =
     (bits-at _ _ _ (c .before .before .before .before .loop-test .taken) ∙ sym (c .before .before .bits .ensures) ∙ c .if2 .left ∙ c .before .bits-expected .ensures)
 
 returns-3 : tie.Need-returns-3 Inv-loop μ-loop
+unfolding words
 returns-3 c =
     let e = length-bits (c .before .before .before .before .before .args .got .now) in
     all-passed (c .before .loop .inv) (omega arith) (omega arith)

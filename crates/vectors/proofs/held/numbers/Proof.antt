@@ -2,7 +2,7 @@
 use Prim.Native.Nat.{_-_}
 use mathlib.Core.Path.{sym, _∙_}
 use lib.ListN.{length}
-use Rattle.vectors.specs.Case.{numberAt}
+use Rattle.vectors.specs.Case.{numberAt, column}
 use Rattle.vectors.proofs.HeldLaws.{Passed, none-passed, one-passed, all-passed, too-short, differs}
 use native.Mathlib.Omega.{arith}
 use Rattle.vectors.proofs.held.numbers.Statement.{statement}
@@ -15,7 +15,8 @@ abbrev μ-loop : tie.MeasureT-loop
 μ-loop s at width n mark got i₀ i = length got - i
 
 returns : tie.Need-returns Inv-loop μ-loop
-returns c = too-short (c .if1 .taken)
+unfolding column
+returns c = too-short _ _ _ _ (c .if1 .taken)
 
 loop-holds : tie.Need-loop-holds Inv-loop μ-loop
 loop-holds c = none-passed
@@ -30,7 +31,8 @@ number-expected-requires : tie.Need-number-expected-requires Inv-loop μ-loop
 number-expected-requires c κs = omega arith
 
 returns-2 : tie.Need-returns-2 Inv-loop μ-loop
-returns-2 c = differs (c .before .before .before .loop-test .taken) (λ e. c .if2 .taken (e ∙ sym (c .before .number-expected .ensures)))
+unfolding column
+returns-2 c = differs _ _ _ _ _ (c .before .before .before .loop-test .taken) (λ e. c .if2 .taken (e ∙ sym (c .before .number-expected .ensures)))
 
 add-i : tie.Need-add-i Inv-loop μ-loop
 add-i c = omega arith
@@ -42,6 +44,7 @@ loop-again : tie.Need-loop-again Inv-loop μ-loop
 loop-again c = one-passed (c .before .before .before .before .loop .inv) (c .if2 .left ∙ c .before .number-expected .ensures)
 
 returns-3 : tie.Need-returns-3 Inv-loop μ-loop
+unfolding column
 returns-3 c = all-passed (c .before .loop .inv) (c .before .before .if1 .left) (c .loop-test .left)
 
 pub numbers-spec : {M : Type 1} → statement M

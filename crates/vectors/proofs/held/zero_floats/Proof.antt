@@ -1,5 +1,5 @@
 -- Each word of an empty column is 0.
-use Rattle.vectors.specs.Case.{pair, quadAt, wordAt, columnWord}
+use Rattle.vectors.proofs.HeldLaws.{held-as, no-words}
 use native.Mathlib.Omega.{arith}
 use Rattle.vectors.proofs.held.zero_floats.Statement.{statement}
 use Rattle.vectors.proofs.held.zero_floats.Tie as tie
@@ -11,8 +11,7 @@ floats-requires : tie.Need-floats-requires
 floats-requires c κs = omega arith
 
 returns : tie.Need-returns
-unfolding pair quadAt wordAt columnWord
-returns c = c .floats .ensures
+returns c = held-as (no-words _) (c .floats .ensures)
 
 pub zero-floats-spec : {M : Type 1} → statement M
 zero-floats-spec = tie.close (tie.spec slice-aggregate-floats floats-requires returns)

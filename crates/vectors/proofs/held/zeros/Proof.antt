@@ -1,5 +1,5 @@
 -- Each number of an empty column is 0.
-use Rattle.vectors.specs.Case.{numberAt}
+use Rattle.vectors.proofs.HeldLaws.{held-as, no-numbers}
 use borrow.Author.Needs.{needs}
 use Rattle.vectors.proofs.held.zeros.Statement.{statement}
 use Rattle.vectors.proofs.held.zeros.Tie as tie
@@ -11,8 +11,7 @@ numbers-requires : tie.Need-numbers-requires
 numbers-requires c κs = search needs
 
 returns : tie.Need-returns
-unfolding numberAt
-returns c = c .numbers .ensures
+returns c = held-as (no-numbers _) (c .numbers .ensures)
 
 pub zeros-spec : {M : Type 1} → statement M
 zeros-spec = tie.close (tie.spec slice-aggregate-numbers numbers-requires returns)

@@ -1,21 +1,22 @@
--- The loop's invariant: every place passed holds the float that its number names.
+-- The loop's invariant: the first i places hold the first i entries.
 use Prim.Native.Nat.{_-_}
-use lib.ListN.{length}
+use mathlib.Core.Path.{sym, _∙_}
 use lib.Ieee.{nan}
-use Rattle.vectors.specs.Table.{entryAt}
-use Rattle.vectors.proofs.LentLaws.{Filled, filled-start, filled-turn, entries-end}
 use native.Mathlib.Omega.{arith}
+use Rattle.grouping_marks.specs.Scan.{tabulate}
+use Rattle.grouping_marks.proofs.FillLaws.{Fill, fill-start-front, fill-turn-front, fill-end-front, length-tabulate, getD-tabulate}
+use Rattle.vectors.specs.Table.{entryAt, entries}
 use Rattle.vectors.proofs.table.read.Statement.{statement}
 use Rattle.vectors.proofs.table.read.Tie as tie
 
 abbrev Inv-loop : tie.InvT-loop
-Inv-loop s table column width out₀ i₀ out i = Filled nan (entryAt s table column width) (length out₀) out i
+Inv-loop s table column width n out₀ i₀ out i = Fill (tabulate (entryAt s table column width) n) n 0 out₀ out i
 
 abbrev μ-loop : tie.MeasureT-loop
-μ-loop s table column width out₀ i₀ out i = length out₀ - i
+μ-loop s table column width n out₀ i₀ out i = n - i
 
 loop-holds : tie.Need-loop-holds Inv-loop μ-loop
-loop-holds c = filled-start _ _ _
+loop-holds c = fill-start-front _ _ _ (length-tabulate _ _) (omega arith)
 
 entry-at-requires : tie.Need-entry-at-requires Inv-loop μ-loop
 entry-at-requires c κs = omega arith
@@ -33,13 +34,16 @@ loop-less : tie.Need-loop-less Inv-loop μ-loop
 loop-less c = omega arith
 
 loop-again : tie.Need-loop-again Inv-loop μ-loop
-loop-again c = filled-turn (c .before .before .loop .inv) (omega arith) (c .entry-at .ensures)
+loop-again c =
+    let h = c .before .loop-test .taken in
+    fill-turn-front nan (c .before .before .loop .inv) h (c .entry-at .ensures ∙ sym (getD-tabulate _ _ _ nan h))
 
 same-length : tie.Need-same-length Inv-loop μ-loop
 same-length c = c .before .loop .inv .long
 
 returns : tie.Need-returns Inv-loop μ-loop
-returns c = entries-end (c .before .loop .inv) (omega arith)
+unfolding entries
+returns c = fill-end-front (c .before .loop .inv) (c .loop-test .left)
 
 pub read-spec : {M : Type 1} → statement M
 read-spec =

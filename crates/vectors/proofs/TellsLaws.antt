@@ -1,0 +1,20 @@
+-- Answers that tell whether something holds: of a false one, of a true one, of two put together, and of the same said in other words.
+use mathlib.Core.Path.{_≡_, refl, _∙_}
+use mathlib.Core.Bool.{Bool, true, false, _&&_}
+use Prim.Native.Nat.{ℕ}
+use native.Mathlib.Omega.{arith}
+use Rattle.vectors.specs.Held.{Tells}
+
+pub denied : {P : Type 0} → (P → ⊥) → Tells false P
+denied f = (λ e. absurd (let z : _≡_ {A = ℕ} 0 1 = cc in omega arith), λ p. absurd (f p))
+
+pub granted : {P : Type 0} → P → Tells true P
+granted p = (λ e. p, λ q. refl)
+
+pub tells-both : {P Q : Type 0} (a b : Bool) {r : Bool} → r ≡ (a && b) → Tells a P → Tells b Q → Tells r (P × Q)
+tells-both true true e t u = (λ h. (t .0 refl, u .0 refl), λ p. e)
+tells-both true false e t u = (λ h. absurd (let z : _≡_ {A = ℕ} 0 1 = cc in omega arith), λ p. e ∙ u .1 (p .1))
+tells-both false b e t u = (λ h. absurd (let z : _≡_ {A = ℕ} 0 1 = cc in omega arith), λ p. e ∙ t .1 (p .0))
+
+pub tells-as : {P Q : Type 0} {r : Bool} → (P → Q) → (Q → P) → Tells r P → Tells r Q
+tells-as f g t = (λ e. f (t .0 e), λ q. t .1 (g q))
