@@ -3,6 +3,8 @@ use mathlib.Core.Path.{_≡_, refl, _∙_}
 use mathlib.Core.Bool.{Bool, true, false, _&&_}
 use Prim.Native.Nat.{ℕ}
 use native.Mathlib.Omega.{arith}
+use borrow.Author.Tests.{eqb-true, eq-eqb}
+use lib.Dec.{eqb}
 use Rattle.vectors.specs.Held.{Tells}
 
 pub denied : {P : Type 0} → (P → ⊥) → Tells false P
@@ -18,3 +20,8 @@ tells-both false b e t u = (λ h. absurd (let z : _≡_ {A = ℕ} 0 1 = cc in om
 
 pub tells-as : {P Q : Type 0} {r : Bool} → (P → Q) → (Q → P) → Tells r P → Tells r Q
 tells-as f g t = (λ e. f (t .0 e), λ q. t .1 (g q))
+
+-- ---- tests of numbers
+
+pub tells-eqb : (a b : ℕ) → Tells (eqb a b) (a ≡ b)
+tells-eqb a b = (eqb-true a b, eq-eqb a b)

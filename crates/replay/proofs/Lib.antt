@@ -1,2 +1,0 @@
-pub mod TallyLaws
-pub mod WorkLaws

@@ -1,4 +1,0 @@
-pub mod Column
-pub mod Tally
-pub mod Turns
-pub mod Work

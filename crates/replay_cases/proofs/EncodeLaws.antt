@@ -1,0 +1,96 @@
+-- What encode hands back on the lent slices is what its definition gives on slices full of marks; and each of its parts is held to the case.
+use mathlib.Core.Path.{_≡_, refl, sym, ap, _∙_, subst}
+use mathlib.Core.List.{List}
+use mathlib.Core.Bool.{Bool, true, false}
+use Prim.Native.Nat.{ℕ, _+_, _-_, _*_, _≤_}
+use native.Mathlib.Omega.{arith}
+use lib.Dec.{eqb}
+use lib.ListN.{take, drop, replicate}
+use lib.Ieee.{Float}
+use Rattle.grouping_marks.specs.Over.{part}
+use Rattle.grouping_marks.proofs.OverLaws.{lent-part}
+use Rattle.grouping_chart.specs.Chart.{Chart}
+use Rattle.grouping_chart.specs.declared.object.ObjectIndex.{ObjectIndex}
+use Rattle.grouping_encode.specs.Encode.{Memory, Outcome, encodeOutcome}
+use Rattle.grouping_encode.specs.declared.Encoding.{Encoding}
+use Rattle.grouping_encode.specs.declared.Encoding.the-variants.{Done, Refused}
+use Rattle.vectors.specs.Case.{pairAt, column}
+use Rattle.vectors.specs.Held.{Tells, Held}
+use Rattle.vectors.proofs.TellsLaws.{denied, tells-as, tells-eqb}
+use Rattle.replay_cases.specs.Lent.{numberMark, byteMark, floatMark, one, Columns, Cleared, Few}
+use Rattle.replay_cases.specs.Encode.{encodeChart, encodeLent, EncodeStored}
+use Rattle.replay_cases.proofs.LentLaws.{front-same}
+
+-- ---- the answer
+
+module _ (body : List ℕ) (answer : Encoding) where
+  pub count-told : (count stored : ℕ) → answer ≡ Done count → stored ≡ pairAt body 0 → Tells (eqb count stored) (answer ≡ Done (pairAt body 0))
+  count-told count stored e q = tells-as (λ h. e ∙ ap Done (h ∙ q)) (λ h. cc) (tells-eqb count stored)
+
+  pub refused-told : (number : ℕ) (place : ObjectIndex) → answer ≡ Refused number place → Tells false (answer ≡ Done (pairAt body 0))
+  refused-told number place e = denied (λ h. let z : _≡_ {A = ℕ} 0 1 = cc in omega arith)
+
+-- ---- the chart and the slices, as fronts of what the code makes
+abbrev chart : ℕ → List ℕ → Chart
+chart n body =
+    let ones : List Float = take n (replicate 16384 one) in
+    record { kinds = take (2 + n - 2) (drop 2 body); starts = ones; deltas = ones; ratios = ones }
+
+abbrev memory : ℕ → ℕ → Memory
+memory n spare =
+    let numbers : List ℕ = take (n + spare) (replicate 16391 numberMark) in
+    record {
+      streak = numbers;
+      streakPlace = numbers;
+      pattern = numbers;
+      patternPlace = numbers;
+      hit = numbers;
+      interval = take (n + spare) (replicate 16391 byteMark);
+      work = take (8 * n + spare) (replicate 131079 numberMark);
+      scratch = take (n + spare) (replicate 16391 floatMark);
+    }
+
+module _ (n spare : ℕ) (body : List ℕ) (few : Few n spare) where
+  chart-is : chart n body ≡ encodeChart n body
+  unfolding encodeChart
+  chart-is = rw (lent-part 2 n body, front-same n 16384 one (few .objects))
+
+  memory-is : memory n spare ≡ encodeLent n spare
+  unfolding encodeLent
+  memory-is =
+      rw
+      (
+        front-same (n + spare) 16391 numberMark (omega arith),
+        front-same (n + spare) 16391 byteMark (omega arith),
+        front-same (8 * n + spare) 131079 numberMark (omega arith),
+        front-same (n + spare) 16391 floatMark (omega arith),
+      )
+
+  -- on what the original answered
+  pub call-told : (size width : ℕ) {o : Outcome} {r : Bool} → o ≡ encodeOutcome (chart n body) (memory n spare)
+      → Tells r (
+        ((o .answer ≡ Done (pairAt body 0))
+        × (Columns body (2 + n) size width n (o .memory .streak) (o .memory .streakPlace)
+        × Columns body (2 + n + 2 * size) size width n (o .memory .pattern) (o .memory .patternPlace)))
+        × ((Held (column body (2 + n + 4 * size) width n) numberMark (o .memory .hit) × Held (part (2 + n + 5 * size) n body) byteMark (o .memory .interval))
+        × Cleared n (o .memory .work) (o .memory .scratch))
+      )
+      → Tells r (EncodeStored size width n body (encodeOutcome (encodeChart n body) (encodeLent n spare)))
+  call-told size width {o} {r} e t =
+      subst (λ (x : Outcome). Tells r (EncodeStored size width n body x)) (e ∙ (λ i. encodeOutcome (chart-is i) (memory-is i)))
+      (tells-as
+      (λ p. record {
+        answer = p .0 .0;
+        streak = p .0 .1 .0 .first;
+        streakPlace = p .0 .1 .0 .second;
+        pattern = p .0 .1 .1 .first;
+        patternPlace = p .0 .1 .1 .second;
+        hit = p .1 .0 .0;
+        interval = p .1 .0 .1;
+        cleared = p .1 .1;
+      })
+      (λ q. (
+        (q .answer, (record { first = q .streak; second = q .streakPlace }, record { first = q .pattern; second = q .patternPlace })),
+        ((q .hit, q .interval), q .cleared),
+      ))
+      t)

@@ -1,0 +1,62 @@
+// A stored case of encode.
+ghost use mathlib.Core.Path.{_≡_};
+ghost use Rattle.grouping_encode.specs.Encode.{encodeOutcome};
+ghost use Rattle.grouping_encode.specs.declared.Encoding.the-variants as encoding;
+ghost use Rattle.vectors.specs.Case.{pairAt};
+ghost use Rattle.vectors.specs.Held.{Tells};
+ghost use Rattle.replay_cases.specs.Encode.{encodeChart, encodeLent, EncodeStored, EncodeRoom};
+use crate::lent;
+use crate::lent::BYTE_MARK;
+use crate::lent::FLOAT_MARK;
+use crate::lent::NUMBER_MARK;
+use grouping_encode::Encoding;
+use vectors::held;
+use vectors::held::both;
+
+// Whether the chart is accepted, with as many hit patterns as the body's first number says.
+fn count_holds(body: &[u8], answer: Encoding) -> bool
+    ensures { λ r. ⌜ Tells r (answer ≡ encoding.Done (pairAt (now (body .entry)) 0)) ⌝ }
+{
+    match answer {
+        Encoding::Done(count) => count == vectors::case::pair_at(body, 0) as usize,
+        Encoding::Refused(_, _) => false,
+    }
+}
+
+fn call_holds(size: usize, width: u8, n: usize, body: &[u8], spare: usize) -> bool
+    requires { ⌜ EncodeRoom size n (now body) spare ⌝ }
+    ensures { λ r. ⌜ Tells r (EncodeStored size width n (now (body .entry)) (encodeOutcome (encodeChart n (now (body .entry))) (encodeLent n spare))) ⌝ }
+{
+    let room = n + spare;
+    let one = &[1.0; 16384][..n];
+    let streak = &mut [NUMBER_MARK; 16391][..room];
+    let inner = &mut [NUMBER_MARK; 16391][..room];
+    let pattern = &mut [NUMBER_MARK; 16391][..room];
+    let outer = &mut [NUMBER_MARK; 16391][..room];
+    let hit = &mut [NUMBER_MARK; 16391][..room];
+    let interval = &mut [BYTE_MARK; 16391][..room];
+    let work = &mut [NUMBER_MARK; 131079][..8 * n + spare];
+    let scratch = &mut [FLOAT_MARK; 16391][..room];
+    let answer = grouping_encode::encode(
+        &body[2..2 + n],
+        one,
+        one,
+        one,
+        streak,
+        inner,
+        pattern,
+        outer,
+        hit,
+        interval,
+        work,
+        scratch,
+    );
+    let at = 2 + n;
+    let count = count_holds(body, answer);
+    let streaks = lent::columns(body, at, size, width, n, streak, inner);
+    let patterns = lent::columns(body, at + 2 * size, size, width, n, pattern, outer);
+    let hits = held::numbers(body, at + 4 * size, width, n, NUMBER_MARK, hit);
+    let intervals = held::row(body, at + 5 * size, n, BYTE_MARK, interval);
+    let cleared = lent::cleared(n, work, scratch);
+    both(both(count, both(streaks, patterns)), both(both(hits, intervals), cleared))
+}

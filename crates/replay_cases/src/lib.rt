@@ -1,0 +1,3 @@
+// The stored cases of the original, held to the calls: when one holds, and what is counted over many.
+pub mod encode;
+pub mod lent;
