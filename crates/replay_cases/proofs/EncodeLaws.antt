@@ -5,7 +5,7 @@ use mathlib.Core.Bool.{Bool, true, false}
 use Prim.Native.Nat.{ℕ, _+_, _-_, _*_, _≤_}
 use native.Mathlib.Omega.{arith}
 use lib.Dec.{eqb}
-use lib.ListN.{take, drop, replicate}
+use lib.ListN.{length, take, drop, replicate}
 use lib.Ieee.{Float}
 use Rattle.grouping_marks.specs.Over.{part}
 use Rattle.grouping_marks.proofs.OverLaws.{lent-part}
@@ -14,11 +14,14 @@ use Rattle.grouping_chart.specs.declared.object.ObjectIndex.{ObjectIndex}
 use Rattle.grouping_encode.specs.Encode.{Memory, Outcome, encodeOutcome}
 use Rattle.grouping_encode.specs.declared.Encoding.{Encoding}
 use Rattle.grouping_encode.specs.declared.Encoding.the-variants.{Done, Refused}
-use Rattle.vectors.specs.Case.{pairAt, column}
+use Rattle.vectors.specs.Case.{pairAt, columnSize, column}
 use Rattle.vectors.specs.Held.{Tells, Held}
 use Rattle.vectors.proofs.TellsLaws.{denied, tells-as, tells-eqb}
+use Rattle.vectors.specs.declared.case.Head.{Head}
+use Rattle.replay_cases.specs.Head.{Formed}
 use Rattle.replay_cases.specs.Lent.{numberMark, byteMark, floatMark, one, Columns, Cleared, Few}
-use Rattle.replay_cases.specs.Encode.{encodeChart, encodeLent, EncodeStored}
+use Rattle.replay_cases.specs.Encode.{encodeChart, encodeLent, EncodeStored, EncodeHolds}
+use Rattle.replay_cases.proofs.HeadLaws.{ill-formed, well-formed}
 use Rattle.replay_cases.proofs.LentLaws.{front-same}
 
 -- ---- the answer
@@ -94,3 +97,22 @@ module _ (n spare : ℕ) (body : List ℕ) (few : Few n spare) where
         ((q .hit, q .interval), q .cleared),
       ))
       t)
+
+-- ---- the case
+
+module _ (h : Head) (body : List ℕ) (spare size : ℕ) (e : size ≡ columnSize (h .objects) (h .width)) where
+  -- the form, by the size that was worked out
+  abbrev form : ℕ → Type 0
+  form z = Formed 1 1 2 (2 + 2 * h .objects + 5 * z) h (length body)
+
+  pub case-ill : {b : Bool} → Tells b (form size) → b ≡ false → Tells false (EncodeHolds h body spare)
+  unfolding EncodeHolds
+  case-ill {b} t f = ill-formed (subst (λ (z : ℕ). Tells b (form z)) e t) f
+
+  pub case-told : {b r : Bool} → h .objects ≤ 16384 → Tells b (form size) → b ≡ true
+      → Tells r (EncodeStored size (h .width) (h .objects) body (encodeOutcome (encodeChart (h .objects) body) (encodeLent (h .objects) spare)))
+      → Tells r (EncodeHolds h body spare)
+  unfolding EncodeHolds
+  case-told {b} {r} l t f u =
+      well-formed l (subst (λ (z : ℕ). Tells b (form z)) e t) f
+      (subst (λ (z : ℕ). Tells r (EncodeStored z (h .width) (h .objects) body (encodeOutcome (encodeChart (h .objects) body) (encodeLent (h .objects) spare)))) e u)

@@ -1,2 +1,3 @@
 pub mod EncodeLaws
+pub mod HeadLaws
 pub mod LentLaws

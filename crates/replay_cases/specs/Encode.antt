@@ -10,6 +10,7 @@ use Rattle.grouping_encode.specs.declared.Encoding.the-variants.{Done}
 use Rattle.vectors.specs.Case.{pairAt, columnSize, column}
 use Rattle.vectors.specs.Held.{Held}
 use Rattle.vectors.specs.declared.case.Head.{Head}
+use Rattle.replay_cases.specs.Head.{Formed, Holds}
 use Rattle.replay_cases.specs.Lent.{numberMark, byteMark, floatMark, one, Cleared, Few}
 
 -- the kinds are stored behind a number; starts, deltas and ratios are not, since encode answers by the kinds alone
@@ -45,3 +46,10 @@ pub record EncodeRoom (size n : ℕ) (body : List ℕ) (spare : ℕ) : Type 0 wh
   pub few : Few n spare
   pub small : size ≤ 2 * n
   pub whole : length body ≡ 2 + 2 * n + 5 * size
+
+-- a case with this head and this body, in slices with so many places to spare
+unfoldable pub EncodeHolds : Head → List ℕ → ℕ → Type 0
+EncodeHolds h body spare =
+    let n : ℕ = h .objects in
+    let size : ℕ = columnSize n (h .width) in
+    Holds n (Formed 1 1 2 (2 + 2 * n + 5 * size) h (length body)) (EncodeStored size (h .width) n body (encodeOutcome (encodeChart n body) (encodeLent n spare)))

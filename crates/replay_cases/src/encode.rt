@@ -1,15 +1,19 @@
 // A stored case of encode.
 ghost use mathlib.Core.Path.{_≡_};
+ghost use Prim.Native.Nat.{_≤_};
 ghost use Rattle.grouping_encode.specs.Encode.{encodeOutcome};
 ghost use Rattle.grouping_encode.specs.declared.Encoding.the-variants as encoding;
 ghost use Rattle.vectors.specs.Case.{pairAt};
 ghost use Rattle.vectors.specs.Held.{Tells};
-ghost use Rattle.replay_cases.specs.Encode.{encodeChart, encodeLent, EncodeStored, EncodeRoom};
+ghost use Rattle.replay_cases.specs.Encode.{encodeChart, encodeLent, EncodeStored, EncodeRoom, EncodeHolds};
+use crate::head::ENCODE;
+use crate::head::formed;
 use crate::lent;
 use crate::lent::BYTE_MARK;
 use crate::lent::FLOAT_MARK;
 use crate::lent::NUMBER_MARK;
 use grouping_encode::Encoding;
+use vectors::case::Head;
 use vectors::held;
 use vectors::held::both;
 
@@ -59,4 +63,20 @@ fn call_holds(size: usize, width: u8, n: usize, body: &[u8], spare: usize) -> bo
     let intervals = held::row(body, at + 5 * size, n, BYTE_MARK, interval);
     let cleared = lent::cleared(n, work, scratch);
     both(both(count, both(streaks, patterns)), both(both(hits, intervals), cleared))
+}
+
+// Whether encode answers as the case has it, in slices with so many places to spare.
+pub fn holds(h: Head, body: &[u8], spare: usize) -> bool
+    requires { ⌜ spare ≤ 7 ⌝ }
+    ensures { λ r. ⌜ Tells r (EncodeHolds h (now (body .entry)) spare) ⌝ }
+{
+    let n = h.objects;
+    if n > 16384 {
+        return false;
+    }
+    let size = vectors::case::column_size(n, h.width);
+    if formed(h, ENCODE, 1, 2, 2 + 2 * n + 5 * size, body.len()) {
+        return call_holds(size, h.width, n, body, spare);
+    }
+    false
 }

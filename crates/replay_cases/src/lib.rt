@@ -1,3 +1,4 @@
 // The stored cases of the original, held to the calls: when one holds, and what is counted over many.
 pub mod encode;
+pub mod head;
 pub mod lent;
