@@ -61,8 +61,7 @@ module _ (n spare : ℕ) (body : List ℕ) (few : Few n spare) where
   memory-is : memory n spare ≡ encodeLent n spare
   unfolding encodeLent
   memory-is =
-      rw
-      (
+      rw (
         front-same (n + spare) 16391 numberMark (omega arith),
         front-same (n + spare) 16391 byteMark (omega arith),
         front-same (8 * n + spare) 131079 numberMark (omega arith),
@@ -72,11 +71,11 @@ module _ (n spare : ℕ) (body : List ℕ) (few : Few n spare) where
   -- on what the original answered
   pub call-told : (size width : ℕ) {o : Outcome} {r : Bool} → o ≡ encodeOutcome (chart n body) (memory n spare)
       → Tells r (
-        ((o .answer ≡ Done (pairAt body 0))
-        × (Columns body (2 + n) size width n (o .memory .streak) (o .memory .streakPlace)
-        × Columns body (2 + n + 2 * size) size width n (o .memory .pattern) (o .memory .patternPlace)))
-        × ((Held (column body (2 + n + 4 * size) width n) numberMark (o .memory .hit) × Held (part (2 + n + 5 * size) n body) byteMark (o .memory .interval))
-        × Cleared n (o .memory .work) (o .memory .scratch))
+      ((o .answer ≡ Done (pairAt body 0))
+      × (Columns body (2 + n) size width n (o .memory .streak) (o .memory .streakPlace)
+      × Columns body (2 + n + 2 * size) size width n (o .memory .pattern) (o .memory .patternPlace)))
+      × ((Held (column body (2 + n + 4 * size) width n) numberMark (o .memory .hit) × Held (part (2 + n + 5 * size) n body) byteMark (o .memory .interval))
+      × Cleared n (o .memory .work) (o .memory .scratch))
       )
       → Tells r (EncodeStored size width n body (encodeOutcome (encodeChart n body) (encodeLent n spare)))
   call-told size width {o} {r} e t =

@@ -10,6 +10,11 @@ pub record Formed (call low high size : ℕ) (h : Head) (room : ℕ) : Type 0 wh
   pub most : h .width ≤ high
   pub whole : room ≡ size
 
+-- a case that is a part of another one, of n objects: its numbers have so many bytes
+pub record PartFormed (call width size n : ℕ) (h : Head) (room : ℕ) : Type 0 where
+  pub form : Formed call width width size h room
+  pub same : h .objects ≡ n
+
 -- a case of n objects: they are not too many, its bytes have their form, and the call answers as they say
 pub record Holds (n : ℕ) (Form Answers : Type 0) : Type 0 where
   pub few : n ≤ 16384

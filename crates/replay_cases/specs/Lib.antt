@@ -1,3 +1,4 @@
 pub mod Head
 pub mod Lent
 pub mod Encode
+pub mod Colour

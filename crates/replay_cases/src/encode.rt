@@ -62,7 +62,10 @@ fn call_holds(size: usize, width: u8, n: usize, body: &[u8], spare: usize) -> bo
     let hits = held::numbers(body, at + 4 * size, width, n, NUMBER_MARK, hit);
     let intervals = held::row(body, at + 5 * size, n, BYTE_MARK, interval);
     let cleared = lent::cleared(n, work, scratch);
-    both(both(count, both(streaks, patterns)), both(both(hits, intervals), cleared))
+    both(
+        both(count, both(streaks, patterns)),
+        both(both(hits, intervals), cleared),
+    )
 }
 
 // Whether encode answers as the case has it, in slices with so many places to spare.

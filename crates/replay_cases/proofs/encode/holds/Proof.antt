@@ -29,7 +29,7 @@ formed-requires : tie.Need-formed-requires
 formed-requires c κs = omega arith
 
 call-holds-requires : tie.Need-call-holds-requires
-call-holds-requires c κs = 
+call-holds-requires c κs =
     let f = c .before .formed .ensures .0 (c .if2 .taken) in
     record { few = record { objects = c .before .before .before .if1 .left; places = c .before .before .before .before .before .pre }; small = c .before .before .column-size .ensures .1; whole = f .whole }
 
