@@ -7,7 +7,7 @@ use native.Mathlib.Omega.{arith}
 use lib.ListN.{length, take, drop, replicate}
 use lib.Ieee.{Float, binary64, toBits, ofBits}
 use Rattle.grouping_marks.specs.Over.{over}
-use Rattle.grouping_marks.proofs.OverLaws.{front, lent-part}
+use Rattle.grouping_marks.proofs.OverLaws.{lent-part}
 use Rattle.grouping_chart.specs.Chart.{Chart}
 use Rattle.grouping_chart.specs.declared.object.ObjectIndex.{ObjectIndex}
 use Rattle.evaluator_calls.specs.Calls.{Memory, Outcome, colourOutcome, stretchOutcome}
@@ -18,7 +18,7 @@ use Rattle.vectors.specs.Case.{pairAt, columnSize, words}
 use Rattle.vectors.specs.Held.{Tells, Held, bitsOf}
 use Rattle.vectors.specs.Table.{entries}
 use Rattle.vectors.specs.declared.case.Head.{Head}
-use Rattle.vectors.proofs.TableLaws.{length-entries}
+use Rattle.vectors.proofs.TableLaws.{entries-front}
 use Rattle.vectors.proofs.TellsLaws.{denied, tells-as, tells-both}
 use Rattle.replay_cases.specs.Head.{Formed, PartFormed}
 use Rattle.replay_cases.specs.Lent.{numberMark, floatMark, one, Cleared, Few}
@@ -72,8 +72,7 @@ module _ (size width n spare : ℕ) (body : List ℕ) (few : Few n spare) where
   chart-is : (ratios : List Float) → ratios ≡ readRatios → chart n body ratios ≡ colourChart size width n body
   unfolding colourChart
   chart-is ratios e =
-      let table : List Float = entries body (2 + n + size + 8 * n) (2 + n) width n in
-      let f : take n ratios ≡ table = ap (take n) e ∙ front table (replicate 16384 (ofBits binary64 0)) n (length-entries body (2 + n + size + 8 * n) (2 + n) width n) in
+      let f : take n ratios ≡ entries body (2 + n + size + 8 * n) (2 + n) width n = ap (take n) e ∙ entries-front body (2 + n + size + 8 * n) (2 + n) width n _ in
       rw (lent-part 2 n body, front-same n 16384 one (few .objects), f)
 
   memory-is : memory n spare ≡ colourLent n spare

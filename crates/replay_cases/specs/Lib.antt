@@ -2,3 +2,4 @@ pub mod Head
 pub mod Lent
 pub mod Encode
 pub mod Colour
+pub mod Rhythm

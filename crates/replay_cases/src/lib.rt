@@ -3,3 +3,4 @@ pub mod colour;
 pub mod encode;
 pub mod head;
 pub mod lent;
+pub mod rhythm;

@@ -1,5 +1,5 @@
 -- Answers that tell whether something holds: of a false one, of a true one, of two put together, and of the same said in other words.
-use mathlib.Core.Path.{_≡_, refl, _∙_}
+use mathlib.Core.Path.{_≡_, refl, sym, _∙_}
 use mathlib.Core.Bool.{Bool, true, false, _&&_}
 use Prim.Native.Nat.{ℕ}
 use native.Mathlib.Omega.{arith}
@@ -25,3 +25,6 @@ tells-as f g t = (λ e. f (t .0 e), λ q. t .1 (g q))
 
 pub tells-eqb : (a b : ℕ) → Tells (eqb a b) (a ≡ b)
 tells-eqb a b = (eqb-true a b, eq-eqb a b)
+
+pub tells-eqb-as : {x y x′ y′ : ℕ} → x ≡ x′ → y ≡ y′ → Tells (eqb x y) (x′ ≡ y′)
+tells-eqb-as {x} {y} p q = tells-as (λ e. sym p ∙ e ∙ q) (λ e. p ∙ e ∙ sym q) (tells-eqb x y)
