@@ -1,3 +1,5 @@
 pub mod Case
 pub mod Held
 pub mod Table
+pub mod Form
+pub mod Lent

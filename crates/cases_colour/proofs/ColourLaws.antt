@@ -1,0 +1,126 @@
+-- What the call that is asked hands back on the lent slices is what its definition gives on slices full of marks; and each of its parts is held to the case.
+use mathlib.Core.Path.{_≡_, refl, sym, ap, _∙_, subst}
+use mathlib.Core.List.{List}
+use mathlib.Core.Bool.{Bool, true, false, _&&_}
+use Prim.Native.Nat.{ℕ, _+_, _-_, _*_, _≤_}
+use native.Mathlib.Omega.{arith}
+use lib.ListN.{length, take, drop, replicate}
+use lib.Ieee.{Float, binary64, toBits, ofBits}
+use Rattle.grouping_marks.specs.Over.{over}
+use Rattle.grouping_marks.proofs.OverLaws.{lent-part}
+use Rattle.grouping_chart.specs.Chart.{Chart}
+use Rattle.grouping_chart.specs.declared.object.ObjectIndex.{ObjectIndex}
+use Rattle.evaluator_calls.specs.Calls.{Memory, Outcome, colourOutcome, stretchOutcome}
+use Rattle.evaluator_calls.specs.declared.Colouring.{Colouring}
+use Rattle.evaluator_calls.specs.declared.Colouring.the-variants as colouring
+use Rattle.evaluator_calls.specs.declared.Stretching.{Stretching}
+use Rattle.vectors.specs.Case.{pairAt, columnSize, words}
+use Rattle.vectors.specs.Held.{Tells, Held, bitsOf}
+use Rattle.vectors.specs.Table.{entries}
+use Rattle.vectors.specs.declared.case.Head.{Head}
+use Rattle.vectors.proofs.TableLaws.{entries-front}
+use Rattle.vectors.proofs.TellsLaws.{denied, tells-as, tells-both}
+use Rattle.vectors.specs.Form.{Formed, PartFormed}
+use Rattle.vectors.specs.Lent.{numberMark, floatMark, one, Cleared, Few}
+use Rattle.cases_colour.specs.Colour.{colourChart, colourLent, stretchOf, MeanIs, Answers, leaves, Answered, ValuesHeld, CallStored, ColourRoom, ColourForm, ColourHolds, StretchHolds}
+use Rattle.cases_colour.specs.declared.Stretch.{Stretch}
+use Rattle.cases_colour.specs.declared.Asked.{Asked}
+use Rattle.cases_colour.specs.declared.Asked.the-variants as asked
+use Rattle.vectors.proofs.FormLaws.{ill-formed, well-formed}
+use Rattle.vectors.proofs.LentLaws.{ones-lent, work-lent, floats-lent}
+
+-- ---- the answer of either call
+
+pub colour-refused : (answer : Colouring) (number : ℕ) (place : ObjectIndex) → answer ≡ colouring.Refused number place → Tells false (answer ≡ colouring.Done)
+colour-refused answer number place e = denied (λ h. let z : _≡_ {A = ℕ} 0 1 = cc in omega arith)
+
+module _ {call : Asked} {c : Chart} {m : Memory} {r : Bool} where
+  pub colour-answered : {o : Outcome Colouring} → call ≡ asked.Colour → o ≡ colourOutcome c m → Tells r (o .answer ≡ colouring.Done) → Answered call c m (o .memory) r
+  unfolding Answers leaves
+  colour-answered a e t =
+      rw a (record { told = subst (λ (x : Outcome Colouring). Tells r (x .answer ≡ colouring.Done)) e t; memory = ap (λ (x : Outcome Colouring). x .memory) e })
+
+  pub stretch-answered : {o : Outcome Stretching} (s : Stretch) → call ≡ asked.Stretched s → o ≡ stretchOutcome c (s .a) (s .b) m → Tells r (MeanIs s (o .answer))
+      → Answered call c m (o .memory) r
+  unfolding Answers leaves
+  stretch-answered s a e t =
+      rw a (record { told = subst (λ (x : Outcome Stretching). Tells r (MeanIs s (x .answer))) e t; memory = ap (λ (x : Outcome Stretching). x .memory) e })
+
+pub values-told : {size n : ℕ} {body : List ℕ} {m : Memory} {r : Bool}
+    → Tells r (Held (words body (2 + n + size) n) (toBits binary64 floatMark) (bitsOf (m .value)) × Cleared n (m .work) (m .scratch)) → Tells r (ValuesHeld size n body m)
+values-told = tells-as (λ p. record { values = p .0; cleared = p .1 }) (λ p. (p .values, p .cleared))
+
+-- ---- the chart and the slices, as fronts of what the code makes
+
+abbrev chart : ℕ → List ℕ → List Float → Chart
+chart n body ratios =
+    let ones : List Float = take n (replicate 16384 one) in
+    record { kinds = take (2 + n - 2) (drop 2 body); starts = ones; deltas = ones; ratios = take n ratios }
+
+abbrev memory : ℕ → ℕ → Memory
+memory n spare = record {
+  value = take (n + spare) (replicate 16391 floatMark);
+  work = take (8 * n + spare) (replicate 131079 numberMark);
+  scratch = take (n + spare) (replicate 16391 floatMark);
+}
+
+module _ (size width n spare : ℕ) (body : List ℕ) (few : Few n spare) where
+  -- the table's floats, read over zeros
+  abbrev readRatios : List Float
+  readRatios = over (entries body (2 + n + size + 8 * n) (2 + n) width n) (replicate 16384 (ofBits binary64 0))
+
+  chart-is : (ratios : List Float) → ratios ≡ readRatios → chart n body ratios ≡ colourChart size width n body
+  unfolding colourChart
+  chart-is ratios e =
+      let f : take n ratios ≡ entries body (2 + n + size + 8 * n) (2 + n) width n = ap (take n) e ∙ entries-front body (2 + n + size + 8 * n) (2 + n) width n _ in
+      rw (lent-part 2 n body, ones-lent few, f)
+
+  memory-is : memory n spare ≡ colourLent n spare
+  unfolding colourLent
+  memory-is = rw (floats-lent few, work-lent few)
+
+  pub call-told : {call : Asked} {m′ : Memory} {a b r : Bool} (ratios : List Float) → ratios ≡ readRatios → Answered call (chart n body ratios) (memory n spare) m′ a
+      → Tells b (ValuesHeld size n body m′) → r ≡ (a && b) → Tells r (CallStored call size n body (colourChart size width n body) (colourLent n spare))
+  call-told {call} {m′} {a} {b} {r} ratios e x t q =
+      let y : Answered call (colourChart size width n body) (colourLent n spare) m′ a =
+      subst (λ (p : Chart × Memory). Answered call (p .0) (p .1) m′ a) (λ i. (chart-is ratios e i, memory-is i)) x in
+      tells-as (λ p. record { answer = p .0; memory = p .1 }) (λ p. (p .answer, p .memory))
+      (tells-both a b q (y .told) (subst (λ (m : Memory). Tells b (ValuesHeld size n body m)) (y .memory) t))
+
+-- ---- the cases
+
+pub form-told : (size : ℕ) (h : Head) (body : List ℕ) (ratios : ℕ) {r : Bool} → ratios ≡ pairAt body 0
+    → Tells r (Formed 2 1 2 (2 + 9 * h .objects + size + 8 * ratios) h (length body)) → Tells r (ColourForm size h body)
+unfolding ColourForm
+form-told size h body ratios {r} e t = subst (λ (k : ℕ). Tells r (Formed 2 1 2 (2 + 9 * h .objects + size + 8 * k) h (length body))) e t
+
+pub form-room : (h : Head) (body : List ℕ) (spare size : ℕ) → h .objects ≤ 16384 → spare ≤ 7 → size ≤ 2 * h .objects → ColourForm size h body → ColourRoom size (h .objects) body spare
+unfolding ColourForm
+form-room h body spare size l k z f = record { few = record { objects = l; places = k }; small = z; whole = omega (arith, f .whole) }
+
+module _ (h : Head) (body : List ℕ) (spare size : ℕ) (e : size ≡ columnSize (h .objects) (h .width)) where
+  abbrev stored : Asked → ℕ → Type 0
+  stored call z = CallStored call z (h .objects) body (colourChart z (h .width) (h .objects) body) (colourLent (h .objects) spare)
+
+  pub colour-ill : {b : Bool} → Tells b (ColourForm size h body) → b ≡ false → Tells false (ColourHolds h body spare)
+  unfolding ColourHolds
+  colour-ill {b} t f = ill-formed (subst (λ (z : ℕ). Tells b (ColourForm z h body)) e t) f
+
+  pub colour-told : {b r : Bool} → h .objects ≤ 16384 → Tells b (ColourForm size h body) → b ≡ true → Tells r (stored asked.Colour size) → Tells r (ColourHolds h body spare)
+  unfolding ColourHolds
+  colour-told {b} {r} l t f u =
+      well-formed l (subst (λ (z : ℕ). Tells b (ColourForm z h body)) e t) f (subst (λ (z : ℕ). Tells r (stored asked.Colour z)) e u)
+
+  -- a stretch of this chart
+  module _ (k : Head) (part : List ℕ) {b : Bool} (t : Tells b (ColourForm size h body × PartFormed 3 1 16 (h .objects) k (length part))) where
+    forms : Tells b (ColourForm (columnSize (h .objects) (h .width)) h body × PartFormed 3 1 16 (h .objects) k (length part))
+    forms = subst (λ (z : ℕ). Tells b (ColourForm z h body × PartFormed 3 1 16 (h .objects) k (length part))) e t
+
+    pub stretch-ill : b ≡ false → Tells false (StretchHolds h body k part spare)
+    unfolding StretchHolds
+    stretch-ill f = ill-formed forms f
+
+    pub stretch-told : {r : Bool} (s : Stretch) → s ≡ stretchOf part → h .objects ≤ 16384 → b ≡ true → Tells r (stored (asked.Stretched s) size)
+        → Tells r (StretchHolds h body k part spare)
+    unfolding StretchHolds
+    stretch-told {r} s q l f u = well-formed l forms f (subst (λ (x : Stretch × ℕ). Tells r (stored (asked.Stretched (x .0)) (x .1))) (λ i. (q i, e i)) u)

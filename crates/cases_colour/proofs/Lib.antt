@@ -1,0 +1,2 @@
+pub mod ColourLaws
+pub mod StretchLaws

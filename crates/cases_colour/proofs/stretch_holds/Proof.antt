@@ -1,0 +1,52 @@
+-- Too many objects, a wrong form of the chart or of the stretch, or what the call tells.
+use native.Mathlib.Omega.{arith}
+use Rattle.vectors.proofs.TellsLaws.{tells-both}
+use Rattle.cases_colour.specs.Colour.{StretchHolds}
+use Rattle.vectors.proofs.FormLaws.{too-many}
+use Rattle.cases_colour.proofs.ColourLaws.{form-room, stretch-ill, stretch-told}
+use Rattle.cases_colour.proofs.stretch_holds.Statement.{statement}
+use Rattle.cases_colour.proofs.stretch_holds.Tie as tie
+
+returns : tie.Need-returns
+unfolding StretchHolds
+returns c = too-many (c .if1 .taken)
+
+column-size-requires : tie.Need-column-size-requires
+column-size-requires c κs = omega arith
+
+colour-formed-requires : tie.Need-colour-formed-requires
+colour-formed-requires c κs = omega arith
+
+part-formed-requires : tie.Need-part-formed-requires
+part-formed-requires c κs = omega arith
+
+both-requires : tie.Need-both-requires
+both-requires c κs = omega arith
+
+read-stretch-requires : tie.Need-read-stretch-requires
+read-stretch-requires c κs = omega arith
+
+call-holds-requires : tie.Need-call-holds-requires
+call-holds-requires c κs =
+    let f = tells-both _ _ (c .before .before .both .ensures) (c .before .before .before .before .colour-formed .ensures) (c .before .before .before .part-formed .ensures) .0 (c .before .if2 .taken) in
+    form-room _ _ _ _ (c .before .before .before .before .before .before .if1 .left) (c .before .before .before .before .before .before .before .before .before .pre) (c .before .before .before .before .before .column-size .ensures .1) (f .0)
+
+returns-2 : tie.Need-returns-2
+returns-2 c = stretch-told _ _ _ _ (c .before .before .before .before .before .before .column-size .ensures .0) _ _ (tells-both _ _ (c .before .before .before .both .ensures) (c .before .before .before .before .before .colour-formed .ensures) (c .before .before .before .before .part-formed .ensures)) _ (c .before .read-stretch .ensures) (c .before .before .before .before .before .before .before .if1 .left) (c .before .before .if2 .taken) (c .call-holds .ensures)
+
+returns-3 : tie.Need-returns-3
+returns-3 c = stretch-ill _ _ _ _ (c .before .before .before .before .column-size .ensures .0) _ _ (tells-both _ _ (c .before .both .ensures) (c .before .before .before .colour-formed .ensures) (c .before .before .part-formed .ensures)) (c .if2 .left)
+
+pub stretch-holds-spec : {M : Type 1} → statement M
+stretch-holds-spec =
+    tie.close
+    (tie.spec
+    returns
+    column-size-requires
+    colour-formed-requires
+    part-formed-requires
+    both-requires
+    read-stretch-requires
+    call-holds-requires
+    returns-2
+    returns-3)

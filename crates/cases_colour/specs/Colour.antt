@@ -1,0 +1,109 @@
+-- When a stored case of colour, or of a stretch of its chart, holds: the definition of the call gives what the original answered, on the chart that the case says and slices that are
+-- lent full of marks.
+use mathlib.Core.Path.{_≡_}
+use mathlib.Core.Bool.{Bool, cond}
+use mathlib.Core.List.{List}
+use Prim.Native.Nat.{ℕ, _+_, _-_, _*_, _≤_}
+use lib.Dec.{ltb}
+use lib.IntN.{ℤ, pos, negℤ}
+use lib.ListN.{length, replicate}
+use lib.Ieee.{Float, binary64, toBits}
+use Rattle.grouping_marks.specs.Over.{part}
+use Rattle.grouping_chart.specs.Chart.{Chart}
+use Rattle.evaluator_calls.specs.Calls.{Memory, Outcome, colourOutcome, stretchOutcome}
+use Rattle.evaluator_calls.specs.declared.Colouring.the-variants as colouring
+use Rattle.evaluator_calls.specs.declared.Stretching.{Stretching}
+use Rattle.evaluator_calls.specs.declared.Stretching.the-variants as stretching
+use Rattle.vectors.specs.Case.{pairAt, quadAt, wordAt, columnSize, words}
+use Rattle.vectors.specs.Held.{Tells, Held, bitsOf}
+use Rattle.vectors.specs.Table.{entries}
+use Rattle.vectors.specs.declared.case.Head.{Head}
+use Rattle.vectors.specs.Form.{Formed, PartFormed, Holds}
+use Rattle.vectors.specs.Lent.{numberMark, floatMark, one, Cleared, Few}
+use Rattle.cases_colour.specs.declared.Stretch.{Stretch}
+use Rattle.cases_colour.specs.declared.Asked.{Asked}
+use Rattle.cases_colour.specs.declared.Asked.the-variants as asked
+
+-- ---- what is stored
+
+-- behind a number and the kinds stand a column of so many bytes, the values, and the table of ratios that the column names; starts and deltas are not stored, since no value looks at them
+unfoldable pub colourChart : ℕ → ℕ → ℕ → List ℕ → Chart
+colourChart size width n body = record {
+  kinds = part 2 n body;
+  starts = replicate n one;
+  deltas = replicate n one;
+  ratios = entries body (2 + n + size + 8 * n) (2 + n) width n;
+}
+
+-- four bytes as a number with a sign
+unfoldable pub signedOf : ℕ → ℤ
+signedOf x = cond (ltb x 2147483648) (pos x) (negℤ (pos (4294967296 - x)))
+
+-- a stretch: its two ends, the bits of its mean, and the tenths
+unfoldable pub stretchOf : List ℕ → Stretch
+stretchOf part = record { a = pairAt part 0; b = pairAt part 2; mean = wordAt part 4; tenths = quadAt part 12 }
+
+-- ---- what is compared
+
+-- the mean by its bits, and the tenths
+unfoldable pub MeanIs : Stretch → Stretching → Type 0
+MeanIs s (stretching.Done mean tenths) = (toBits binary64 mean ≡ s .mean) × (tenths ≡ signedOf (s .tenths))
+MeanIs s (stretching.Refused number place) = ⊥
+
+-- the call that is asked accepts the chart, and answers as the original did
+unfoldable pub Answers : Asked → Chart → Memory → Type 0
+Answers asked.Colour c m = colourOutcome c m .answer ≡ colouring.Done
+Answers (asked.Stretched s) c m = MeanIs s (stretchOutcome c (s .a) (s .b) m .answer)
+
+-- the slices after it
+unfoldable pub leaves : Asked → Chart → Memory → Memory
+leaves asked.Colour c m = colourOutcome c m .memory
+leaves (asked.Stretched s) c m = stretchOutcome c (s .a) (s .b) m .memory
+
+-- what a call on lent slices tells
+pub record Answered (call : Asked) (c : Chart) (m m′ : Memory) (r : Bool) : Type 0 where
+  pub told : Tells r (Answers call c m)
+  pub memory : m′ ≡ leaves call c m
+
+-- the values of the body, by their bits, and cleared work slices
+pub record ValuesHeld (size n : ℕ) (body : List ℕ) (m : Memory) : Type 0 where
+  pub values : Held (words body (2 + n + size) n) (toBits binary64 floatMark) (bitsOf (m .value))
+  pub cleared : Cleared n (m .work) (m .scratch)
+
+pub record CallStored (call : Asked) (size n : ℕ) (body : List ℕ) (c : Chart) (m : Memory) : Type 0 where
+  pub answer : Answers call c m
+  pub memory : ValuesHeld size n body (leaves call c m)
+
+-- ---- the cases
+
+-- so many places to spare in each slice
+unfoldable pub colourLent : ℕ → ℕ → Memory
+colourLent n spare = record {
+  value = replicate (n + spare) floatMark;
+  work = replicate (8 * n + spare) numberMark;
+  scratch = replicate (n + spare) floatMark;
+}
+
+-- a body for the column and the values
+pub record ColourRoom (size n : ℕ) (body : List ℕ) (spare : ℕ) : Type 0 where
+  pub few : Few n spare
+  pub small : size ≤ 2 * n
+  pub whole : 2 + n ≤ length body
+
+-- the bytes of a colour case, by the size of its column
+unfoldable pub ColourForm : ℕ → Head → List ℕ → Type 0
+ColourForm size h body = Formed 2 1 2 (2 + 9 * h .objects + size + 8 * pairAt body 0) h (length body)
+
+unfoldable pub ColourHolds : Head → List ℕ → ℕ → Type 0
+ColourHolds h body spare =
+    let n : ℕ = h .objects in
+    let size : ℕ = columnSize n (h .width) in
+    Holds n (ColourForm size h body) (CallStored asked.Colour size n body (colourChart size (h .width) n body) (colourLent n spare))
+
+-- a stretch with this head and these bytes, of the chart of a colour case
+unfoldable pub StretchHolds : Head → List ℕ → Head → List ℕ → ℕ → Type 0
+StretchHolds chart body h part spare =
+    let n : ℕ = chart .objects in
+    let size : ℕ = columnSize n (chart .width) in
+    Holds n (ColourForm size chart body × PartFormed 3 1 16 n h (length part))
+    (CallStored (asked.Stretched (stretchOf part)) size n body (colourChart size (chart .width) n body) (colourLent n spare))

@@ -1,0 +1,194 @@
+// A stored case of colour, and of a stretch of its chart.
+ghost use mathlib.Core.Path.{_≡_};
+ghost use Prim.Native.Nat.{_+_, _*_, _≤_};
+ghost use lib.ListN.{length};
+ghost use Rattle.evaluator_calls.specs.declared.Colouring.the-variants as colouring;
+ghost use Rattle.vectors.specs.Held.{Tells};
+ghost use Rattle.cases_colour.specs.Colour.{colourChart, colourLent, signedOf, stretchOf, MeanIs, Answered, ValuesHeld, CallStored, ColourRoom, ColourForm, ColourHolds, StretchHolds};
+use evaluator_calls::Colouring;
+use evaluator_calls::Stretching;
+use numeric::canonical::bits;
+use vectors::case;
+use vectors::case::Head;
+use vectors::form::COLOUR;
+use vectors::form::STRETCH;
+use vectors::form::formed;
+use vectors::form::part_formed;
+use vectors::held;
+use vectors::held::both;
+use vectors::lent;
+use vectors::lent::FLOAT_MARK;
+use vectors::lent::NUMBER_MARK;
+
+// What is stored of a stretch: its two ends, the bits of its mean, and the tenths, whose sign is in their highest bit.
+pub struct Stretch {
+    pub a: usize,
+    pub b: usize,
+    pub mean: u64,
+    pub tenths: u32,
+}
+
+// The call that a case is of.
+enum Asked {
+    Colour,
+    Stretched(Stretch),
+}
+
+// Four bytes as a number with a sign.
+fn signed(x: u32) -> i64
+    ensures { λ r. ⌜ r ≡ signedOf x ⌝ }
+{
+    if x < 2147483648 {
+        return x as i64;
+    }
+    -((4294967296 - x as u64) as i64)
+}
+
+fn read_stretch(part: &[u8]) -> Stretch
+    ensures { λ r. ⌜ r ≡ stretchOf (now (part .entry)) ⌝ }
+{
+    Stretch {
+        a: case::pair_at(part, 0) as usize,
+        b: case::pair_at(part, 2) as usize,
+        mean: case::word_at(part, 4),
+        tenths: case::quad_at(part, 12) as u32,
+    }
+}
+
+fn done(answer: Colouring) -> bool
+    ensures { λ r. ⌜ Tells r (answer ≡ colouring.Done) ⌝ }
+{
+    match answer {
+        Colouring::Done => true,
+        Colouring::Refused(_, _) => false,
+    }
+}
+
+// Whether the stretch is accepted, with the mean and the tenths that are stored.
+fn mean_holds(s: Stretch, answer: Stretching) -> bool
+    ensures { λ r. ⌜ Tells r (MeanIs s answer) ⌝ }
+{
+    match answer {
+        Stretching::Done(mean, tenths) => {
+            if tenths == signed(s.tenths) {
+                return bits(mean) == s.mean;
+            }
+            false
+        }
+        Stretching::Refused(_, _) => false,
+    }
+}
+
+// Whether the call that is asked answers as it must.
+fn answer_holds(
+    asked: Asked,
+    kind: &[u8],
+    one: &[f64],
+    ratio: &[f64],
+    value: &mut [f64],
+    work: &mut [u16],
+    scratch: &mut [f64],
+) -> bool
+    ensures { λ r. ⌜ Answered asked (record { kinds = now (kind .entry); starts = now (one .entry); deltas = now (one .entry); ratios = now (ratio .entry) })
+        (record { value = now (value .entry); work = now (work .entry); scratch = now (scratch .entry) })
+        (record { value = now (value .exit); work = now (work .exit); scratch = now (scratch .exit) }) r ⌝ }
+{
+    match asked {
+        Asked::Colour => done(evaluator_calls::colour(kind, one, one, ratio, value, work, scratch)),
+        Asked::Stretched(s) => mean_holds(
+            s,
+            evaluator_calls::stretch(kind, one, one, ratio, s.a, s.b, value, work, scratch),
+        ),
+    }
+}
+
+// Whether the values are those of the body, and the work slices are cleared.
+fn values_hold(
+    size: usize,
+    n: usize,
+    body: &[u8],
+    value: &[f64],
+    work: &[u16],
+    scratch: &[f64],
+) -> bool
+    requires { ⌜ (n ≤ 16384) × (size ≤ 2 * n) ⌝ }
+    ensures { λ r. ⌜ Tells r (ValuesHeld size n (now (body .entry)) (record { value = now (value .entry); work = now (work .entry); scratch = now (scratch .entry) })) ⌝ }
+{
+    let values = held::floats(body, 2 + n + size, n, FLOAT_MARK, value);
+    let cleared = lent::cleared(n, work, scratch);
+    both(values, cleared)
+}
+
+fn call_holds(asked: Asked, size: usize, width: u8, n: usize, body: &[u8], spare: usize) -> bool
+    requires { ⌜ ColourRoom size n (now body) spare ⌝ }
+    ensures { λ r. ⌜ Tells r (CallStored asked size n (now (body .entry)) (colourChart size width n (now (body .entry))) (colourLent n spare)) ⌝ }
+{
+    let room = n + spare;
+    let one = &[1.0; 16384][..n];
+    let mut ratios = [0.0; 16384];
+    vectors::table::read(body, 2 + n + size + 8 * n, 2 + n, width, n, &mut ratios);
+    let value = &mut [FLOAT_MARK; 16391][..room];
+    let work = &mut [NUMBER_MARK; 131079][..8 * n + spare];
+    let scratch = &mut [FLOAT_MARK; 16391][..room];
+    let answer = answer_holds(
+        asked,
+        &body[2..2 + n],
+        one,
+        &ratios[..n],
+        value,
+        work,
+        scratch,
+    );
+    let values = values_hold(size, n, body, value, work, scratch);
+    both(answer, values)
+}
+
+// Whether the bytes have the form of a colour case with a column of this size.
+fn colour_formed(size: usize, h: Head, body: &[u8]) -> bool
+    requires { ⌜ (h .objects ≤ 16384) × (size ≤ 2 * h .objects) ⌝ }
+    ensures { λ r. ⌜ Tells r (ColourForm size h (now (body .entry))) ⌝ }
+{
+    let table = 8 * (case::pair_at(body, 0) as usize);
+    formed(
+        h,
+        COLOUR,
+        1,
+        2,
+        2 + 9 * h.objects + size + table,
+        body.len(),
+    )
+}
+
+// Whether colour answers as the case has it, in slices with so many places to spare.
+pub fn holds(h: Head, body: &[u8], spare: usize) -> bool
+    requires { ⌜ spare ≤ 7 ⌝ }
+    ensures { λ r. ⌜ Tells r (ColourHolds h (now (body .entry)) spare) ⌝ }
+{
+    let n = h.objects;
+    if n > 16384 {
+        return false;
+    }
+    let size = case::column_size(n, h.width);
+    if colour_formed(size, h, body) {
+        return call_holds(Asked::Colour, size, h.width, n, body, spare);
+    }
+    false
+}
+
+// Whether the stretch with this head and these bytes, of the chart of a colour case, is answered as it must.
+pub fn stretch_holds(chart: Head, body: &[u8], h: Head, part: &[u8], spare: usize) -> bool
+    requires { ⌜ spare ≤ 7 ⌝ }
+    ensures { λ r. ⌜ Tells r (StretchHolds chart (now (body .entry)) h (now (part .entry)) spare) ⌝ }
+{
+    let n = chart.objects;
+    if n > 16384 {
+        return false;
+    }
+    let size = case::column_size(n, chart.width);
+    let whole = colour_formed(size, chart, body);
+    if both(whole, part_formed(h, STRETCH, 1, 16, n, part.len())) {
+        let asked = Asked::Stretched(read_stretch(part));
+        return call_holds(asked, size, chart.width, n, body, spare);
+    }
+    false
+}

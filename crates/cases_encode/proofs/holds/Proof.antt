@@ -1,0 +1,55 @@
+-- Too many objects, a wrong form, or what the call tells.
+use native.Mathlib.Omega.{arith}
+use Rattle.cases_encode.specs.Encode.{EncodeHolds}
+use Rattle.vectors.proofs.FormLaws.{too-many}
+use Rattle.cases_encode.proofs.EncodeLaws.{case-ill, case-told}
+use Rattle.cases_encode.proofs.holds.Statement.{statement}
+use Rattle.cases_encode.proofs.holds.Tie as tie
+
+returns : tie.Need-returns
+unfolding EncodeHolds
+returns c = too-many (c .if1 .taken)
+
+column-size-requires : tie.Need-column-size-requires
+column-size-requires c κs = omega arith
+
+mul-formed : tie.Need-mul-formed
+mul-formed c = omega arith
+
+add-formed : tie.Need-add-formed
+add-formed c = omega arith
+
+mul-formed-2 : tie.Need-mul-formed-2
+mul-formed-2 c = omega arith
+
+add-formed-2 : tie.Need-add-formed-2
+add-formed-2 c = omega arith
+
+formed-requires : tie.Need-formed-requires
+formed-requires c κs = omega arith
+
+call-holds-requires : tie.Need-call-holds-requires
+call-holds-requires c κs =
+    let f = c .before .formed .ensures .0 (c .if2 .taken) in
+    record { few = record { objects = c .before .before .before .if1 .left; places = c .before .before .before .before .before .pre }; small = c .before .before .column-size .ensures .1; whole = f .whole }
+
+returns-2 : tie.Need-returns-2
+returns-2 c = case-told _ _ _ _ (c .before .before .before .column-size .ensures .0) (c .before .before .before .before .if1 .left) (c .before .before .formed .ensures) (c .before .if2 .taken) (c .call-holds .ensures)
+
+returns-3 : tie.Need-returns-3
+returns-3 c = case-ill _ _ _ _ (c .before .before .column-size .ensures .0) (c .before .formed .ensures) (c .if2 .left)
+
+pub holds-spec : {M : Type 1} → statement M
+holds-spec =
+    tie.close
+    (tie.spec
+    returns
+    column-size-requires
+    mul-formed
+    add-formed
+    mul-formed-2
+    add-formed-2
+    formed-requires
+    call-holds-requires
+    returns-2
+    returns-3)

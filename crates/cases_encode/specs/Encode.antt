@@ -1,0 +1,55 @@
+-- When a stored case of encode holds: the definition of the call gives what the original answered, on the chart that the case says and slices that are lent full of marks.
+use mathlib.Core.Path.{_≡_}
+use mathlib.Core.List.{List}
+use Prim.Native.Nat.{ℕ, _+_, _*_, _≤_}
+use lib.ListN.{length, replicate}
+use Rattle.grouping_marks.specs.Over.{part}
+use Rattle.grouping_chart.specs.Chart.{Chart}
+use Rattle.grouping_encode.specs.Encode.{Memory, Outcome, encodeOutcome}
+use Rattle.grouping_encode.specs.declared.Encoding.the-variants.{Done}
+use Rattle.vectors.specs.Case.{pairAt, columnSize, column}
+use Rattle.vectors.specs.Held.{Held}
+use Rattle.vectors.specs.declared.case.Head.{Head}
+use Rattle.vectors.specs.Form.{Formed, Holds}
+use Rattle.vectors.specs.Lent.{numberMark, byteMark, floatMark, one, Cleared, Few}
+
+-- the kinds are stored behind a number; starts, deltas and ratios are not, since encode answers by the kinds alone
+unfoldable pub encodeChart : ℕ → List ℕ → Chart
+encodeChart n body = record { kinds = part 2 n body; starts = replicate n one; deltas = replicate n one; ratios = replicate n one }
+
+-- so many places to spare in each slice
+unfoldable pub encodeLent : ℕ → ℕ → Memory
+encodeLent n spare = record {
+  streak = replicate (n + spare) numberMark;
+  streakPlace = replicate (n + spare) numberMark;
+  pattern = replicate (n + spare) numberMark;
+  patternPlace = replicate (n + spare) numberMark;
+  hit = replicate (n + spare) numberMark;
+  interval = replicate (n + spare) byteMark;
+  work = replicate (8 * n + spare) numberMark;
+  scratch = replicate (n + spare) floatMark;
+}
+
+-- the number of hit patterns, five columns of numbers that have so many bytes each, a row of bytes, and cleared work slices
+pub record EncodeStored (size width n : ℕ) (body : List ℕ) (o : Outcome) : Type 0 where
+  pub answer : o .answer ≡ Done (pairAt body 0)
+  pub streak : Held (column body (2 + n) width n) numberMark (o .memory .streak)
+  pub streakPlace : Held (column body (2 + n + size) width n) numberMark (o .memory .streakPlace)
+  pub pattern : Held (column body (2 + n + 2 * size) width n) numberMark (o .memory .pattern)
+  pub patternPlace : Held (column body (2 + n + 2 * size + size) width n) numberMark (o .memory .patternPlace)
+  pub hit : Held (column body (2 + n + 4 * size) width n) numberMark (o .memory .hit)
+  pub interval : Held (part (2 + n + 5 * size) n body) byteMark (o .memory .interval)
+  pub cleared : Cleared n (o .memory .work) (o .memory .scratch)
+
+-- a body for the columns
+pub record EncodeRoom (size n : ℕ) (body : List ℕ) (spare : ℕ) : Type 0 where
+  pub few : Few n spare
+  pub small : size ≤ 2 * n
+  pub whole : length body ≡ 2 + 2 * n + 5 * size
+
+-- a case with this head and this body, in slices with so many places to spare
+unfoldable pub EncodeHolds : Head → List ℕ → ℕ → Type 0
+EncodeHolds h body spare =
+    let n : ℕ = h .objects in
+    let size : ℕ = columnSize n (h .width) in
+    Holds n (Formed 1 1 2 (2 + 2 * n + 5 * size) h (length body)) (EncodeStored size (h .width) n body (encodeOutcome (encodeChart n body) (encodeLent n spare)))

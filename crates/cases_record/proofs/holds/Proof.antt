@@ -1,0 +1,46 @@
+-- Too many objects, a wrong form of the chart or of the record, or what the call tells.
+use native.Mathlib.Omega.{arith}
+use Rattle.vectors.proofs.FormLaws.{too-many, ill-formed, well-formed}
+use Rattle.vectors.proofs.TellsLaws.{tells-both}
+use Rattle.cases_rhythm.proofs.RhythmLaws.{form-room}
+use Rattle.cases_record.specs.Record.{RecordHolds}
+use Rattle.cases_record.proofs.holds.Statement.{statement}
+use Rattle.cases_record.proofs.holds.Tie as tie
+
+returns : tie.Need-returns
+unfolding RecordHolds
+returns c = too-many (c .if1 .taken)
+
+rhythm-formed-requires : tie.Need-rhythm-formed-requires
+rhythm-formed-requires c κs = omega arith
+
+part-formed-requires : tie.Need-part-formed-requires
+part-formed-requires c κs = omega arith
+
+both-requires : tie.Need-both-requires
+both-requires c κs = omega arith
+
+call-holds-requires : tie.Need-call-holds-requires
+call-holds-requires c κs =
+    let f = tells-both _ _ (c .before .both .ensures) (c .before .before .before .rhythm-formed .ensures) (c .before .before .part-formed .ensures) .0 (c .if2 .taken) in
+    form-room _ _ _ (c .before .before .before .before .if1 .left) (c .before .before .before .before .before .before .before .pre) (f .0)
+
+returns-2 : tie.Need-returns-2
+unfolding RecordHolds
+returns-2 c = well-formed (c .before .before .before .before .before .if1 .left) (tells-both _ _ (c .before .before .both .ensures) (c .before .before .before .before .rhythm-formed .ensures) (c .before .before .before .part-formed .ensures)) (c .before .if2 .taken) (c .call-holds .ensures)
+
+returns-3 : tie.Need-returns-3
+unfolding RecordHolds
+returns-3 c = ill-formed (tells-both _ _ (c .before .both .ensures) (c .before .before .before .rhythm-formed .ensures) (c .before .before .part-formed .ensures)) (c .if2 .left)
+
+pub holds-spec : {M : Type 1} → statement M
+holds-spec =
+    tie.close
+    (tie.spec
+    returns
+    rhythm-formed-requires
+    part-formed-requires
+    both-requires
+    call-holds-requires
+    returns-2
+    returns-3)

@@ -1,0 +1,55 @@
+-- When a stored record of a rhythm case's chart holds: the definition of the call gives what the original answered, on that chart and slices that are lent full of marks.
+use mathlib.Core.Path.{_≡_}
+use mathlib.Core.List.{List}
+use Prim.Native.Nat.{ℕ, _+_, _*_}
+use lib.ListN.{length, replicate}
+use lib.Ieee.{binary64, toBits, ofBits}
+use Rattle.grouping_same_rhythm.specs.declared.own.Own.{Own}
+use Rattle.grouping_same_rhythm.specs.declared.own.Own.the-variants.{Absent, Millis}
+use Rattle.evaluator_record.specs.Calls.{Memory, Outcome, recordOutcome}
+use Rattle.evaluator_record.specs.declared.GroupRecord.{GroupRecord}
+use Rattle.evaluator_record.specs.declared.Recording.{Recording}
+use Rattle.evaluator_record.specs.declared.Recording.the-variants.{Done, Refused}
+use Rattle.vectors.specs.Case.{pairAt, wordAt}
+use Rattle.vectors.specs.declared.case.Head.{Head}
+use Rattle.vectors.specs.Form.{PartFormed, Holds}
+use Rattle.vectors.specs.Lent.{numberMark, floatMark, Cleared}
+use Rattle.cases_rhythm.specs.Rhythm.{rhythmChart, RhythmForm}
+
+-- so many places to spare in each slice
+unfoldable pub recordLent : ℕ → ℕ → Memory
+recordLent n spare = record { work = replicate (8 * n + spare) numberMark; scratch = replicate (n + spare) floatMark }
+
+-- the group's own interval, by its bits, where there is one
+unfoldable pub OwnIs : List ℕ → Own → Type 0
+OwnIs part Absent = pairAt part 8 ≡ 0
+OwnIs part (Millis x) = (pairAt part 8 ≡ 1) × (toBits binary64 x ≡ wordAt part 18)
+
+-- every field, floats by their bits
+pub record FieldsAre (part : List ℕ) (r : GroupRecord) : Type 0 where
+  pub first : r .first .0 ≡ pairAt part 2
+  pub notes : r .notes ≡ pairAt part 4
+  pub pattern : r .pattern ≡ pairAt part 6
+  pub own : OwnIs part (r .own)
+  pub ratio : toBits binary64 (r .ratio) ≡ wordAt part 26
+  pub interval : toBits binary64 (r .interval) ≡ wordAt part 34
+  pub penalty : toBits binary64 (r .penalty) ≡ wordAt part 42
+  pub patternratio : toBits binary64 (r .patternratio) ≡ wordAt part 50
+
+unfoldable pub RecordIs : List ℕ → Recording → Type 0
+RecordIs part (Done r) = FieldsAre part r
+RecordIs part (Refused number place) = ⊥
+
+pub record RecordStored (n : ℕ) (part : List ℕ) (o : Outcome) : Type 0 where
+  pub answer : RecordIs part (o .answer)
+  pub cleared : Cleared n (o .memory .work) (o .memory .scratch)
+
+-- what the definition gives for the group and the window that are stored
+unfoldable pub recordOf : ℕ → List ℕ → List ℕ → ℕ → Outcome
+recordOf n body part spare = recordOutcome (rhythmChart n body) (pairAt part 0) (ofBits binary64 (wordAt part 10)) (recordLent n spare)
+
+-- a record with this head and these bytes, of the chart of a rhythm case
+unfoldable pub RecordHolds : Head → List ℕ → Head → List ℕ → ℕ → Type 0
+RecordHolds chart body h part spare =
+    let n : ℕ = chart .objects in
+    Holds n (RhythmForm chart body × PartFormed 5 2 58 n h (length part)) (RecordStored n part (recordOf n body part spare))

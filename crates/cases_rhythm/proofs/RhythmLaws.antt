@@ -1,0 +1,80 @@
+-- What rhythm hands back on the lent slices is what its definition gives on slices full of marks; and each of its parts is held to the case.
+use mathlib.Core.Path.{_≡_, refl, sym, ap, _∙_, subst}
+use mathlib.Core.List.{List}
+use mathlib.Core.Bool.{Bool, true, false, _&&_}
+use Prim.Native.Nat.{ℕ, _+_, _-_, _*_, _≤_}
+use native.Mathlib.Omega.{arith}
+use lib.Dec.{eqb}
+use lib.ListN.{length, take, drop, replicate}
+use lib.Ieee.{Float, binary64, ofBits}
+use Rattle.grouping_marks.proofs.OverLaws.{lent-part}
+use Rattle.grouping_chart.specs.Chart.{Chart}
+use Rattle.grouping_chart.specs.declared.object.ObjectIndex.{ObjectIndex}
+use Rattle.grouping_rhythm.specs.Rhythm.{Memory, Outcome, rhythmOutcome}
+use Rattle.grouping_rhythm.specs.declared.Grouping.{Grouping}
+use Rattle.grouping_rhythm.specs.declared.Grouping.the-variants.{Done, Refused}
+use Rattle.vectors.specs.Case.{pairAt}
+use Rattle.vectors.specs.Held.{Tells}
+use Rattle.vectors.specs.Table.{entries}
+use Rattle.vectors.specs.declared.case.Head.{Head}
+use Rattle.vectors.proofs.TableLaws.{entries-front}
+use Rattle.vectors.proofs.TellsLaws.{denied, tells-as, tells-both, tells-eqb}
+use Rattle.vectors.specs.Lent.{numberMark, floatMark, one, Columns, Cleared, Few}
+use Rattle.cases_rhythm.specs.Rhythm.{rhythmChart, rhythmLent, TimesRead, RhythmRoom, RhythmStored, RhythmForm}
+use Rattle.vectors.proofs.LentLaws.{ones-lent, numbers-lent, work-lent, floats-lent}
+
+-- ---- the answer of rhythm
+
+module _ (body : List ℕ) (answer : Grouping) where
+  pub counts-told : (groups patterns : ℕ) {a b : ℕ} {r : Bool} → answer ≡ Done groups patterns → a ≡ pairAt body 0 → b ≡ pairAt body 2 → r ≡ (eqb groups a && eqb patterns b)
+      → Tells r (answer ≡ Done (pairAt body 0) (pairAt body 2))
+  counts-told groups patterns {a} {b} e p q c =
+      tells-as (λ h. e ∙ (λ i. Done ((h .0 ∙ p) i) ((h .1 ∙ q) i))) (λ h. (cc, cc)) (tells-both _ _ c (tells-eqb groups a) (tells-eqb patterns b))
+
+  pub counts-refused : (number : ℕ) (place : ObjectIndex) → answer ≡ Refused number place → Tells false (answer ≡ Done (pairAt body 0) (pairAt body 2))
+  counts-refused number place e = denied (λ h. let z : _≡_ {A = ℕ} 0 1 = cc in omega arith)
+
+-- ---- the chart and the slices, as fronts of what the code makes
+
+abbrev pub chart : ℕ → List ℕ → List Float → List Float → Chart
+chart n body starts deltas =
+    record { kinds = take (4 + n - 4) (drop 4 body); starts = take n starts; deltas = take n deltas; ratios = take n (replicate 16384 one) }
+
+abbrev pub zeros : List Float
+zeros = replicate 16384 (ofBits binary64 0)
+
+module _ (n spare : ℕ) (body : List ℕ) (few : Few n spare) {starts deltas : List Float} (x : TimesRead n body zeros starts zeros deltas) where
+  pub chart-is : chart n body starts deltas ≡ rhythmChart n body
+  unfolding rhythmChart
+  chart-is =
+      let s : take n starts ≡ entries body (4 + n) 0 0 n = ap (take n) (x .starts) ∙ entries-front body (4 + n) 0 0 n zeros in
+      let d : take n deltas ≡ entries body (4 + 9 * n) 0 0 n = ap (take n) (x .deltas) ∙ entries-front body (4 + 9 * n) 0 0 n zeros in
+      rw (lent-part 4 n body, ones-lent few, s, d)
+
+  abbrev memory : Memory
+  memory = record {
+    group = take (n + spare) (replicate 16391 numberMark);
+    pattern = take (n + spare) (replicate 16391 numberMark);
+    work = take (8 * n + spare) (replicate 131079 numberMark);
+    scratch = take (n + spare) (replicate 16391 floatMark);
+  }
+
+  memory-is : memory ≡ rhythmLent n spare
+  unfolding rhythmLent
+  memory-is = rw (numbers-lent few, work-lent few, floats-lent few)
+
+  pub call-told : {o : Outcome} {r : Bool} → o ≡ rhythmOutcome (chart n body starts deltas) memory
+      → Tells r (
+      (o .answer ≡ Done (pairAt body 0) (pairAt body 2))
+      × (Columns body (4 + 17 * n) (2 * n) 2 n (o .memory .group) (o .memory .pattern) × Cleared n (o .memory .work) (o .memory .scratch))
+      )
+      → Tells r (RhythmStored n body (rhythmOutcome (rhythmChart n body) (rhythmLent n spare)))
+  call-told {o} {r} e t =
+      subst (λ (y : Outcome). Tells r (RhythmStored n body y)) (e ∙ (λ i. rhythmOutcome (chart-is i) (memory-is i)))
+      (tells-as (λ p. record { answer = p .0; numbers = p .1 .0; cleared = p .1 .1 }) (λ q. (q .answer, (q .numbers, q .cleared))) t)
+
+-- ---- the case
+
+pub form-room : (h : Head) (body : List ℕ) (spare : ℕ) → h .objects ≤ 16384 → spare ≤ 7 → RhythmForm h body → RhythmRoom (h .objects) body spare
+unfolding RhythmForm
+form-room h body spare l k f = record { few = record { objects = l; places = k }; whole = omega (arith, f .whole) }

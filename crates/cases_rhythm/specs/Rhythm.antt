@@ -1,0 +1,62 @@
+-- When a stored case of rhythm holds: the definition of the call gives what the original answered, on the chart that the case says and slices that are lent full of marks.
+use mathlib.Core.Path.{_≡_}
+use mathlib.Core.List.{List}
+use Prim.Native.Nat.{ℕ, _+_, _*_, _≤_}
+use lib.ListN.{length, replicate}
+use lib.Ieee.{Float}
+use Rattle.grouping_marks.specs.Over.{over, part}
+use Rattle.grouping_chart.specs.Chart.{Chart}
+use Rattle.grouping_rhythm.specs.Rhythm.{Memory, Outcome, rhythmOutcome}
+use Rattle.grouping_rhythm.specs.declared.Grouping.the-variants.{Done}
+use Rattle.vectors.specs.Case.{pairAt}
+use Rattle.vectors.specs.Table.{entries}
+use Rattle.vectors.specs.declared.case.Head.{Head}
+use Rattle.vectors.specs.Form.{Formed, Holds}
+use Rattle.vectors.specs.Lent.{numberMark, floatMark, one, Columns, Cleared, Few}
+
+-- ---- what is stored
+
+-- behind two numbers and the kinds stand the starts and the deltas, in turn; ratios are not stored, since neither call looks at them
+unfoldable pub rhythmChart : ℕ → List ℕ → Chart
+rhythmChart n body = record { kinds = part 4 n body; starts = entries body (4 + n) 0 0 n; deltas = entries body (4 + 9 * n) 0 0 n; ratios = replicate n one }
+
+-- both columns, read over what was there
+pub record TimesRead (n : ℕ) (body : List ℕ) (start₀ start delta₀ delta : List Float) : Type 0 where
+  pub starts : start ≡ over (entries body (4 + n) 0 0 n) start₀
+  pub deltas : delta ≡ over (entries body (4 + 9 * n) 0 0 n) delta₀
+
+-- a body for kinds, starts and deltas
+pub record TimesRoom (n : ℕ) (start delta : List Float) : Type 0 where
+  pub few : n ≤ 16384
+  pub start-room : n ≤ length start
+  pub delta-room : n ≤ length delta
+
+pub record RhythmRoom (n : ℕ) (body : List ℕ) (spare : ℕ) : Type 0 where
+  pub few : Few n spare
+  pub whole : 4 + n ≤ length body
+
+-- ---- rhythm
+
+-- so many places to spare in each slice
+unfoldable pub rhythmLent : ℕ → ℕ → Memory
+rhythmLent n spare = record {
+  group = replicate (n + spare) numberMark;
+  pattern = replicate (n + spare) numberMark;
+  work = replicate (8 * n + spare) numberMark;
+  scratch = replicate (n + spare) floatMark;
+}
+
+-- both counts, the numbers of each object, which have two bytes, and cleared work slices
+pub record RhythmStored (n : ℕ) (body : List ℕ) (o : Outcome) : Type 0 where
+  pub answer : o .answer ≡ Done (pairAt body 0) (pairAt body 2)
+  pub numbers : Columns body (4 + 17 * n) (2 * n) 2 n (o .memory .group) (o .memory .pattern)
+  pub cleared : Cleared n (o .memory .work) (o .memory .scratch)
+
+-- the bytes of a rhythm case
+unfoldable pub RhythmForm : Head → List ℕ → Type 0
+RhythmForm h body = Formed 4 2 2 (4 + 21 * h .objects) h (length body)
+
+unfoldable pub RhythmHolds : Head → List ℕ → ℕ → Type 0
+RhythmHolds h body spare =
+    let n : ℕ = h .objects in
+    Holds n (RhythmForm h body) (RhythmStored n body (rhythmOutcome (rhythmChart n body) (rhythmLent n spare)))
