@@ -124,3 +124,11 @@ module _ (h : Head) (body : List ℕ) (spare size : ℕ) (e : size ≡ columnSiz
         → Tells r (StretchHolds h body k part spare)
     unfolding StretchHolds
     stretch-told {r} s q l f u = well-formed l forms f (subst (λ (x : Stretch × ℕ). Tells r (stored (asked.Stretched (x .0)) (x .1))) (λ i. (q i, e i)) u)
+
+pub colour-call : (h : Head) (body : List ℕ) (spare : ℕ) → ColourHolds h body spare → h .call ≡ 2
+unfolding ColourHolds ColourForm
+colour-call h body spare p = p .form .asked
+
+pub stretch-call : (chart : Head) (body : List ℕ) (h : Head) (part : List ℕ) (spare : ℕ) → StretchHolds chart body h part spare → h .call ≡ 3
+unfolding StretchHolds
+stretch-call chart body h part spare p = p .form .1 .form .asked

@@ -109,3 +109,7 @@ module _ (h : Head) (body : List ℕ) (spare size : ℕ) (e : size ≡ columnSiz
   case-told {b} {r} l t f u =
       well-formed l (subst (λ (z : ℕ). Tells b (form z)) e t) f
       (subst (λ (z : ℕ). Tells r (EncodeStored z (h .width) (h .objects) body (encodeOutcome (encodeChart (h .objects) body) (encodeLent (h .objects) spare)))) e u)
+
+pub encode-call : (h : Head) (body : List ℕ) (spare : ℕ) → EncodeHolds h body spare → h .call ≡ 1
+unfolding EncodeHolds
+encode-call h body spare p = p .form .asked

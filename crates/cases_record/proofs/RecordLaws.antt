@@ -15,12 +15,13 @@ use Rattle.evaluator_record.specs.declared.Recording.{Recording}
 use Rattle.evaluator_record.specs.declared.Recording.the-variants.{Done, Refused}
 use Rattle.vectors.specs.Case.{pairAt, wordAt}
 use Rattle.vectors.specs.Held.{Tells}
+use Rattle.vectors.specs.declared.case.Head.{Head}
 use Rattle.vectors.specs.Lent.{numberMark, floatMark, Cleared, Few}
 use Rattle.vectors.proofs.LentLaws.{work-lent, floats-lent}
 use Rattle.vectors.proofs.TellsLaws.{denied, tells-as, tells-both, tells-eqb-as}
 use Rattle.cases_rhythm.specs.Rhythm.{TimesRead}
 use Rattle.cases_rhythm.proofs.RhythmLaws.{chart, zeros, chart-is}
-use Rattle.cases_record.specs.Record.{recordLent, recordOf, OwnIs, FieldsAre, RecordIs, RecordStored}
+use Rattle.cases_record.specs.Record.{recordLent, recordOf, OwnIs, FieldsAre, RecordIs, RecordStored, RecordHolds}
 
 -- ---- the fields
 
@@ -80,3 +81,7 @@ module _ (n spare : ℕ) (body : List ℕ) (few : Few n spare) {starts deltas : 
   call-told part {a} {b} {r} e p w t u q =
       subst (λ (y : Outcome). Tells r (RecordStored n part y)) (e ∙ (λ i. recordOutcome (chart-is n spare body few x i) (p i) (w i) (memory-is i)))
       (tells-as (λ h. record { answer = h .0; cleared = h .1 }) (λ h. (h .answer, h .cleared)) (tells-both a b q t u))
+
+pub record-call : (chart : Head) (body : List ℕ) (h : Head) (part : List ℕ) (spare : ℕ) → RecordHolds chart body h part spare → h .call ≡ 5
+unfolding RecordHolds
+record-call chart body h part spare p = p .form .1 .form .asked

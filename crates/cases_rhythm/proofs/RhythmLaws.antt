@@ -20,7 +20,7 @@ use Rattle.vectors.specs.declared.case.Head.{Head}
 use Rattle.vectors.proofs.TableLaws.{entries-front}
 use Rattle.vectors.proofs.TellsLaws.{denied, tells-as, tells-both, tells-eqb}
 use Rattle.vectors.specs.Lent.{numberMark, floatMark, one, Columns, Cleared, Few}
-use Rattle.cases_rhythm.specs.Rhythm.{rhythmChart, rhythmLent, TimesRead, RhythmRoom, RhythmStored, RhythmForm}
+use Rattle.cases_rhythm.specs.Rhythm.{rhythmChart, rhythmLent, TimesRead, RhythmRoom, RhythmStored, RhythmForm, RhythmHolds}
 use Rattle.vectors.proofs.LentLaws.{ones-lent, numbers-lent, work-lent, floats-lent}
 
 -- ---- the answer of rhythm
@@ -78,3 +78,7 @@ module _ (n spare : ℕ) (body : List ℕ) (few : Few n spare) {starts deltas : 
 pub form-room : (h : Head) (body : List ℕ) (spare : ℕ) → h .objects ≤ 16384 → spare ≤ 7 → RhythmForm h body → RhythmRoom (h .objects) body spare
 unfolding RhythmForm
 form-room h body spare l k f = record { few = record { objects = l; places = k }; whole = omega (arith, f .whole) }
+
+pub rhythm-call : (h : Head) (body : List ℕ) (spare : ℕ) → RhythmHolds h body spare → h .call ≡ 4
+unfolding RhythmHolds RhythmForm
+rhythm-call h body spare p = p .form .asked

@@ -1,0 +1,3 @@
+pub mod CasesLaws
+pub mod CountLaws
+pub mod TallyLaws

@@ -1,0 +1,28 @@
+-- Call by call.
+use native.Mathlib.Omega.{arith}
+use Rattle.replay_cases.proofs.CasesLaws.{of-encode, of-colour, of-rhythm}
+use Rattle.replay_cases.proofs.chart_holds.Statement.{statement}
+use Rattle.replay_cases.proofs.chart_holds.Tie as tie
+
+holds-requires : tie.Need-holds-requires
+holds-requires c κs = omega (arith, c .before .before .before .pre)
+
+returns : tie.Need-returns
+returns c = of-encode _ _ _ (c .before .if1 .taken) (c .holds .ensures)
+
+holds-requires-2 : tie.Need-holds-requires-2
+holds-requires-2 c κs = omega (arith, c .before .before .before .before .before .pre)
+
+returns-2 : tie.Need-returns-2
+returns-2 c = of-colour _ _ _ (c .before .if2 .taken) (c .holds2 .ensures)
+
+holds-requires-3 : tie.Need-holds-requires-3
+holds-requires-3 c κs = omega (arith, c .before .before .before .before .before .pre)
+
+returns-3 : tie.Need-returns-3
+returns-3 c = of-rhythm _ _ _ (c .before .before .before .if1 .left) (c .before .if2 .left) (c .holds3 .ensures)
+
+pub chart-holds-spec : {M : Type 1} → statement M
+chart-holds-spec =
+    tie.close
+    (tie.spec holds-requires returns holds-requires-2 returns-2 holds-requires-3 returns-3)
