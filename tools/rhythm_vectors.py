@@ -1,5 +1,5 @@
 #!/usr/bin/env python3
-"""Writes the cases that crates/replay_rhythm replays: charts, and what the original answers on them.
+"""Writes crates/replay/data/rhythm, whose cases crates/replay replays: charts, and what the original answers on them.
 
 usage: rhythm_vectors.py ORACLE OUT
 (ORACLE as in oracle.py)

@@ -1,5 +1,5 @@
 #!/usr/bin/env python3
-"""Writes the cases that crates/replay_encode and crates/replay_colour replay: charts, and what the original answers on them.
+"""Writes crates/replay/data/encode and crates/replay/data/colour, whose cases crates/replay replays: charts, and what the original answers on them.
 
 usage: vectors.py ORACLE OUT           the cases of encode
        vectors.py ORACLE OUT colour    those of colour and stretch

@@ -7,10 +7,10 @@ use Prim.Native.Nat.{ℕ, _+_, _-_, _*_, _≤_}
 use lib.Dec.{ltb}
 use lib.IntN.{ℤ, pos, negℤ}
 use lib.ListN.{length, replicate}
-use lib.Ieee.{Float, binary64, toBits}
+use lib.Ieee.{binary64, toBits}
 use Rattle.grouping_marks.specs.Over.{part}
 use Rattle.grouping_chart.specs.Chart.{Chart}
-use Rattle.evaluator_calls.specs.Calls.{Memory, Outcome, colourOutcome, stretchOutcome}
+use Rattle.evaluator_calls.specs.Calls.{Memory, colourOutcome, stretchOutcome}
 use Rattle.evaluator_calls.specs.declared.Colouring.the-variants as colouring
 use Rattle.evaluator_calls.specs.declared.Stretching.{Stretching}
 use Rattle.evaluator_calls.specs.declared.Stretching.the-variants as stretching

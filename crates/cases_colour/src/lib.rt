@@ -1,7 +1,6 @@
 // A stored case of colour, and of a stretch of its chart.
 ghost use mathlib.Core.Path.{_≡_};
 ghost use Prim.Native.Nat.{_+_, _*_, _≤_};
-ghost use lib.ListN.{length};
 ghost use Rattle.evaluator_calls.specs.declared.Colouring.the-variants as colouring;
 ghost use Rattle.vectors.specs.Held.{Tells};
 ghost use Rattle.cases_colour.specs.Colour.{colourChart, colourLent, signedOf, stretchOf, MeanIs, Answered, ValuesHeld, CallStored, ColourRoom, ColourForm, ColourHolds, StretchHolds};

@@ -21,7 +21,7 @@ use Rattle.vectors.proofs.LentLaws.{work-lent, floats-lent}
 use Rattle.vectors.proofs.TellsLaws.{denied, tells-as, tells-both, tells-eqb-as}
 use Rattle.cases_rhythm.specs.Rhythm.{TimesRead}
 use Rattle.cases_rhythm.proofs.RhythmLaws.{chart, zeros, chart-is}
-use Rattle.cases_record.specs.Record.{recordLent, recordOf, OwnIs, FieldsAre, RecordIs, RecordStored, RecordHolds}
+use Rattle.cases_record.specs.Record.{recordLent, recordOf, OwnIs, RecordIs, RecordStored, RecordHolds}
 
 -- ---- the fields
 

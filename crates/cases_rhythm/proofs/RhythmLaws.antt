@@ -1,11 +1,11 @@
 -- What rhythm hands back on the lent slices is what its definition gives on slices full of marks; and each of its parts is held to the case.
-use mathlib.Core.Path.{_≡_, refl, sym, ap, _∙_, subst}
+use mathlib.Core.Path.{_≡_, ap, _∙_, subst}
 use mathlib.Core.List.{List}
-use mathlib.Core.Bool.{Bool, true, false, _&&_}
+use mathlib.Core.Bool.{Bool, false, _&&_}
 use Prim.Native.Nat.{ℕ, _+_, _-_, _*_, _≤_}
 use native.Mathlib.Omega.{arith}
 use lib.Dec.{eqb}
-use lib.ListN.{length, take, drop, replicate}
+use lib.ListN.{take, drop, replicate}
 use lib.Ieee.{Float, binary64, ofBits}
 use Rattle.grouping_marks.proofs.OverLaws.{lent-part}
 use Rattle.grouping_chart.specs.Chart.{Chart}

@@ -17,7 +17,6 @@ use Rattle.cases_rhythm.proofs.RhythmLaws.{rhythm-call}
 use Rattle.cases_record.specs.Record.{RecordHolds}
 use Rattle.cases_record.proofs.RecordLaws.{record-call}
 use Rattle.replay_cases.specs.Cases.{followsIn, ChartHolds, encode, colour, rhythm, PartHolds, stretch, group}
-use Rattle.replay_cases.specs.declared.Next.{Next}
 use Rattle.replay_cases.specs.declared.Next.the-variants.{Body, Part, Nothing}
 
 module _ (h : Head) (body : List ℕ) (spare : ℕ) {r : Bool} where

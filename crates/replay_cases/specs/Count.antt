@@ -2,7 +2,7 @@
 use mathlib.Core.Path.{_≡_}
 use mathlib.Core.Bool.{false}
 use mathlib.Core.List.{[]}
-use Prim.Native.Nat.{ℕ, _+_, _-_, _%_, _^_, _≤_, _<_}
+use Prim.Native.Nat.{ℕ, _+_, _-_, _%_, _^_, _<_}
 use Rattle.vectors.specs.Case.{headOf}
 use Rattle.replay_cases.specs.Tally.{noCases, oneMore}
 use Rattle.replay_cases.specs.declared.tally.Tally.{Tally}

@@ -1,5 +1,5 @@
 -- When a case may be said to hold or not: it has too many objects, its form is wrong, or its answers are compared.
-use mathlib.Core.Path.{_≡_, _∙_, sym}
+use mathlib.Core.Path.{_≡_}
 use mathlib.Core.Bool.{Bool, true, false}
 use Prim.Native.Nat.{ℕ, _≤_, _<_}
 use native.Mathlib.Omega.{arith}

@@ -1,5 +1,4 @@
 -- Case by case of the call that is asked.
-use native.Mathlib.Omega.{arith}
 use borrow.Author.Needs.{needs}
 use Rattle.cases_colour.proofs.ColourLaws.{colour-answered, stretch-answered}
 use Rattle.cases_colour.proofs.answer_holds.Statement.{statement}

@@ -7,73 +7,73 @@ use Rattle.cases_colour.proofs.call_holds.Statement.{statement}
 use Rattle.cases_colour.proofs.call_holds.Tie as tie
 
 add-room : tie.Need-add-room
-add-room c = omega (arith, c .before .pre)
+add-room c = omega arith
 
 array-share-prefix-one : tie.Need-array-share-prefix-one
-array-share-prefix-one c = omega (arith, c .before .pre)
+array-share-prefix-one c = omega arith
 
 slice-aggregate-one : tie.Need-slice-aggregate-one
 slice-aggregate-one c = sym (length-take-le _ _ (omega (arith, c .before .before .pre)))
 
 add-read : tie.Need-add-read
-add-read c = omega (arith, c .before .before .pre)
+add-read c = omega arith
 
 add-read-2 : tie.Need-add-read-2
-add-read-2 c = omega (arith, c .before .before .pre)
+add-read-2 c = omega arith
 
 mul-read : tie.Need-mul-read
-mul-read c = omega (arith, c .before .before .pre)
+mul-read c = omega arith
 
 add-read-3 : tie.Need-add-read-3
-add-read-3 c = omega (arith, c .before .before .pre)
+add-read-3 c = omega arith
 
 add-read-4 : tie.Need-add-read-4
-add-read-4 c = omega (arith, c .before .before .pre)
+add-read-4 c = omega arith
 
 slice-aggregate-read : tie.Need-slice-aggregate-read
-slice-aggregate-read c = omega (arith, c .before .before .before .pre)
+slice-aggregate-read c = omega arith
 
 read-requires : tie.Need-read-requires
 read-requires c κs = omega (arith, c .before .before .before .pre)
 
 array-borrow-prefix-value : tie.Need-array-borrow-prefix-value
-array-borrow-prefix-value c = omega (arith, c .before .before .before .before .before .pre)
+array-borrow-prefix-value c = omega arith
 
 slice-aggregate-value : tie.Need-slice-aggregate-value
 slice-aggregate-value c = sym (length-take-le _ _ (omega (arith, c .before .before .before .before .before .before .pre)))
 
 mul-work : tie.Need-mul-work
-mul-work c = omega (arith, c .before .before .before .before .before .before .pre)
+mul-work c = omega arith
 
 add-work : tie.Need-add-work
-add-work c = omega (arith, c .before .before .before .before .before .before .pre)
+add-work c = omega arith
 
 array-borrow-prefix-work : tie.Need-array-borrow-prefix-work
-array-borrow-prefix-work c = omega (arith, c .before .before .before .before .before .before .pre)
+array-borrow-prefix-work c = omega arith
 
 slice-aggregate-work : tie.Need-slice-aggregate-work
 slice-aggregate-work c = sym (length-take-le _ _ (omega (arith, c .before .before .before .before .before .before .before .pre)))
 
 array-borrow-prefix-scratch : tie.Need-array-borrow-prefix-scratch
-array-borrow-prefix-scratch c = omega (arith, c .before .before .before .before .before .before .before .pre)
+array-borrow-prefix-scratch c = omega arith
 
 slice-aggregate-scratch : tie.Need-slice-aggregate-scratch
 slice-aggregate-scratch c = sym (length-take-le _ _ (omega (arith, c .before .before .before .before .before .before .before .before .pre)))
 
 add-answer-holds : tie.Need-add-answer-holds
-add-answer-holds c = omega (arith, c .before .before .before .before .before .before .before .before .pre)
+add-answer-holds c = omega arith
 
 sub-answer-holds : tie.Need-sub-answer-holds
-sub-answer-holds c = omega (arith, c .before .before .before .before .before .before .before .before .pre)
+sub-answer-holds c = omega arith
 
 part-answer-holds-start : tie.Need-part-answer-holds-start
-part-answer-holds-start c = omega (arith, c .before .before .before .before .before .before .before .before .pre)
+part-answer-holds-start c = omega arith
 
 part-answer-holds-end : tie.Need-part-answer-holds-end
-part-answer-holds-end c = omega (arith, c .before .before .before .before .before .before .before .before .pre)
+part-answer-holds-end c = omega arith
 
 array-share-prefix-ratios : tie.Need-array-share-prefix-ratios
-array-share-prefix-ratios c = omega (arith, c .before .before .before .before .before .before .before .before .before .pre)
+array-share-prefix-ratios c = omega arith
 
 slice-aggregate-answer-holds : tie.Need-slice-aggregate-answer-holds
 slice-aggregate-answer-holds c = sym (length-take-le _ _ (omega (arith, c .before .before .before .before .before .before .before .before .before .before .pre)))

@@ -11,79 +11,79 @@ use Rattle.cases_encode.proofs.call_holds.Statement.{statement}
 use Rattle.cases_encode.proofs.call_holds.Tie as tie
 
 add-room : tie.Need-add-room
-add-room c = omega (arith, c .before .pre)
+add-room c = omega arith
 
 array-share-prefix-one : tie.Need-array-share-prefix-one
-array-share-prefix-one c = omega (arith, c .before .pre)
+array-share-prefix-one c = omega arith
 
 slice-aggregate-one : tie.Need-slice-aggregate-one
 slice-aggregate-one c = sym (length-take-le _ _ (omega (arith, c .before .before .pre)))
 
 array-borrow-prefix-streak : tie.Need-array-borrow-prefix-streak
-array-borrow-prefix-streak c = omega (arith, c .before .before .pre)
+array-borrow-prefix-streak c = omega arith
 
 slice-aggregate-streak : tie.Need-slice-aggregate-streak
 slice-aggregate-streak c = sym (length-take-le _ _ (omega (arith, c .before .before .before .pre)))
 
 array-borrow-prefix-inner : tie.Need-array-borrow-prefix-inner
-array-borrow-prefix-inner c = omega (arith, c .before .before .before .pre)
+array-borrow-prefix-inner c = omega arith
 
 slice-aggregate-inner : tie.Need-slice-aggregate-inner
 slice-aggregate-inner c = sym (length-take-le _ _ (omega (arith, c .before .before .before .before .pre)))
 
 array-borrow-prefix-pattern : tie.Need-array-borrow-prefix-pattern
-array-borrow-prefix-pattern c = omega (arith, c .before .before .before .before .pre)
+array-borrow-prefix-pattern c = omega arith
 
 slice-aggregate-pattern : tie.Need-slice-aggregate-pattern
 slice-aggregate-pattern c = sym (length-take-le _ _ (omega (arith, c .before .before .before .before .before .pre)))
 
 array-borrow-prefix-outer : tie.Need-array-borrow-prefix-outer
-array-borrow-prefix-outer c = omega (arith, c .before .before .before .before .before .pre)
+array-borrow-prefix-outer c = omega arith
 
 slice-aggregate-outer : tie.Need-slice-aggregate-outer
 slice-aggregate-outer c = sym (length-take-le _ _ (omega (arith, c .before .before .before .before .before .before .pre)))
 
 array-borrow-prefix-hit : tie.Need-array-borrow-prefix-hit
-array-borrow-prefix-hit c = omega (arith, c .before .before .before .before .before .before .pre)
+array-borrow-prefix-hit c = omega arith
 
 slice-aggregate-hit : tie.Need-slice-aggregate-hit
 slice-aggregate-hit c = sym (length-take-le _ _ (omega (arith, c .before .before .before .before .before .before .before .pre)))
 
 array-borrow-prefix-interval : tie.Need-array-borrow-prefix-interval
-array-borrow-prefix-interval c = omega (arith, c .before .before .before .before .before .before .before .pre)
+array-borrow-prefix-interval c = omega arith
 
 slice-aggregate-interval : tie.Need-slice-aggregate-interval
 slice-aggregate-interval c = sym (length-take-le _ _ (omega (arith, c .before .before .before .before .before .before .before .before .pre)))
 
 mul-work : tie.Need-mul-work
-mul-work c = omega (arith, c .before .before .before .before .before .before .before .before .pre)
+mul-work c = omega arith
 
 add-work : tie.Need-add-work
-add-work c = omega (arith, c .before .before .before .before .before .before .before .before .pre)
+add-work c = omega arith
 
 array-borrow-prefix-work : tie.Need-array-borrow-prefix-work
-array-borrow-prefix-work c = omega (arith, c .before .before .before .before .before .before .before .before .pre)
+array-borrow-prefix-work c = omega arith
 
 slice-aggregate-work : tie.Need-slice-aggregate-work
 slice-aggregate-work c = sym (length-take-le _ _ (omega (arith, c .before .before .before .before .before .before .before .before .before .pre)))
 
 array-borrow-prefix-scratch : tie.Need-array-borrow-prefix-scratch
-array-borrow-prefix-scratch c = omega (arith, c .before .before .before .before .before .before .before .before .before .pre)
+array-borrow-prefix-scratch c = omega arith
 
 slice-aggregate-scratch : tie.Need-slice-aggregate-scratch
 slice-aggregate-scratch c = sym (length-take-le _ _ (omega (arith, c .before .before .before .before .before .before .before .before .before .before .pre)))
 
 add-encode : tie.Need-add-encode
-add-encode c = omega (arith, c .before .before .before .before .before .before .before .before .before .before .pre)
+add-encode c = omega arith
 
 sub-encode : tie.Need-sub-encode
-sub-encode c = omega (arith, c .before .before .before .before .before .before .before .before .before .before .pre)
+sub-encode c = omega arith
 
 part-encode-start : tie.Need-part-encode-start
-part-encode-start c = omega (arith, c .before .before .before .before .before .before .before .before .before .before .pre)
+part-encode-start c = omega arith
 
 part-encode-end : tie.Need-part-encode-end
-part-encode-end c = omega (arith, c .before .before .before .before .before .before .before .before .before .before .pre)
+part-encode-end c = omega arith
 
 encode-requires : tie.Need-encode-requires
 encode-requires c κs = tt

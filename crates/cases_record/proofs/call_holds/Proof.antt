@@ -8,61 +8,61 @@ use Rattle.cases_record.proofs.call_holds.Statement.{statement}
 use Rattle.cases_record.proofs.call_holds.Tie as tie
 
 array-share-prefix-one : tie.Need-array-share-prefix-one
-array-share-prefix-one c = omega (arith, c .before .before .pre)
+array-share-prefix-one c = omega arith
 
 slice-aggregate-one : tie.Need-slice-aggregate-one
 slice-aggregate-one c = sym (length-take-le _ _ (omega (arith, c .before .before .before .pre)))
 
 slice-aggregate-read-times : tie.Need-slice-aggregate-read-times
-slice-aggregate-read-times c = omega (arith, c .before .before .before .before .pre)
+slice-aggregate-read-times c = omega arith
 
 slice-aggregate-read-times-2 : tie.Need-slice-aggregate-read-times-2
-slice-aggregate-read-times-2 c = omega (arith, c .before .before .before .before .before .pre)
+slice-aggregate-read-times-2 c = omega arith
 
 read-times-requires : tie.Need-read-times-requires
 read-times-requires c κs = omega (arith, c .before .before .before .before .before .pre)
 
 mul-work : tie.Need-mul-work
-mul-work c = omega (arith, c .before .before .before .before .before .before .before .before .pre)
+mul-work c = omega arith
 
 add-work : tie.Need-add-work
-add-work c = omega (arith, c .before .before .before .before .before .before .before .before .pre)
+add-work c = omega arith
 
 array-borrow-prefix-work : tie.Need-array-borrow-prefix-work
-array-borrow-prefix-work c = omega (arith, c .before .before .before .before .before .before .before .before .pre)
+array-borrow-prefix-work c = omega arith
 
 slice-aggregate-work : tie.Need-slice-aggregate-work
 slice-aggregate-work c = sym (length-take-le _ _ (omega (arith, c .before .before .before .before .before .before .before .before .before .pre)))
 
 add-scratch : tie.Need-add-scratch
-add-scratch c = omega (arith, c .before .before .before .before .before .before .before .before .before .pre)
+add-scratch c = omega arith
 
 array-borrow-prefix-scratch : tie.Need-array-borrow-prefix-scratch
-array-borrow-prefix-scratch c = omega (arith, c .before .before .before .before .before .before .before .before .before .pre)
+array-borrow-prefix-scratch c = omega arith
 
 slice-aggregate-scratch : tie.Need-slice-aggregate-scratch
 slice-aggregate-scratch c = sym (length-take-le _ _ (omega (arith, c .before .before .before .before .before .before .before .before .before .before .pre)))
 
 add-record : tie.Need-add-record
-add-record c = omega (arith, c .before .before .before .before .before .before .before .before .before .before .pre)
+add-record c = omega arith
 
 sub-record : tie.Need-sub-record
-sub-record c = omega (arith, c .before .before .before .before .before .before .before .before .before .before .pre)
+sub-record c = omega arith
 
 part-record-start : tie.Need-part-record-start
-part-record-start c = omega (arith, c .before .before .before .before .before .before .before .before .before .before .pre)
+part-record-start c = omega arith
 
 part-record-end : tie.Need-part-record-end
-part-record-end c = omega (arith, c .before .before .before .before .before .before .before .before .before .before .pre)
+part-record-end c = omega arith
 
 array-share-prefix-starts : tie.Need-array-share-prefix-starts
-array-share-prefix-starts c = omega (arith, c .before .before .before .before .before .before .before .before .before .before .before .pre)
+array-share-prefix-starts c = omega arith
 
 slice-aggregate-record : tie.Need-slice-aggregate-record
 slice-aggregate-record c = sym (length-take-le _ _ (omega (arith, c .before .before .before .before .before .before .before .before .before .before .before .before .pre)))
 
 array-share-prefix-deltas : tie.Need-array-share-prefix-deltas
-array-share-prefix-deltas c = omega (arith, c .before .before .before .before .before .before .before .before .before .before .before .before .pre)
+array-share-prefix-deltas c = omega arith
 
 slice-aggregate-record-2 : tie.Need-slice-aggregate-record-2
 slice-aggregate-record-2 c = sym (length-take-le _ _ (omega (arith, c .before .before .before .before .before .before .before .before .before .before .before .before .before .pre)))

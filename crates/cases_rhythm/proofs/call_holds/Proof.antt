@@ -8,73 +8,73 @@ use Rattle.cases_rhythm.proofs.call_holds.Statement.{statement}
 use Rattle.cases_rhythm.proofs.call_holds.Tie as tie
 
 add-room : tie.Need-add-room
-add-room c = omega (arith, c .before .pre)
+add-room c = omega arith
 
 array-share-prefix-one : tie.Need-array-share-prefix-one
-array-share-prefix-one c = omega (arith, c .before .pre)
+array-share-prefix-one c = omega arith
 
 slice-aggregate-one : tie.Need-slice-aggregate-one
 slice-aggregate-one c = sym (length-take-le _ _ (omega (arith, c .before .before .pre)))
 
 slice-aggregate-read-times : tie.Need-slice-aggregate-read-times
-slice-aggregate-read-times c = omega (arith, c .before .before .before .pre)
+slice-aggregate-read-times c = omega arith
 
 slice-aggregate-read-times-2 : tie.Need-slice-aggregate-read-times-2
-slice-aggregate-read-times-2 c = omega (arith, c .before .before .before .before .pre)
+slice-aggregate-read-times-2 c = omega arith
 
 read-times-requires : tie.Need-read-times-requires
 read-times-requires c κs = omega (arith, c .before .before .before .before .pre)
 
 array-borrow-prefix-group : tie.Need-array-borrow-prefix-group
-array-borrow-prefix-group c = omega (arith, c .before .before .before .before .before .before .before .pre)
+array-borrow-prefix-group c = omega arith
 
 slice-aggregate-group : tie.Need-slice-aggregate-group
 slice-aggregate-group c = sym (length-take-le _ _ (omega (arith, c .before .before .before .before .before .before .before .before .pre)))
 
 array-borrow-prefix-pattern : tie.Need-array-borrow-prefix-pattern
-array-borrow-prefix-pattern c = omega (arith, c .before .before .before .before .before .before .before .before .pre)
+array-borrow-prefix-pattern c = omega arith
 
 slice-aggregate-pattern : tie.Need-slice-aggregate-pattern
 slice-aggregate-pattern c = sym (length-take-le _ _ (omega (arith, c .before .before .before .before .before .before .before .before .before .pre)))
 
 mul-work : tie.Need-mul-work
-mul-work c = omega (arith, c .before .before .before .before .before .before .before .before .before .pre)
+mul-work c = omega arith
 
 add-work : tie.Need-add-work
-add-work c = omega (arith, c .before .before .before .before .before .before .before .before .before .pre)
+add-work c = omega arith
 
 array-borrow-prefix-work : tie.Need-array-borrow-prefix-work
-array-borrow-prefix-work c = omega (arith, c .before .before .before .before .before .before .before .before .before .pre)
+array-borrow-prefix-work c = omega arith
 
 slice-aggregate-work : tie.Need-slice-aggregate-work
 slice-aggregate-work c = sym (length-take-le _ _ (omega (arith, c .before .before .before .before .before .before .before .before .before .before .pre)))
 
 array-borrow-prefix-scratch : tie.Need-array-borrow-prefix-scratch
-array-borrow-prefix-scratch c = omega (arith, c .before .before .before .before .before .before .before .before .before .before .pre)
+array-borrow-prefix-scratch c = omega arith
 
 slice-aggregate-scratch : tie.Need-slice-aggregate-scratch
 slice-aggregate-scratch c = sym (length-take-le _ _ (omega (arith, c .before .before .before .before .before .before .before .before .before .before .before .pre)))
 
 add-rhythm : tie.Need-add-rhythm
-add-rhythm c = omega (arith, c .before .before .before .before .before .before .before .before .before .before .before .pre)
+add-rhythm c = omega arith
 
 sub-rhythm : tie.Need-sub-rhythm
-sub-rhythm c = omega (arith, c .before .before .before .before .before .before .before .before .before .before .before .pre)
+sub-rhythm c = omega arith
 
 part-rhythm-start : tie.Need-part-rhythm-start
-part-rhythm-start c = omega (arith, c .before .before .before .before .before .before .before .before .before .before .before .pre)
+part-rhythm-start c = omega arith
 
 part-rhythm-end : tie.Need-part-rhythm-end
-part-rhythm-end c = omega (arith, c .before .before .before .before .before .before .before .before .before .before .before .pre)
+part-rhythm-end c = omega arith
 
 array-share-prefix-starts : tie.Need-array-share-prefix-starts
-array-share-prefix-starts c = omega (arith, c .before .before .before .before .before .before .before .before .before .before .before .before .pre)
+array-share-prefix-starts c = omega arith
 
 slice-aggregate-rhythm : tie.Need-slice-aggregate-rhythm
 slice-aggregate-rhythm c = sym (length-take-le _ _ (omega (arith, c .before .before .before .before .before .before .before .before .before .before .before .before .before .pre)))
 
 array-share-prefix-deltas : tie.Need-array-share-prefix-deltas
-array-share-prefix-deltas c = omega (arith, c .before .before .before .before .before .before .before .before .before .before .before .before .before .pre)
+array-share-prefix-deltas c = omega arith
 
 slice-aggregate-rhythm-2 : tie.Need-slice-aggregate-rhythm-2
 slice-aggregate-rhythm-2 c = sym (length-take-le _ _ (omega (arith, c .before .before .before .before .before .before .before .before .before .before .before .before .before .before .pre)))
