@@ -26,7 +26,7 @@ use Rattle.cases_colour.specs.Colour.{colourChart, colourLent, stretchOf
 use Rattle.cases_colour.specs.declared.Stretch.{Stretch}
 use Rattle.cases_colour.specs.declared.Asked.{Asked}
 use Rattle.cases_colour.specs.declared.Asked.the-variants as asked
-use Rattle.vectors.proofs.FormLaws.{ill-formed, well-formed}
+use Rattle.vectors.proofs.FormLaws.{ill-at, well-at}
 use Rattle.vectors.proofs.LentLaws.{ones-lent, work-lent, floats-lent}
 
 -- ---- the answer of either call
@@ -99,31 +99,34 @@ unfolding ColourForm
 form-room h body spare size l k z f = record { few = record { objects = l; places = k }; small = z; whole = omega (arith, f .whole) }
 
 module _ (h : Head) (body : List ℕ) (spare size : ℕ) (e : size ≡ columnSize (h .objects) (h .width)) where
+  abbrev form : ℕ → Type 0
+  form z = ColourForm z h body
+
   abbrev stored : Asked → ℕ → Type 0
   stored call z = CallStored call z (h .objects) body (colourChart z (h .width) (h .objects) body) (colourLent (h .objects) spare)
 
-  pub colour-ill : {b : Bool} → Tells b (ColourForm size h body) → b ≡ false → Tells false (ColourHolds h body spare)
+  pub colour-ill : {b : Bool} → Tells b (form size) → b ≡ false → Tells false (ColourHolds h body spare)
   unfolding ColourHolds
-  colour-ill {b} t f = ill-formed (subst (λ (z : ℕ). Tells b (ColourForm z h body)) e t) f
+  colour-ill t f = ill-at form (stored asked.Colour) e t f
 
-  pub colour-told : {b r : Bool} → h .objects ≤ 16384 → Tells b (ColourForm size h body) → b ≡ true → Tells r (stored asked.Colour size) → Tells r (ColourHolds h body spare)
+  pub colour-told : {b r : Bool} → h .objects ≤ 16384 → Tells b (form size) → b ≡ true → Tells r (stored asked.Colour size) → Tells r (ColourHolds h body spare)
   unfolding ColourHolds
-  colour-told {b} {r} l t f u =
-      well-formed l (subst (λ (z : ℕ). Tells b (ColourForm z h body)) e t) f (subst (λ (z : ℕ). Tells r (stored asked.Colour z)) e u)
+  colour-told l t f u = well-at form (stored asked.Colour) e t l f u
 
   -- a stretch of this chart
-  module _ (k : Head) (part : List ℕ) {b : Bool} (t : Tells b (ColourForm size h body × PartFormed 3 1 16 (h .objects) k (length part))) where
-    forms : Tells b (ColourForm (columnSize (h .objects) (h .width)) h body × PartFormed 3 1 16 (h .objects) k (length part))
-    forms = subst (λ (z : ℕ). Tells b (ColourForm z h body × PartFormed 3 1 16 (h .objects) k (length part))) e t
+  module _ (k : Head) (part : List ℕ) where
+    abbrev forms : ℕ → Type 0
+    forms z = form z × PartFormed 3 1 16 (h .objects) k (length part)
 
-    pub stretch-ill : b ≡ false → Tells false (StretchHolds h body k part spare)
+    pub stretch-ill : {b : Bool} → Tells b (forms size) → b ≡ false → Tells false (StretchHolds h body k part spare)
     unfolding StretchHolds
-    stretch-ill f = ill-formed forms f
+    stretch-ill t f = ill-at forms (stored (asked.Stretched (stretchOf part))) e t f
 
-    pub stretch-told : {r : Bool} (s : Stretch) → s ≡ stretchOf part → h .objects ≤ 16384 → b ≡ true → Tells r (stored (asked.Stretched s) size)
+    pub stretch-told : {b r : Bool} (s : Stretch) → s ≡ stretchOf part → h .objects ≤ 16384 → Tells b (forms size) → b ≡ true → Tells r (stored (asked.Stretched s) size)
         → Tells r (StretchHolds h body k part spare)
     unfolding StretchHolds
-    stretch-told {r} s q l f u = well-formed l forms f (subst (λ (x : Stretch × ℕ). Tells r (stored (asked.Stretched (x .0)) (x .1))) (λ i. (q i, e i)) u)
+    stretch-told {r} s q l t f u =
+        well-at forms (stored (asked.Stretched (stretchOf part))) e t l f (subst (λ (x : Stretch). Tells r (stored (asked.Stretched x) size)) q u)
 
 pub colour-call : (h : Head) (body : List ℕ) (spare : ℕ) → ColourHolds h body spare → h .call ≡ 2
 unfolding ColourHolds ColourForm

@@ -1,7 +1,7 @@
 -- What encode hands back on the lent slices is what its definition gives on slices full of marks; and each of its parts is held to the case.
 use mathlib.Core.Path.{_≡_, ap, _∙_, subst}
 use mathlib.Core.List.{List}
-use mathlib.Core.Bool.{Bool, true, false}
+use mathlib.Core.Bool.{Bool, true, false, _&&_}
 use Prim.Native.Nat.{ℕ, _+_, _-_, _*_, _≤_}
 use native.Mathlib.Omega.{arith}
 use lib.Dec.{eqb}
@@ -16,12 +16,12 @@ use Rattle.grouping_encode.specs.declared.Encoding.{Encoding}
 use Rattle.grouping_encode.specs.declared.Encoding.the-variants.{Done, Refused}
 use Rattle.vectors.specs.Case.{pairAt, columnSize, column}
 use Rattle.vectors.specs.Held.{Tells, Held}
-use Rattle.vectors.proofs.TellsLaws.{denied, tells-as, tells-eqb}
+use Rattle.vectors.proofs.TellsLaws.{denied, tells-as, tells-both, tells-eqb}
 use Rattle.vectors.specs.declared.case.Head.{Head}
 use Rattle.vectors.specs.Form.{Formed}
 use Rattle.vectors.specs.Lent.{numberMark, byteMark, floatMark, one, Columns, Cleared, Few}
 use Rattle.cases_encode.specs.Encode.{encodeChart, encodeLent, EncodeStored, EncodeHolds}
-use Rattle.vectors.proofs.FormLaws.{ill-formed, well-formed}
+use Rattle.vectors.proofs.FormLaws.{ill-at, well-at}
 use Rattle.vectors.proofs.LentLaws.{ones-lent, numbers-lent, bytes-lent, work-lent, floats-lent}
 
 -- ---- the answer
@@ -62,18 +62,18 @@ module _ (n spare : ℕ) (body : List ℕ) (few : Few n spare) where
   unfolding encodeLent
   memory-is = rw (numbers-lent few, bytes-lent few, work-lent few, floats-lent few)
 
-  -- on what the original answered
-  pub call-told : (size width : ℕ) {o : Outcome} {r : Bool} → o ≡ encodeOutcome (chart n body) (memory n spare)
-      → Tells r (
-      ((o .answer ≡ Done (pairAt body 0))
-      × (Columns body (2 + n) size width n (o .memory .streak) (o .memory .streakPlace)
-      × Columns body (2 + n + 2 * size) size width n (o .memory .pattern) (o .memory .patternPlace)))
-      × ((Held (column body (2 + n + 4 * size) width n) numberMark (o .memory .hit) × Held (part (2 + n + 5 * size) n body) byteMark (o .memory .interval))
-      × Cleared n (o .memory .work) (o .memory .scratch))
-      )
+  -- each part is compared by itself, and the answers are put together
+  pub call-told : (size width : ℕ) {o : Outcome} {a b c d e f bc abc de def r : Bool} → o ≡ encodeOutcome (chart n body) (memory n spare)
+      → Tells a (o .answer ≡ Done (pairAt body 0))
+      → Tells b (Columns body (2 + n) size width n (o .memory .streak) (o .memory .streakPlace))
+      → Tells c (Columns body (2 + n + 2 * size) size width n (o .memory .pattern) (o .memory .patternPlace))
+      → Tells d (Held (column body (2 + n + 4 * size) width n) numberMark (o .memory .hit))
+      → Tells e (Held (part (2 + n + 5 * size) n body) byteMark (o .memory .interval))
+      → Tells f (Cleared n (o .memory .work) (o .memory .scratch))
+      → bc ≡ (b && c) → abc ≡ (a && bc) → de ≡ (d && e) → def ≡ (de && f) → r ≡ (abc && def)
       → Tells r (EncodeStored size width n body (encodeOutcome (encodeChart n body) (encodeLent n spare)))
-  call-told size width {o} {r} e t =
-      subst (λ (x : Outcome). Tells r (EncodeStored size width n body x)) (e ∙ (λ i. encodeOutcome (chart-is i) (memory-is i)))
+  call-told size width {r} is ta tb tc td te tf p q u v w =
+      subst (λ (x : Outcome). Tells r (EncodeStored size width n body x)) (is ∙ (λ i. encodeOutcome (chart-is i) (memory-is i)))
       (tells-as
       (λ p. record {
         answer = p .0 .0;
@@ -89,26 +89,25 @@ module _ (n spare : ℕ) (body : List ℕ) (few : Few n spare) where
         (q .answer, (record { first = q .streak; second = q .streakPlace }, record { first = q .pattern; second = q .patternPlace })),
         ((q .hit, q .interval), q .cleared),
       ))
-      t)
+      (tells-both _ _ w (tells-both _ _ q ta (tells-both _ _ p tb tc)) (tells-both _ _ v (tells-both _ _ u td te) tf)))
 
 -- ---- the case
 
 module _ (h : Head) (body : List ℕ) (spare size : ℕ) (e : size ≡ columnSize (h .objects) (h .width)) where
-  -- the form, by the size that was worked out
+  -- the form and the answers, by the size of a column
   abbrev form : ℕ → Type 0
   form z = Formed 1 1 2 (2 + 2 * h .objects + 5 * z) h (length body)
 
+  abbrev stored : ℕ → Type 0
+  stored z = EncodeStored z (h .width) (h .objects) body (encodeOutcome (encodeChart (h .objects) body) (encodeLent (h .objects) spare))
+
   pub case-ill : {b : Bool} → Tells b (form size) → b ≡ false → Tells false (EncodeHolds h body spare)
   unfolding EncodeHolds
-  case-ill {b} t f = ill-formed (subst (λ (z : ℕ). Tells b (form z)) e t) f
+  case-ill t f = ill-at form stored e t f
 
-  pub case-told : {b r : Bool} → h .objects ≤ 16384 → Tells b (form size) → b ≡ true
-      → Tells r (EncodeStored size (h .width) (h .objects) body (encodeOutcome (encodeChart (h .objects) body) (encodeLent (h .objects) spare)))
-      → Tells r (EncodeHolds h body spare)
+  pub case-told : {b r : Bool} → h .objects ≤ 16384 → Tells b (form size) → b ≡ true → Tells r (stored size) → Tells r (EncodeHolds h body spare)
   unfolding EncodeHolds
-  case-told {b} {r} l t f u =
-      well-formed l (subst (λ (z : ℕ). Tells b (form z)) e t) f
-      (subst (λ (z : ℕ). Tells r (EncodeStored z (h .width) (h .objects) body (encodeOutcome (encodeChart (h .objects) body) (encodeLent (h .objects) spare)))) e u)
+  case-told l t f u = well-at form stored e t l f u
 
 pub encode-call : (h : Head) (body : List ℕ) (spare : ℕ) → EncodeHolds h body spare → h .call ≡ 1
 unfolding EncodeHolds

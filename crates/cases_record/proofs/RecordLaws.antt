@@ -36,16 +36,16 @@ module _ (part : List ℕ) (own : Own) where
   own-millis x {given} {b} {r} e q t c = subst (λ (o : Own). Tells r (OwnIs part o)) (sym e) (tells-both (eqb given 1) b c (tells-eqb-as q refl) t)
 
 module _ (part : List ℕ) (answer : Recording) where
-  pub fields-told : (s : GroupRecord) {r : Bool} → answer ≡ Done s
-      → Tells r (
-      (((s .first .0 ≡ pairAt part 2) × (s .notes ≡ pairAt part 4)) × ((s .pattern ≡ pairAt part 6) × OwnIs part (s .own)))
-      × (((toBits binary64 (s .ratio) ≡ wordAt part 26) × (toBits binary64 (s .interval) ≡ wordAt part 34))
-      × ((toBits binary64 (s .penalty) ≡ wordAt part 42) × (toBits binary64 (s .patternratio) ≡ wordAt part 50)))
-      )
+  -- each field is compared by itself, and the answers are put together
+  pub fields-told : (s : GroupRecord) {a b c d e f g h ab cd ef gh abcd efgh r : Bool} → answer ≡ Done s
+      → Tells a (s .first .0 ≡ pairAt part 2) → Tells b (s .notes ≡ pairAt part 4) → Tells c (s .pattern ≡ pairAt part 6) → Tells d (OwnIs part (s .own))
+      → Tells e (toBits binary64 (s .ratio) ≡ wordAt part 26) → Tells f (toBits binary64 (s .interval) ≡ wordAt part 34)
+      → Tells g (toBits binary64 (s .penalty) ≡ wordAt part 42) → Tells h (toBits binary64 (s .patternratio) ≡ wordAt part 50)
+      → ab ≡ (a && b) → cd ≡ (c && d) → ef ≡ (e && f) → gh ≡ (g && h) → abcd ≡ (ab && cd) → efgh ≡ (ef && gh) → r ≡ (abcd && efgh)
       → Tells r (RecordIs part answer)
   unfolding RecordIs
-  fields-told s {r} e t =
-      subst (λ (a : Recording). Tells r (RecordIs part a)) (sym e)
+  fields-told s {r} is ta tb tc td te tf tg th p q u v w x y =
+      subst (λ (k : Recording). Tells r (RecordIs part k)) (sym is)
       (tells-as
       (λ p. record {
         first = p .0 .0 .0;
@@ -58,7 +58,7 @@ module _ (part : List ℕ) (answer : Recording) where
         patternratio = p .1 .1 .1;
       })
       (λ q. (((q .first, q .notes), (q .pattern, q .own)), ((q .ratio, q .interval), (q .penalty, q .patternratio))))
-      t)
+      (tells-both _ _ y (tells-both _ _ w (tells-both _ _ p ta tb) (tells-both _ _ q tc td)) (tells-both _ _ x (tells-both _ _ u te tf) (tells-both _ _ v tg th))))
 
   pub fields-refused : (number : ℕ) (place : ObjectIndex) → answer ≡ Refused number place → Tells false (RecordIs part answer)
   unfolding RecordIs

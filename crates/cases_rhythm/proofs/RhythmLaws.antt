@@ -63,15 +63,16 @@ module _ (n spare : ℕ) (body : List ℕ) (few : Few n spare) {starts deltas : 
   unfolding rhythmLent
   memory-is = rw (numbers-lent few, work-lent few, floats-lent few)
 
-  pub call-told : {o : Outcome} {r : Bool} → o ≡ rhythmOutcome (chart n body starts deltas) memory
-      → Tells r (
-      (o .answer ≡ Done (pairAt body 0) (pairAt body 2))
-      × (Columns body (4 + 17 * n) (2 * n) 2 n (o .memory .group) (o .memory .pattern) × Cleared n (o .memory .work) (o .memory .scratch))
-      )
-      → Tells r (RhythmStored n body (rhythmOutcome (rhythmChart n body) (rhythmLent n spare)))
-  call-told {o} {r} e t =
-      subst (λ (y : Outcome). Tells r (RhythmStored n body y)) (e ∙ (λ i. rhythmOutcome (chart-is i) (memory-is i)))
-      (tells-as (λ p. record { answer = p .0; numbers = p .1 .0; cleared = p .1 .1 }) (λ q. (q .answer, (q .numbers, q .cleared))) t)
+  -- each part is compared by itself, and the answers are put together
+  pub call-told : {o : Outcome} {a b c bc r : Bool} → o ≡ rhythmOutcome (chart n body starts deltas) memory
+      → Tells a (o .answer ≡ Done (pairAt body 0) (pairAt body 2))
+      → Tells b (Columns body (4 + 17 * n) (2 * n) 2 n (o .memory .group) (o .memory .pattern))
+      → Tells c (Cleared n (o .memory .work) (o .memory .scratch))
+      → bc ≡ (b && c) → r ≡ (a && bc) → Tells r (RhythmStored n body (rhythmOutcome (rhythmChart n body) (rhythmLent n spare)))
+  call-told {r} is ta tb tc p q =
+      subst (λ (y : Outcome). Tells r (RhythmStored n body y)) (is ∙ (λ i. rhythmOutcome (chart-is i) (memory-is i)))
+      (tells-as (λ p. record { answer = p .0; numbers = p .1 .0; cleared = p .1 .1 }) (λ q. (q .answer, (q .numbers, q .cleared)))
+      (tells-both _ _ q ta (tells-both _ _ p tb tc)))
 
 -- ---- the case
 

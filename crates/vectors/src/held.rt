@@ -85,11 +85,12 @@ pub fn floats(s: &[u8], at: usize, n: usize, mark: f64, got: &[f64]) -> bool
     requires { ⌜ at + 8 * n < 2 ^ 32 ⌝ }
     ensures { λ r. ⌜ Tells r (Held (words (now (s .entry)) at n) (Ieee.toBits binary64 mark) (bitsOf (now (got .entry)))) ⌝ }
 {
-    if got.len() < n {
+    let room = got.len();
+    if room < n {
         return false;
     }
     let mut i = 0;
-    while i < got.len() {
+    while i < room {
         if numeric::canonical::bits(got[i]) != bits_expected(s, at, n, mark, i) {
             return false;
         }

@@ -32,10 +32,14 @@ call-holds-requires c κs =
     form-room _ _ _ _ (c .before .before .before .before .before .before .if1 .left) (c .before .before .before .before .before .before .before .before .before .pre) (c .before .before .before .before .before .column-size .ensures .1) (f .0)
 
 returns-2 : tie.Need-returns-2
-returns-2 c = stretch-told _ _ _ _ (c .before .before .before .before .before .before .column-size .ensures .0) _ _ (tells-both _ _ (c .before .before .before .both .ensures) (c .before .before .before .before .before .colour-formed .ensures) (c .before .before .before .before .part-formed .ensures)) _ (c .before .read-stretch .ensures) (c .before .before .before .before .before .before .before .if1 .left) (c .before .before .if2 .taken) (c .call-holds .ensures)
+returns-2 c =
+    stretch-told _ _ _ _ (c .before .before .before .before .before .before .column-size .ensures .0) _ _ _ (c .before .read-stretch .ensures) (c .before .before .before .before .before .before .before .if1 .left)
+    (tells-both _ _ (c .before .before .before .both .ensures) (c .before .before .before .before .before .colour-formed .ensures) (c .before .before .before .before .part-formed .ensures)) (c .before .before .if2 .taken) (c .call-holds .ensures)
 
 returns-3 : tie.Need-returns-3
-returns-3 c = stretch-ill _ _ _ _ (c .before .before .before .before .column-size .ensures .0) _ _ (tells-both _ _ (c .before .both .ensures) (c .before .before .before .colour-formed .ensures) (c .before .before .part-formed .ensures)) (c .if2 .left)
+returns-3 c =
+    stretch-ill _ _ _ _ (c .before .before .before .before .column-size .ensures .0) _ _
+    (tells-both _ _ (c .before .both .ensures) (c .before .before .before .colour-formed .ensures) (c .before .before .part-formed .ensures)) (c .if2 .left)
 
 pub stretch-holds-spec : {M : Type 1} → statement M
 stretch-holds-spec =

@@ -3,7 +3,6 @@ use mathlib.Core.Path.{sym}
 use Prim.Native.Nat.{_+_}
 use lib.Seq.{length-take-le}
 use native.Mathlib.Omega.{arith}
-use Rattle.vectors.proofs.TellsLaws.{tells-both}
 use Rattle.cases_encode.proofs.EncodeLaws.{call-told}
 use Rattle.vectors.specs.Lent.{byteMark}
 use Rattle.vectors.proofs.LentLaws.{front-fits}
@@ -144,10 +143,10 @@ both-requires-5 c κs = tt
 
 returns : tie.Need-returns
 returns c =
-    call-told _ _ _ (c .before .before .before .before .before .before .before .before .before .before .before .before .before .before .before .before .before .before .before .before .before .before .before .before .before .before .before .before .before .before .before .before .before .before .before .before .before .before .before .before .before .before .before .before .before .before .before .before .before .before .before .before .before .before .before .before .before .before .before .before .before .before .before .pre .few) _ _ (c .before .before .before .before .before .before .before .before .before .before .before .before .before .before .before .before .before .before .before .before .before .before .before .before .before .before .before .before .before .before .before .before .before .before .before .before .before .before .before .before .before .before .before .encode .ensures)
-    (tells-both _ _ (c .both5 .ensures)
-    (tells-both _ _ (c .before .before .before .both2 .ensures) (c .before .before .before .before .before .before .before .before .before .before .before .before .before .before .before .before .before .before .before .before .before .before .before .before .before .before .count-holds .ensures) (tells-both _ _ (c .before .before .before .before .both .ensures) (c .before .before .before .before .before .before .before .before .before .before .before .before .before .before .before .before .before .before .before .before .before .before .before .columns .ensures) (c .before .before .before .before .before .before .before .before .before .before .before .before .before .before .before .before .before .before .columns2 .ensures)))
-    (tells-both _ _ (c .before .both4 .ensures) (tells-both _ _ (c .before .before .both3 .ensures) (c .before .before .before .before .before .before .before .before .before .before .before .before .before .before .numbers .ensures) (c .before .before .before .before .before .before .before .before .before .before .before .row .ensures)) (c .before .before .before .before .before .before .before .cleared .ensures)))
+    let a = c .before .before .before .before .before .before .before .before .before .before .before .before .before .before .before .before .before .before .before .before .before .before .before .before .before .before .before .before .before .before .before .before .before .before .before .before .before .before .before .before .before .before .before .before .before .before .before .before .before .before .before .before .before .before .before .before .before .before .before .before .before .before .before .args in
+    call-told (a .n) (a .spare) (a .body .now) (c .before .before .before .before .before .before .before .before .before .before .before .before .before .before .before .before .before .before .before .before .before .before .before .before .before .before .before .before .before .before .before .before .before .before .before .before .before .before .before .before .before .before .before .before .before .before .before .before .before .before .before .before .before .before .before .before .before .before .before .before .before .before .before .pre .few) (a .size) (a .width) (c .before .before .before .before .before .before .before .before .before .before .before .before .before .before .before .before .before .before .before .before .before .before .before .before .before .before .before .before .before .before .before .before .before .before .before .before .before .before .before .before .before .before .before .encode .ensures) (c .before .before .before .before .before .before .before .before .before .before .before .before .before .before .before .before .before .before .before .before .before .before .before .before .before .before .count-holds .ensures)
+    (c .before .before .before .before .before .before .before .before .before .before .before .before .before .before .before .before .before .before .before .before .before .before .before .columns .ensures) (c .before .before .before .before .before .before .before .before .before .before .before .before .before .before .before .before .before .before .columns2 .ensures) (c .before .before .before .before .before .before .before .before .before .before .before .before .before .before .numbers .ensures) (c .before .before .before .before .before .before .before .before .before .before .before .row .ensures) (c .before .before .before .before .before .before .before .cleared .ensures)
+    (c .before .before .before .before .both .ensures) (c .before .before .before .both2 .ensures) (c .before .before .both3 .ensures) (c .before .both4 .ensures) (c .both5 .ensures)
 
 pub call-holds-spec : {M : Type 1} → statement M
 call-holds-spec =

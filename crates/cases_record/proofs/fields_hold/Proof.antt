@@ -1,6 +1,5 @@
 -- Case by case of the answer, and field by field.
 use native.Mathlib.Omega.{arith}
-use Rattle.vectors.proofs.TellsLaws.{tells-both}
 use Rattle.cases_record.proofs.RecordLaws.{fields-told, fields-refused}
 use Rattle.cases_record.proofs.fields_hold.Statement.{statement}
 use Rattle.cases_record.proofs.fields_hold.Tie as tie
@@ -58,14 +57,9 @@ enum-told c = omega arith
 
 returns : tie.Need-returns
 returns c =
-    fields-told _ _ _ (c .before .before .before .before .before .before .before .before .before .before .before .before .before .before .before .before .before .answer .given .1)
-    (tells-both _ _ (c .both7 .ensures)
-    (tells-both _ _ (c .before .before .both5 .ensures)
-    (tells-both _ _ (c .before .before .before .before .before .before .before .before .before .before .before .before .both .ensures) (c .before .before .before .before .before .before .before .before .before .before .before .before .before .before .number-holds .ensures) (c .before .before .before .before .before .before .before .before .before .before .before .before .before .number-holds2 .ensures))
-    (tells-both _ _ (c .before .before .before .before .before .before .before .before .before .both2 .ensures) (c .before .before .before .before .before .before .before .before .before .before .before .number-holds3 .ensures) (c .before .before .before .before .before .before .before .before .before .before .own-holds .ensures)))
-    (tells-both _ _ (c .before .both6 .ensures)
-    (tells-both _ _ (c .before .before .before .before .before .before .both3 .ensures) (c .before .before .before .before .before .before .before .before .bits-hold .ensures) (c .before .before .before .before .before .before .before .bits-hold2 .ensures))
-    (tells-both _ _ (c .before .before .before .both4 .ensures) (c .before .before .before .before .before .bits-hold3 .ensures) (c .before .before .before .before .bits-hold4 .ensures))))
+    fields-told _ _ _ (c .before .before .before .before .before .before .before .before .before .before .before .before .before .before .before .before .before .answer .given .1) (c .before .before .before .before .before .before .before .before .before .before .before .before .before .before .number-holds .ensures) (c .before .before .before .before .before .before .before .before .before .before .before .before .before .number-holds2 .ensures) (c .before .before .before .before .before .before .before .before .before .before .before .number-holds3 .ensures) (c .before .before .before .before .before .before .before .before .before .before .own-holds .ensures)
+    (c .before .before .before .before .before .before .before .before .bits-hold .ensures) (c .before .before .before .before .before .before .before .bits-hold2 .ensures) (c .before .before .before .before .before .bits-hold3 .ensures) (c .before .before .before .before .bits-hold4 .ensures)
+    (c .before .before .before .before .before .before .before .before .before .before .before .before .both .ensures) (c .before .before .before .before .before .before .before .before .before .both2 .ensures) (c .before .before .before .before .before .before .both3 .ensures) (c .before .before .before .both4 .ensures) (c .before .before .both5 .ensures) (c .before .both6 .ensures) (c .both7 .ensures)
 
 returns-2 : tie.Need-returns-2
 returns-2 c = fields-refused _ _ _ _ (c .enum-told .given .1)

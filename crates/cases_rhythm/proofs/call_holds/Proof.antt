@@ -2,7 +2,6 @@
 use mathlib.Core.Path.{sym}
 use lib.Seq.{length-take-le}
 use native.Mathlib.Omega.{arith}
-use Rattle.vectors.proofs.TellsLaws.{tells-both}
 use Rattle.cases_rhythm.proofs.RhythmLaws.{call-told}
 use Rattle.cases_rhythm.proofs.call_holds.Statement.{statement}
 use Rattle.cases_rhythm.proofs.call_holds.Tie as tie
@@ -108,8 +107,7 @@ both-requires-2 c κs = tt
 
 returns : tie.Need-returns
 returns c =
-    call-told _ _ _ (c .before .before .before .before .before .before .before .before .before .before .before .before .before .before .before .before .before .before .before .before .before .before .before .before .before .before .before .before .before .before .before .before .before .before .before .before .before .before .before .before .pre .few) (c .before .before .before .before .before .before .before .before .before .before .before .before .before .before .before .before .before .before .before .before .before .before .before .before .before .before .before .before .before .before .before .before .before .before .before .read-times .ensures) (c .before .before .before .before .before .before .before .before .before .before .before .before .before .before .before .before .before .before .before .before .before .rhythm .ensures)
-    (tells-both _ _ (c .both2 .ensures) (c .before .before .before .before .before .before .before .before .before .before .before .before .counts-hold .ensures) (tells-both _ _ (c .before .both .ensures) (c .before .before .before .before .before .before .before .before .before .columns .ensures) (c .before .before .before .before .cleared .ensures)))
+    call-told _ _ _ (c .before .before .before .before .before .before .before .before .before .before .before .before .before .before .before .before .before .before .before .before .before .before .before .before .before .before .before .before .before .before .before .before .before .before .before .before .before .before .before .before .pre .few) (c .before .before .before .before .before .before .before .before .before .before .before .before .before .before .before .before .before .before .before .before .before .before .before .before .before .before .before .before .before .before .before .before .before .before .before .read-times .ensures) (c .before .before .before .before .before .before .before .before .before .before .before .before .before .before .before .before .before .before .before .before .before .rhythm .ensures) (c .before .before .before .before .before .before .before .before .before .before .before .before .counts-hold .ensures) (c .before .before .before .before .before .before .before .before .before .columns .ensures) (c .before .before .before .before .cleared .ensures) (c .before .both .ensures) (c .both2 .ensures)
 
 pub call-holds-spec : {M : Type 1} → statement M
 call-holds-spec =

@@ -11,10 +11,10 @@ use Rattle.vectors.proofs.held.floats.Statement.{statement}
 use Rattle.vectors.proofs.held.floats.Tie as tie
 
 abbrev Inv-loop : tie.InvT-loop
-Inv-loop s at n mark got i₀ i = Passed n (columnWord s at) (toBits binary64 mark) (bitsOf got) i
+Inv-loop s at n mark got room i₀ i = Passed n (columnWord s at) (toBits binary64 mark) (bitsOf got) i
 
 abbrev μ-loop : tie.MeasureT-loop
-μ-loop s at n mark got i₀ i = length got - i
+μ-loop s at n mark got room i₀ i = length got - i
 
 returns : tie.Need-returns Inv-loop μ-loop
 unfolding words
