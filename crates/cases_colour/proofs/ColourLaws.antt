@@ -18,16 +18,16 @@ use Rattle.vectors.specs.Case.{pairAt, columnSize, words}
 use Rattle.vectors.specs.Held.{Tells, Held, bitsOf}
 use Rattle.vectors.specs.Table.{entries}
 use Rattle.vectors.specs.declared.case.Head.{Head}
-use Rattle.vectors.proofs.TableLaws.{entries-front}
-use Rattle.vectors.proofs.TellsLaws.{denied, tells-as, tells-both}
 use Rattle.vectors.specs.Form.{Formed, PartFormed}
 use Rattle.vectors.specs.Lent.{numberMark, floatMark, one, Cleared, Few}
+use Rattle.vectors.proofs.TableLaws.{entries-front}
+use Rattle.vectors.proofs.TellsLaws.{denied, tells-as, tells-both}
+use Rattle.vectors.proofs.FormLaws.{ill-at, well-at}
+use Rattle.vectors.proofs.LentLaws.{ones-lent, work-lent, floats-lent}
 use Rattle.cases_colour.specs.Colour.{colourChart, colourLent, stretchOf, MeanIs, Answers, leaves, Answered, ValuesHeld, CallStored, ColourRoom, ColourForm, ColourHolds, StretchHolds}
 use Rattle.cases_colour.specs.declared.Stretch.{Stretch}
 use Rattle.cases_colour.specs.declared.Asked.{Asked}
 use Rattle.cases_colour.specs.declared.Asked.the-variants as asked
-use Rattle.vectors.proofs.FormLaws.{ill-at, well-at}
-use Rattle.vectors.proofs.LentLaws.{ones-lent, work-lent, floats-lent}
 
 -- ---- the answer of either call
 

@@ -54,6 +54,7 @@ fn read_stretch(part: &[u8]) -> Stretch
     }
 }
 
+// Whether the chart is accepted.
 fn done(answer: Colouring) -> bool
     ensures { λ r. ⌜ Tells r (answer ≡ colouring.Done) ⌝ }
 {
@@ -78,7 +79,7 @@ fn mean_holds(s: Stretch, answer: Stretching) -> bool
     }
 }
 
-// Whether the call that is asked answers as it must.
+// Whether the call that is asked answers as the original did.
 fn answer_holds(
     asked: Asked,
     kind: &[u8],
@@ -118,6 +119,7 @@ fn values_hold(
     both(values, cleared)
 }
 
+// The call that is asked, in slices full of marks, held to the body, whose column of ratios has so many bytes.
 fn call_holds(asked: Asked, size: usize, width: u8, n: usize, body: &[u8], spare: usize) -> bool
     requires { ⌜ ColourRoom size n (now body) spare ⌝ }
     ensures { λ r. ⌜ Tells r (CallStored asked size n (now (body .entry)) (colourChart size width n (now (body .entry))) (colourLent n spare)) ⌝ }
@@ -174,7 +176,7 @@ pub fn holds(h: Head, body: &[u8], spare: usize) -> bool
     false
 }
 
-// Whether the stretch with this head and these bytes, of the chart of a colour case, is answered as it must.
+// Whether the stretch with this head and these bytes, of the chart of a colour case, is answered as they have it.
 pub fn stretch_holds(chart: Head, body: &[u8], h: Head, part: &[u8], spare: usize) -> bool
     requires { ⌜ spare ≤ 7 ⌝ }
     ensures { λ r. ⌜ Tells r (StretchHolds chart (now (body .entry)) h (now (part .entry)) spare) ⌝ }

@@ -16,13 +16,13 @@ use Rattle.grouping_encode.specs.declared.Encoding.{Encoding}
 use Rattle.grouping_encode.specs.declared.Encoding.the-variants.{Done, Refused}
 use Rattle.vectors.specs.Case.{pairAt, columnSize, column}
 use Rattle.vectors.specs.Held.{Tells, Held}
-use Rattle.vectors.proofs.TellsLaws.{denied, tells-as, tells-both, tells-eqb}
 use Rattle.vectors.specs.declared.case.Head.{Head}
 use Rattle.vectors.specs.Form.{Formed}
 use Rattle.vectors.specs.Lent.{numberMark, byteMark, floatMark, one, Columns, Cleared, Few}
-use Rattle.cases_encode.specs.Encode.{encodeChart, encodeLent, EncodeStored, EncodeHolds}
+use Rattle.vectors.proofs.TellsLaws.{denied, tells-as, tells-both, tells-eqb}
 use Rattle.vectors.proofs.FormLaws.{ill-at, well-at}
 use Rattle.vectors.proofs.LentLaws.{ones-lent, numbers-lent, bytes-lent, work-lent, floats-lent}
+use Rattle.cases_encode.specs.Encode.{encodeChart, encodeLent, EncodeStored, EncodeHolds}
 
 -- ---- the answer
 
@@ -34,6 +34,7 @@ module _ (body : List ℕ) (answer : Encoding) where
   refused-told number place e = denied (λ h. let z : _≡_ {A = ℕ} 0 1 = cc in omega arith)
 
 -- ---- the chart and the slices, as fronts of what the code makes
+
 abbrev chart : ℕ → List ℕ → Chart
 chart n body =
     let ones : List Float = take n (replicate 16384 one) in

@@ -27,6 +27,7 @@ fn count_holds(body: &[u8], answer: Encoding) -> bool
     }
 }
 
+// Encode in slices full of marks, held to the body, each of whose columns has so many bytes.
 fn call_holds(size: usize, width: u8, n: usize, body: &[u8], spare: usize) -> bool
     requires { ⌜ EncodeRoom size n (now body) spare ⌝ }
     ensures { λ r. ⌜ Tells r (EncodeStored size width n (now (body .entry)) (encodeOutcome (encodeChart n (now (body .entry))) (encodeLent n spare))) ⌝ }
@@ -62,10 +63,9 @@ fn call_holds(size: usize, width: u8, n: usize, body: &[u8], spare: usize) -> bo
     let hits = held::numbers(body, at + 4 * size, width, n, NUMBER_MARK, hit);
     let intervals = held::row(body, at + 5 * size, n, BYTE_MARK, interval);
     let cleared = lent::cleared(n, work, scratch);
-    both(
-        both(count, both(streaks, patterns)),
-        both(both(hits, intervals), cleared),
-    )
+    let first = both(count, both(streaks, patterns));
+    let rest = both(both(hits, intervals), cleared);
+    both(first, rest)
 }
 
 // Whether encode answers as the case has it, in slices with so many places to spare.

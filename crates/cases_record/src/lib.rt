@@ -72,6 +72,7 @@ fn fields_hold(part: &[u8], answer: Recording) -> bool
     }
 }
 
+// Record in slices full of marks, held to the part.
 fn call_holds(n: usize, body: &[u8], part: &[u8], spare: usize) -> bool
     requires { ⌜ RhythmRoom n (now body) spare ⌝ }
     ensures { λ r. ⌜ Tells r (RecordStored n (now (part .entry)) (recordOf n (now (body .entry)) (now (part .entry)) spare)) ⌝ }
@@ -97,7 +98,7 @@ fn call_holds(n: usize, body: &[u8], part: &[u8], spare: usize) -> bool
     both(fields, cleared)
 }
 
-// Whether the record with this head and these bytes, of the chart of a rhythm case, is answered as it must.
+// Whether the record with this head and these bytes, of the chart of a rhythm case, is answered as they have it.
 pub fn holds(chart: Head, body: &[u8], h: Head, part: &[u8], spare: usize) -> bool
     requires { ⌜ spare ≤ 7 ⌝ }
     ensures { λ r. ⌜ Tells r (RecordHolds chart (now (body .entry)) h (now (part .entry)) spare) ⌝ }

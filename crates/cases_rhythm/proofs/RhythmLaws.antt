@@ -17,11 +17,11 @@ use Rattle.vectors.specs.Case.{pairAt}
 use Rattle.vectors.specs.Held.{Tells}
 use Rattle.vectors.specs.Table.{entries}
 use Rattle.vectors.specs.declared.case.Head.{Head}
+use Rattle.vectors.specs.Lent.{numberMark, floatMark, one, Columns, Cleared, Few}
 use Rattle.vectors.proofs.TableLaws.{entries-front}
 use Rattle.vectors.proofs.TellsLaws.{denied, tells-as, tells-both, tells-eqb}
-use Rattle.vectors.specs.Lent.{numberMark, floatMark, one, Columns, Cleared, Few}
-use Rattle.cases_rhythm.specs.Rhythm.{rhythmChart, rhythmLent, TimesRead, RhythmRoom, RhythmStored, RhythmForm, RhythmHolds}
 use Rattle.vectors.proofs.LentLaws.{ones-lent, numbers-lent, work-lent, floats-lent}
+use Rattle.cases_rhythm.specs.Rhythm.{rhythmChart, rhythmLent, TimesRead, RhythmRoom, RhythmStored, RhythmForm, RhythmHolds}
 
 -- ---- the answer of rhythm
 

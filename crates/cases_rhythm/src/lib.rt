@@ -39,6 +39,7 @@ fn counts_hold(body: &[u8], answer: Grouping) -> bool
     }
 }
 
+// Rhythm in slices full of marks, held to the body.
 fn call_holds(n: usize, body: &[u8], spare: usize) -> bool
     requires { ⌜ RhythmRoom n (now body) spare ⌝ }
     ensures { λ r. ⌜ Tells r (RhythmStored n (now (body .entry)) (rhythmOutcome (rhythmChart n (now (body .entry))) (rhythmLent n spare))) ⌝ }

@@ -4,8 +4,8 @@ use mathlib.Core.Bool.{Bool, true, false}
 use Prim.Native.Nat.{ℕ, _≤_, _<_}
 use native.Mathlib.Omega.{arith}
 use Rattle.vectors.specs.Held.{Tells}
-use Rattle.vectors.proofs.TellsLaws.{denied, tells-as}
 use Rattle.vectors.specs.Form.{Holds}
+use Rattle.vectors.proofs.TellsLaws.{denied, tells-as}
 
 module _ {n : ℕ} {Form Answers : Type 0} where
   pub too-many : 16384 < n → Tells false (Holds n Form Answers)

@@ -9,8 +9,8 @@ use lib.ListN.{length, take, length-take, replicate, length-replicate}
 use lib.Ieee.{Float, binary64, toBits}
 use Rattle.vectors.specs.Case.{column}
 use Rattle.vectors.specs.Held.{Tells, Held, bitsOf}
-use Rattle.vectors.proofs.TellsLaws.{tells-as}
 use Rattle.vectors.specs.Lent.{numberMark, byteMark, floatMark, one, Columns, Cleared, Few}
+use Rattle.vectors.proofs.TellsLaws.{tells-as}
 
 front-same : {A : Type 0} (k n : ℕ) (x : A) → k ≤ n → take k (replicate n x) ≡ replicate k x
 front-same zero n x h = refl

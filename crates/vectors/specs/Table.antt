@@ -19,7 +19,13 @@ entryAt s table column width i = ofBits binary64 (columnWord s table (placeAt s 
 unfoldable pub entries : List ℕ → ℕ → ℕ → ℕ → ℕ → List Float
 entries s table column width n = tabulate (entryAt s table column width) n
 
--- table and column begin below 2 ^ 31, and there is room for n floats
+-- table and column begin below 2 ^ 31
+pub record EntryThere (table column i : ℕ) : Type 0 where
+  pub low : table < 2 ^ 31
+  pub near : column < 2 ^ 31
+  pub few : i ≤ 16384
+
+-- and there is room for n floats
 pub record EntriesRoom (table column n : ℕ) (out : List Float) : Type 0 where
   pub low : table < 2 ^ 31
   pub near : column < 2 ^ 31

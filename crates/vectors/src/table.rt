@@ -2,7 +2,7 @@
 ghost use mathlib.Core.Path.{_≡_};
 ghost use Prim.Native.Nat.{_^_, _≤_, _<_};
 ghost use Rattle.grouping_marks.specs.Over.{over};
-ghost use Rattle.vectors.specs.Table.{placeAt, entryAt, entries, EntriesRoom};
+ghost use Rattle.vectors.specs.Table.{placeAt, entryAt, entries, EntryThere, EntriesRoom};
 use crate::case;
 
 // Which float of the table is meant at i: the one that number i of the column names, or the next where the width is 0.
@@ -18,7 +18,7 @@ fn place_at(s: &[u8], column: usize, width: u8, i: usize) -> usize
 
 // The float that is meant at i.
 fn entry_at(s: &[u8], table: usize, column: usize, width: u8, i: usize) -> f64
-    requires { ⌜ (table < 2 ^ 31) × ((column < 2 ^ 31) × (i ≤ 16384)) ⌝ }
+    requires { ⌜ EntryThere table column i ⌝ }
     ensures { λ r. ⌜ r ≡ entryAt (now (s .entry)) table column width i ⌝ }
 {
     case::float_of(case::word_at(s, table + 8 * place_at(s, column, width, i)))

@@ -1,7 +1,7 @@
 -- Too many objects, a wrong form, or what the call tells.
 use native.Mathlib.Omega.{arith}
-use Rattle.cases_colour.specs.Colour.{ColourHolds}
 use Rattle.vectors.proofs.FormLaws.{too-many}
+use Rattle.cases_colour.specs.Colour.{ColourHolds}
 use Rattle.cases_colour.proofs.ColourLaws.{form-room, colour-ill, colour-told}
 use Rattle.cases_colour.proofs.holds.Statement.{statement}
 use Rattle.cases_colour.proofs.holds.Tie as tie

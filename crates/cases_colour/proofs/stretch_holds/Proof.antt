@@ -1,8 +1,8 @@
 -- Too many objects, a wrong form of the chart or of the stretch, or what the call tells.
 use native.Mathlib.Omega.{arith}
 use Rattle.vectors.proofs.TellsLaws.{tells-both}
-use Rattle.cases_colour.specs.Colour.{StretchHolds}
 use Rattle.vectors.proofs.FormLaws.{too-many}
+use Rattle.cases_colour.specs.Colour.{StretchHolds}
 use Rattle.cases_colour.proofs.ColourLaws.{form-room, stretch-ill, stretch-told}
 use Rattle.cases_colour.proofs.stretch_holds.Statement.{statement}
 use Rattle.cases_colour.proofs.stretch_holds.Tie as tie

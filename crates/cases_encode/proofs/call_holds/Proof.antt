@@ -3,9 +3,9 @@ use mathlib.Core.Path.{sym}
 use Prim.Native.Nat.{_+_}
 use lib.Seq.{length-take-le}
 use native.Mathlib.Omega.{arith}
-use Rattle.cases_encode.proofs.EncodeLaws.{call-told}
 use Rattle.vectors.specs.Lent.{byteMark}
 use Rattle.vectors.proofs.LentLaws.{front-fits}
+use Rattle.cases_encode.proofs.EncodeLaws.{call-told}
 use Rattle.cases_encode.proofs.call_holds.Statement.{statement}
 use Rattle.cases_encode.proofs.call_holds.Tie as tie
 

@@ -1,7 +1,7 @@
 -- Too many objects, a wrong form, or what the call tells.
 use native.Mathlib.Omega.{arith}
-use Rattle.cases_encode.specs.Encode.{EncodeHolds}
 use Rattle.vectors.proofs.FormLaws.{too-many}
+use Rattle.cases_encode.specs.Encode.{EncodeHolds}
 use Rattle.cases_encode.proofs.EncodeLaws.{case-ill, case-told}
 use Rattle.cases_encode.proofs.holds.Statement.{statement}
 use Rattle.cases_encode.proofs.holds.Tie as tie

@@ -1,6 +1,6 @@
 -- By cases.
-use Rattle.replay_cases.proofs.TallyLaws.{counted-held, counted-differing}
 use native.Mathlib.Omega.{arith}
+use Rattle.replay_cases.proofs.TallyLaws.{counted-held, counted-differing}
 use Rattle.replay_cases.proofs.tally.counted.Statement.{statement}
 use Rattle.replay_cases.proofs.tally.counted.Tie as tie
 

@@ -1,6 +1,6 @@
 -- The definition's two cases.
-use Rattle.vectors.proofs.CaseLaws.{size-narrow, size-wide}
 use borrow.Author.Needs.{needs}
+use Rattle.vectors.proofs.CaseLaws.{size-narrow, size-wide}
 use Rattle.vectors.proofs.case.column_size.Statement.{statement}
 use Rattle.vectors.proofs.case.column_size.Tie as tie
 

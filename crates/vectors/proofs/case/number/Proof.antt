@@ -1,6 +1,6 @@
 -- Two bytes make less than 65,536.
-use Rattle.vectors.specs.Case.{pair}
 use borrow.Author.Needs.{needs}
+use Rattle.vectors.specs.Case.{pair}
 use Rattle.vectors.proofs.case.number.Statement.{statement}
 use Rattle.vectors.proofs.case.number.Tie as tie
 

@@ -1,6 +1,6 @@
 -- One byte or two, by the definition's two cases.
-use Rattle.vectors.proofs.CaseLaws.{narrow, wide}
 use borrow.Author.Needs.{needs}
+use Rattle.vectors.proofs.CaseLaws.{narrow, wide}
 use Rattle.vectors.proofs.case.number_at.Statement.{statement}
 use Rattle.vectors.proofs.case.number_at.Tie as tie
 

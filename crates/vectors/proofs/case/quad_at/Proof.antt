@@ -1,6 +1,6 @@
 -- Two pairs, each below 65,536, are the four bytes.
-use Rattle.vectors.proofs.CaseLaws.{quad-is}
 use native.Mathlib.Omega.{arith}
+use Rattle.vectors.proofs.CaseLaws.{quad-is}
 use Rattle.vectors.proofs.case.quad_at.Statement.{statement}
 use Rattle.vectors.proofs.case.quad_at.Tie as tie
 

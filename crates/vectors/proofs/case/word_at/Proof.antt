@@ -1,6 +1,6 @@
 -- Two numbers of four bytes are the eight.
-use Rattle.vectors.proofs.CaseLaws.{word-is}
 use native.Mathlib.Omega.{arith}
+use Rattle.vectors.proofs.CaseLaws.{word-is}
 use Rattle.vectors.proofs.case.word_at.Statement.{statement}
 use Rattle.vectors.proofs.case.word_at.Tie as tie
 

@@ -1,7 +1,7 @@
 -- The definition's two cases.
-use Rattle.vectors.proofs.HeldLaws.{expected-front, expected-past}
-use Rattle.vectors.specs.Case.{columnWord}
 use native.Mathlib.Omega.{arith}
+use Rattle.vectors.specs.Case.{columnWord}
+use Rattle.vectors.proofs.HeldLaws.{expected-front, expected-past}
 use Rattle.vectors.proofs.held.bits_expected.Statement.{statement}
 use Rattle.vectors.proofs.held.bits_expected.Tie as tie
 

@@ -3,10 +3,10 @@ use Prim.Native.Nat.{_-_}
 use mathlib.Core.Path.{sym, _∙_}
 use lib.ListN.{length}
 use lib.Ieee.{binary64, toBits}
+use native.Mathlib.Omega.{arith}
 use Rattle.vectors.specs.Case.{columnWord, words}
 use Rattle.vectors.specs.Held.{bitsOf}
 use Rattle.vectors.proofs.HeldLaws.{Passed, none-passed, one-passed, all-passed, too-short, differs, length-bits, bits-at}
-use native.Mathlib.Omega.{arith}
 use Rattle.vectors.proofs.held.floats.Statement.{statement}
 use Rattle.vectors.proofs.held.floats.Tie as tie
 

@@ -1,7 +1,7 @@
 -- The definition's two cases.
 use mathlib.Core.Path.{refl}
-use Rattle.vectors.proofs.HeldLaws.{expected-front, expected-past}
 use borrow.Author.Needs.{needs}
+use Rattle.vectors.proofs.HeldLaws.{expected-front, expected-past}
 use Rattle.vectors.proofs.held.number_expected.Statement.{statement}
 use Rattle.vectors.proofs.held.number_expected.Tie as tie
 

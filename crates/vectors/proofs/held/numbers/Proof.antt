@@ -2,9 +2,9 @@
 use Prim.Native.Nat.{_-_}
 use mathlib.Core.Path.{sym, _∙_}
 use lib.ListN.{length}
+use native.Mathlib.Omega.{arith}
 use Rattle.vectors.specs.Case.{numberAt, column}
 use Rattle.vectors.proofs.HeldLaws.{Passed, none-passed, one-passed, all-passed, too-short, differs}
-use native.Mathlib.Omega.{arith}
 use Rattle.vectors.proofs.held.numbers.Statement.{statement}
 use Rattle.vectors.proofs.held.numbers.Tie as tie
 

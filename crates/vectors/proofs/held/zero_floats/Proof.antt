@@ -1,6 +1,6 @@
 -- Each word of an empty column is 0.
-use Rattle.vectors.proofs.HeldLaws.{held-as, no-words}
 use native.Mathlib.Omega.{arith}
+use Rattle.vectors.proofs.HeldLaws.{held-as, no-words}
 use Rattle.vectors.proofs.held.zero_floats.Statement.{statement}
 use Rattle.vectors.proofs.held.zero_floats.Tie as tie
 

@@ -1,6 +1,6 @@
 -- Each number of an empty column is 0.
-use Rattle.vectors.proofs.HeldLaws.{held-as, no-numbers}
 use borrow.Author.Needs.{needs}
+use Rattle.vectors.proofs.HeldLaws.{held-as, no-numbers}
 use Rattle.vectors.proofs.held.zeros.Statement.{statement}
 use Rattle.vectors.proofs.held.zeros.Tie as tie
 
