@@ -10,6 +10,7 @@ use lib.ListN.{length, replicate}
 use lib.Ieee.{binary64, toBits}
 use Rattle.grouping_marks.specs.Over.{part}
 use Rattle.grouping_chart.specs.Chart.{Chart}
+use Rattle.grouping_chart.specs.Settings.{baseSettings}
 use Rattle.evaluator_calls.specs.Calls.{Memory, colourOutcome, stretchOutcome}
 use Rattle.evaluator_calls.specs.declared.Colouring.the-variants as colouring
 use Rattle.evaluator_calls.specs.declared.Stretching.{Stretching}
@@ -52,13 +53,13 @@ MeanIs s (stretching.Refused number place) = ⊥
 
 -- the call that is asked accepts the chart, and answers as the original did
 unfoldable pub Answers : Asked → Chart → Memory → Type 0
-Answers asked.Colour c m = colourOutcome c m .answer ≡ colouring.Done
-Answers (asked.Stretched s) c m = MeanIs s (stretchOutcome c (s .a) (s .b) m .answer)
+Answers asked.Colour c m = colourOutcome baseSettings c m .answer ≡ colouring.Done
+Answers (asked.Stretched s) c m = MeanIs s (stretchOutcome baseSettings c (s .a) (s .b) m .answer)
 
 -- the slices after it
 unfoldable pub leaves : Asked → Chart → Memory → Memory
-leaves asked.Colour c m = colourOutcome c m .memory
-leaves (asked.Stretched s) c m = stretchOutcome c (s .a) (s .b) m .memory
+leaves asked.Colour c m = colourOutcome baseSettings c m .memory
+leaves (asked.Stretched s) c m = stretchOutcome baseSettings c (s .a) (s .b) m .memory
 
 -- what a call on lent slices tells
 pub record Answered (call : Asked) (c : Chart) (m m′ : Memory) (r : Bool) : Type 0 where

@@ -10,6 +10,7 @@ use lib.Ieee.{Float}
 use Rattle.grouping_marks.specs.Over.{part}
 use Rattle.grouping_marks.proofs.OverLaws.{lent-part}
 use Rattle.grouping_chart.specs.Chart.{Chart}
+use Rattle.grouping_chart.specs.Settings.{baseSettings}
 use Rattle.grouping_chart.specs.declared.object.ObjectIndex.{ObjectIndex}
 use Rattle.grouping_encode.specs.Encode.{Memory, Outcome, encodeOutcome}
 use Rattle.grouping_encode.specs.declared.Encoding.{Encoding}
@@ -64,7 +65,7 @@ module _ (n spare : ℕ) (body : List ℕ) (few : Few n spare) where
   memory-is = rw (numbers-lent few, bytes-lent few, work-lent few, floats-lent few)
 
   -- each part is compared by itself, and the answers are put together
-  pub call-told : (size width : ℕ) {o : Outcome} {a b c d e f bc abc de def r : Bool} → o ≡ encodeOutcome (chart n body) (memory n spare)
+  pub call-told : (size width : ℕ) {o : Outcome} {a b c d e f bc abc de def r : Bool} → o ≡ encodeOutcome baseSettings (chart n body) (memory n spare)
       → Tells a (o .answer ≡ Done (pairAt body 0))
       → Tells b (Columns body (2 + n) size width n (o .memory .streak) (o .memory .streakPlace))
       → Tells c (Columns body (2 + n + 2 * size) size width n (o .memory .pattern) (o .memory .patternPlace))
@@ -72,9 +73,9 @@ module _ (n spare : ℕ) (body : List ℕ) (few : Few n spare) where
       → Tells e (Held (part (2 + n + 5 * size) n body) byteMark (o .memory .interval))
       → Tells f (Cleared n (o .memory .work) (o .memory .scratch))
       → bc ≡ (b && c) → abc ≡ (a && bc) → de ≡ (d && e) → def ≡ (de && f) → r ≡ (abc && def)
-      → Tells r (EncodeStored size width n body (encodeOutcome (encodeChart n body) (encodeLent n spare)))
+      → Tells r (EncodeStored size width n body (encodeOutcome baseSettings (encodeChart n body) (encodeLent n spare)))
   call-told size width {r} is ta tb tc td te tf p q u v w =
-      subst (λ (x : Outcome). Tells r (EncodeStored size width n body x)) (is ∙ (λ i. encodeOutcome (chart-is i) (memory-is i)))
+      subst (λ (x : Outcome). Tells r (EncodeStored size width n body x)) (is ∙ (λ i. encodeOutcome baseSettings (chart-is i) (memory-is i)))
       (tells-as
       (λ p. record {
         answer = p .0 .0;
@@ -100,7 +101,7 @@ module _ (h : Head) (body : List ℕ) (spare size : ℕ) (e : size ≡ columnSiz
   form z = Formed 1 1 2 (2 + 2 * h .objects + 5 * z) h (length body)
 
   abbrev stored : ℕ → Type 0
-  stored z = EncodeStored z (h .width) (h .objects) body (encodeOutcome (encodeChart (h .objects) body) (encodeLent (h .objects) spare))
+  stored z = EncodeStored z (h .width) (h .objects) body (encodeOutcome baseSettings (encodeChart (h .objects) body) (encodeLent (h .objects) spare))
 
   pub case-ill : {b : Bool} → Tells b (form size) → b ≡ false → Tells false (EncodeHolds h body spare)
   unfolding EncodeHolds

@@ -5,6 +5,7 @@ use Prim.Native.Nat.{ℕ, _+_, _*_, _≤_}
 use lib.ListN.{length, replicate}
 use Rattle.grouping_marks.specs.Over.{part}
 use Rattle.grouping_chart.specs.Chart.{Chart}
+use Rattle.grouping_chart.specs.Settings.{baseSettings}
 use Rattle.grouping_encode.specs.Encode.{Memory, Outcome, encodeOutcome}
 use Rattle.grouping_encode.specs.declared.Encoding.the-variants.{Done}
 use Rattle.vectors.specs.Case.{pairAt, columnSize, column}
@@ -52,4 +53,4 @@ unfoldable pub EncodeHolds : Head → List ℕ → ℕ → Type 0
 EncodeHolds h body spare =
     let n : ℕ = h .objects in
     let size : ℕ = columnSize n (h .width) in
-    Holds n (Formed 1 1 2 (2 + 2 * n + 5 * size) h (length body)) (EncodeStored size (h .width) n body (encodeOutcome (encodeChart n body) (encodeLent n spare)))
+    Holds n (Formed 1 1 2 (2 + 2 * n + 5 * size) h (length body)) (EncodeStored size (h .width) n body (encodeOutcome baseSettings (encodeChart n body) (encodeLent n spare)))

@@ -1,6 +1,7 @@
 // A stored case of encode.
 ghost use mathlib.Core.Path.{_≡_};
 ghost use Prim.Native.Nat.{_≤_};
+ghost use Rattle.grouping_chart.specs.Settings.{baseSettings};
 ghost use Rattle.grouping_encode.specs.Encode.{encodeOutcome};
 ghost use Rattle.grouping_encode.specs.declared.Encoding.the-variants as encoding;
 ghost use Rattle.vectors.specs.Case.{pairAt};
@@ -30,7 +31,7 @@ fn count_holds(body: &[u8], answer: Encoding) -> bool
 // Encode in slices full of marks, held to the body, each of whose columns has so many bytes.
 fn call_holds(size: usize, width: u8, n: usize, body: &[u8], spare: usize) -> bool
     requires { ⌜ EncodeRoom size n (now body) spare ⌝ }
-    ensures { λ r. ⌜ Tells r (EncodeStored size width n (now (body .entry)) (encodeOutcome (encodeChart n (now (body .entry))) (encodeLent n spare))) ⌝ }
+    ensures { λ r. ⌜ Tells r (EncodeStored size width n (now (body .entry)) (encodeOutcome baseSettings (encodeChart n (now (body .entry))) (encodeLent n spare))) ⌝ }
 {
     let room = n + spare;
     let one = &[1.0; 16384][..n];

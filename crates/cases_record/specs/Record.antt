@@ -4,6 +4,7 @@ use mathlib.Core.List.{List}
 use Prim.Native.Nat.{ℕ, _+_, _*_}
 use lib.ListN.{length, replicate}
 use lib.Ieee.{binary64, toBits, ofBits}
+use Rattle.grouping_chart.specs.Settings.{baseSettings}
 use Rattle.grouping_same_rhythm.specs.declared.own.Own.{Own}
 use Rattle.grouping_same_rhythm.specs.declared.own.Own.the-variants.{Absent, Millis}
 use Rattle.evaluator_record.specs.Calls.{Memory, Outcome, recordOutcome}
@@ -46,7 +47,7 @@ pub record RecordStored (n : ℕ) (part : List ℕ) (o : Outcome) : Type 0 where
 
 -- what the definition gives for the group and the window that are stored
 unfoldable pub recordOf : ℕ → List ℕ → List ℕ → ℕ → Outcome
-recordOf n body part spare = recordOutcome (rhythmChart n body) (pairAt part 0) (ofBits binary64 (wordAt part 10)) (recordLent n spare)
+recordOf n body part spare = recordOutcome baseSettings (rhythmChart n body) (pairAt part 0) (ofBits binary64 (wordAt part 10)) (recordLent n spare)
 
 -- a record with this head and these bytes, of the chart of a rhythm case
 unfoldable pub RecordHolds : Head → List ℕ → Head → List ℕ → ℕ → Type 0

@@ -6,6 +6,7 @@ use lib.ListN.{length, replicate}
 use lib.Ieee.{Float}
 use Rattle.grouping_marks.specs.Over.{over, part}
 use Rattle.grouping_chart.specs.Chart.{Chart}
+use Rattle.grouping_chart.specs.Settings.{baseSettings}
 use Rattle.grouping_rhythm.specs.Rhythm.{Memory, Outcome, rhythmOutcome}
 use Rattle.grouping_rhythm.specs.declared.Grouping.the-variants.{Done}
 use Rattle.vectors.specs.Case.{pairAt}
@@ -59,4 +60,4 @@ RhythmForm h body = Formed 4 2 2 (4 + 21 * h .objects) h (length body)
 unfoldable pub RhythmHolds : Head → List ℕ → ℕ → Type 0
 RhythmHolds h body spare =
     let n : ℕ = h .objects in
-    Holds n (RhythmForm h body) (RhythmStored n body (rhythmOutcome (rhythmChart n body) (rhythmLent n spare)))
+    Holds n (RhythmForm h body) (RhythmStored n body (rhythmOutcome baseSettings (rhythmChart n body) (rhythmLent n spare)))

@@ -1,6 +1,7 @@
 // A stored case of rhythm.
 ghost use mathlib.Core.Path.{_≡_};
 ghost use Prim.Native.Nat.{_≤_};
+ghost use Rattle.grouping_chart.specs.Settings.{baseSettings};
 ghost use Rattle.grouping_rhythm.specs.Rhythm.{rhythmOutcome};
 ghost use Rattle.grouping_rhythm.specs.declared.Grouping.the-variants as grouping;
 ghost use Rattle.vectors.specs.Case.{pairAt};
@@ -42,7 +43,7 @@ fn counts_hold(body: &[u8], answer: Grouping) -> bool
 // Rhythm in slices full of marks, held to the body.
 fn call_holds(n: usize, body: &[u8], spare: usize) -> bool
     requires { ⌜ RhythmRoom n (now body) spare ⌝ }
-    ensures { λ r. ⌜ Tells r (RhythmStored n (now (body .entry)) (rhythmOutcome (rhythmChart n (now (body .entry))) (rhythmLent n spare))) ⌝ }
+    ensures { λ r. ⌜ Tells r (RhythmStored n (now (body .entry)) (rhythmOutcome baseSettings (rhythmChart n (now (body .entry))) (rhythmLent n spare))) ⌝ }
 {
     let room = n + spare;
     let one = &[1.0; 16384][..n];
