@@ -12,7 +12,7 @@ abbrev μ-loop : tie.MeasureT-loop
 μ-loop fd call body₀ r₀ body r = r .left
 
 start-requires : tie.Need-start-requires Inv-loop μ-loop
-start-requires c κs = omega arith
+start-requires c κs = tt
 
 loop-holds : tie.Need-loop-holds Inv-loop μ-loop
 loop-holds c = omega arith
@@ -21,19 +21,19 @@ slice-aggregate-next-case : tie.Need-slice-aggregate-next-case Inv-loop μ-loop
 slice-aggregate-next-case c = omega arith
 
 next-case-requires : tie.Need-next-case-requires Inv-loop μ-loop
-next-case-requires c κs = omega arith
+next-case-requires c κs = tt
 
 after-requires : tie.Need-after-requires Inv-loop μ-loop
-after-requires c κs = omega arith
+after-requires c κs = c .before .before .before .if1 .taken
 
 loop-less : tie.Need-loop-less Inv-loop μ-loop
-loop-less c = omega arith
+loop-less c = c .after .ensures .fewer
 
 loop-again : tie.Need-loop-again Inv-loop μ-loop
-loop-again c = omega arith
+loop-again c = omega (arith, c .before .body2, c .before .before .before .before .before .before .loop .inv)
 
 returns : tie.Need-returns Inv-loop μ-loop
-returns c = omega arith
+returns c = tt
 
 pub replay-all-spec : {M : Type 1} → statement M
 replay-all-spec =
