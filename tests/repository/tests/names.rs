@@ -18,7 +18,7 @@ fn text_of(document: &str) -> String {
 
 /// What is made when it is needed, or lies beside the repository.
 fn is_elsewhere(path: &str) -> bool {
-    path.starts_with("target/") || path.starts_with("../")
+    path.split('/').any(|part| part == "target" || part == "..")
 }
 
 fn path_fault(path: &str) -> Option<String> {
