@@ -4,7 +4,7 @@ set -eu
 cd "$(dirname "$0")"
 
 # rt runs this many checks at a time and waits for all of them before it starts the next: with more than there are processors none stands idle
-export RT_JOBS=4
+export RT_JOBS=8
 
 rt fmt --check
 (cd tests/repository && cargo test --release --offline --quiet)
