@@ -12,7 +12,7 @@ use Rattle.grouping_color.specs.MonoStreak.{continues, opensStreak, streakMarks
 use Rattle.grouping_color.specs.AlternatingMonoPattern.{opensPattern, patternMarks, coupledAt, coupled}
 use Rattle.grouping_color.specs.RepeatingHitPatterns.{stageAfter, opensHit, hitMarks, secondAt, secondLengths, matches, nearestMatch, intervalAt, intervals}
 use Rattle.grouping_color.specs.Preprocessor.{patternsOpen, firstLengths, streakCounts, patternTypes, coupledPatterns, hitsOpen, hitSizes, hitFirsts, hitSeconds, hitIntervals, patternOf, hitOf, intervalOf}
-use Rattle.evaluator_calls.specs.Colour.{isFirst}
+use Rattle.evaluator_values.specs.Colour.{isFirst}
 
 abbrev tail : List ℕ
 tail = 0 ∷ 1 ∷ 0 ∷ 0 ∷ 1 ∷ []

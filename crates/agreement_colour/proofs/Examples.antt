@@ -16,7 +16,7 @@ use Rattle.grouping_color.specs.MonoStreak.{continues, opensStreak, streakMarks
 use Rattle.grouping_color.specs.AlternatingMonoPattern.{opensPattern, patternMarks, coupledAt, coupled}
 use Rattle.grouping_color.specs.RepeatingHitPatterns.{stageAfter, opensHit, hitMarks}
 use Rattle.grouping_color.specs.Preprocessor.{patternsOpen, firstLengths, streakCounts, patternTypes, coupledPatterns, hitsOpen, patternOf, hitOf}
-use Rattle.evaluator_calls.specs.Colour.{colourAt}
+use Rattle.evaluator_values.specs.Colour.{colourAt}
 use Rattle.evaluator_calls.specs.Stretch.{meanOf}
 use Rattle.agreement.specs.CommonTail.{CommonTail}
 use Rattle.agreement.specs.Landmark.{Landmark}

@@ -6,7 +6,7 @@ use native.Mathlib.Omega.{arith}
 use lib.ListN.{length, getD}
 use lib.Ieee.{Float}
 use Rattle.grouping_color.specs.Preprocessor.{hitOf}
-use Rattle.evaluator_calls.specs.Colour.{colourAt}
+use Rattle.evaluator_values.specs.Colour.{colourAt}
 use Rattle.evaluator_calls.specs.Stretch.{Stretch, meanOf, meanTenths}
 use Rattle.evaluator_calls.proofs.AlikeLaws.{mean-alike, tenths-alike}
 use Rattle.agreement.specs.CommonTail.{Counterparts, CommonTail}

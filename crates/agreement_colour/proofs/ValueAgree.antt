@@ -8,9 +8,9 @@ use lib.ListN.{length, getD}
 use lib.Ieee.{Float, nan}
 use Rattle.grouping_color.specs.MonoStreak.{streakOf}
 use Rattle.grouping_color.specs.Preprocessor.{patternOf, hitOf}
-use Rattle.evaluator_calls.specs.Colour.{isFirst, colourAt}
-use Rattle.evaluator_calls.proofs.LookLaws.{change-first}
-use Rattle.evaluator_calls.proofs.AlikeLaws.{LookedAlike, colour-alike}
+use Rattle.evaluator_values.specs.Colour.{isFirst, colourAt}
+use Rattle.evaluator_values.proofs.LookLaws.{change-first}
+use Rattle.evaluator_values.proofs.AlikeLaws.{LookedAlike, colour-alike}
 use Rattle.agreement.specs.CommonTail.{CommonTail}
 use Rattle.agreement.specs.Agreement.{FirstAlike, Agree}
 use Rattle.agreement.proofs.TailLaws.{same-at}

@@ -9,9 +9,9 @@ use Rattle.grouping_chart.specs.Chart.{Chart, size}
 use Rattle.grouping_chart.specs.Settings.{Settings}
 use Rattle.grouping_encode.specs.Encode as encode
 use Rattle.grouping_encode.specs.Encode.{encodeOutcome}
-use Rattle.evaluator_calls.specs.Colour.{isFirst}
+use Rattle.evaluator_values.specs.Colour.{isFirst, valuesOf}
 use Rattle.evaluator_calls.specs.Stretch.{Stretch}
-use Rattle.evaluator_calls.specs.Calls.{Memory, valuesOf, chartMean, chartTenths, colourOutcome, stretchOutcome}
+use Rattle.evaluator_calls.specs.Calls.{Memory, chartMean, chartTenths, colourOutcome, stretchOutcome}
 use Rattle.evaluator_calls.specs.declared.Stretching.the-variants.{Done}
 use Rattle.agreement.specs.CommonTail.{Counterparts, lastOf}
 use Rattle.agreement_colour.specs.ColourClaim.{Settled}

@@ -10,7 +10,7 @@ use mathlib.Core.List.{List}
 use lib.ListN.{length, getD}
 use lib.Ieee.{Float}
 use Rattle.grouping_color.specs.Preprocessor.{hitOf, intervalOf}
-use Rattle.evaluator_calls.specs.Colour.{isFirst, colourAt}
+use Rattle.evaluator_values.specs.Colour.{isFirst, colourAt}
 use Rattle.evaluator_calls.specs.Stretch.{Stretch, meanOf, meanTenths}
 use Rattle.agreement.specs.CommonTail.{Counterparts}
 

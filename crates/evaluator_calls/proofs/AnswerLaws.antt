@@ -8,12 +8,13 @@ use Rattle.grouping_marks.proofs.PieceLaws.{getD-over}
 use Rattle.grouping_chart.specs.Chart.{Chart, size}
 use Rattle.grouping_chart.specs.Settings.{Settings}
 use Rattle.grouping_chart.specs.declared.chart.Verdict.the-variants.{Accepted}
+use Rattle.evaluator_values.specs.Colour.{valuesOf}
+use Rattle.evaluator_values.proofs.LookLaws.{length-values}
 use Rattle.evaluator_calls.specs.declared.Stretching.{Stretching}
 use Rattle.evaluator_calls.specs.declared.Stretching.the-variants.{Done}
 use Rattle.evaluator_calls.specs.Stretch.{Stretch}
-use Rattle.evaluator_calls.specs.Calls.{Memory, Outcome, valuesOf, filled, chartMean, chartTenths, colourOutcome, stretchOutcome}
+use Rattle.evaluator_calls.specs.Calls.{Memory, Outcome, filled, chartMean, chartTenths, colourOutcome, stretchOutcome}
 use Rattle.evaluator_calls.proofs.CallsLaws.{stretch-accepted, judged, colour-done, stretch-done}
-use Rattle.evaluator_calls.proofs.LookLaws.{length-values}
 
 module _ (s : Settings) (c : Chart) (lent : Memory) (accepted : judged s c lent ≡ Accepted) where
   pub value-written : (i : ℕ) → i < size c → getD (colourOutcome s c lent .memory .value) i nan ≡ getD (valuesOf s c) i nan

@@ -1,4 +1,4 @@
--- Sizes: every colour value of an accepted chart, and the mean of every stretch of it, is finite, no NaN, and at most `largestColour` in size.
+-- Sizes: the mean of every stretch of an accepted chart is finite, no NaN, and at most `largestColour` in size.
 -- A sum of m values is at most m times that, so divided by m it is at most that again.
 use mathlib.Core.Path.{_≡_, sym, ap, _∙_, subst}
 use mathlib.Core.Bool.{not}
@@ -8,8 +8,8 @@ use native.Mathlib.Nat.{le-trans, le-of-eq, zero-add, suc-mul, add-assoc, add-co
 use native.Mathlib.Omega.{arith}
 use lib.Dec.{T, leb→le, lit≤}
 use lib.ListN.{length, getD}
-use lib.Ieee.{Float, nan, binary64, fits, isNan, le, add, mul}
-use lib.Ieee.Fits.{mul-fits, div-fits}
+use lib.Ieee.{Float, nan, binary64, isNan, add}
+use lib.Ieee.Fits.{div-fits}
 use Rattle.numeric.specs.Constants as constant
 use Rattle.numeric.specs.Tenths.{InTenthsRange}
 use Rattle.numeric.proofs.Values.{Number, number-no-nan}
@@ -18,21 +18,13 @@ use Rattle.numeric.proofs.Bounded.{Bounded, bounded-more, bounded-number, bound
 use Rattle.grouping_chart.specs.Chart.{Chart, size}
 use Rattle.grouping_chart.specs.Refusal.{verdict}
 use Rattle.grouping_chart.specs.declared.chart.Verdict.the-variants.{Accepted}
-use Rattle.grouping_chart.proofs.AcceptedLaws.{GoodChart, accepted-good}
-use Rattle.grouping_chart.proofs.RangeLaws.{ratio-range}
+use Rattle.grouping_chart.proofs.AcceptedLaws.{accepted-good}
 use Rattle.grouping_chart.specs.Settings.{Settings}
-use Rattle.evaluator_color.specs.Color.{objectSum}
-use Rattle.evaluator_color.specs.RatioPenalty.{ratioPenalty}
-use Rattle.evaluator_color.proofs.BoundLaws as formulas
-use Rattle.evaluator_color.proofs.BoundLaws.{lowest, highest}
-use Rattle.evaluator_calls.specs.Colour.{lookedAt, colourAt}
+use Rattle.evaluator_values.proofs.LookLaws.{value-of}
+use Rattle.evaluator_values.proofs.BoundLaws.{largestColour, value-bounded}
 use Rattle.evaluator_calls.specs.Stretch.{Stretch, stretchValues, sumFrom, averageOf, meanOf}
-use Rattle.evaluator_calls.specs.Calls.{valuesOf, chartMean}
-use Rattle.evaluator_calls.proofs.LookLaws.{value-of, length-stretch, stretch-value}
-
--- 5 * (2 ^ 24 + 1): an object's sum times its penalty
-abbrev pub largestColour : ℕ
-largestColour = 83886085
+use Rattle.evaluator_calls.specs.Calls.{chartMean}
+use Rattle.evaluator_calls.proofs.StretchValues.{length-stretch, stretch-value}
 
 -- ---- a sum from left to right
 sum-bounded : (B C : ℕ) (sum : Float) (xs : List Float) → C + length xs * B ≤ 2 ^ 53 → Bounded sum C → ((i : ℕ) → i < length xs → Bounded (getD xs i nan) B)
@@ -60,64 +52,38 @@ average-bounded B xs some few k l g =
     (subst (λ (n : ℕ). Bounded (sumFrom constant.zero xs) n) (zero-add (length xs * B))
     (sum-bounded B 0 constant.zero xs (le-trans (le-of-eq (zero-add (length xs * B))) l) (leb→le 0 0 tt) g))
 
--- ---- the values of an accepted chart
-module _ (s : Settings) (c : Chart) (beside : ℕ) (accepted : verdict c beside ≡ Accepted) where
-  good : GoodChart c beside
-  good = accepted-good c beside accepted
+-- ---- the mean of a stretch of an accepted chart
+module _ (s : Settings) (c : Chart) (beside : ℕ) (accepted : verdict c beside ≡ Accepted) (a b : ℕ) (x : Stretch (c .kinds) a b) where
+  -- the values that the mean is made of: some, few, and each bounded
+  abbrev made : List Float
+  made = stretchValues (s .limit) (s .tolerance) (c .kinds) (c .ratios) a b
 
-  value-is : (i : ℕ) → i < size c
-      → getD (valuesOf s c) i nan ≡ mul binary64 (objectSum (lookedAt (s .limit) (c .kinds) i)) (ratioPenalty (s .tolerance) i (getD (c .ratios) i nan) (getD (c .ratios) (i - 2) nan))
-  unfolding colourAt
-  value-is i h = value-of (s .limit) (s .tolerance) (c .kinds) (c .ratios) i h
+  length-made : length made ≡ b - a
+  length-made = length-stretch (s .limit) (s .tolerance) (c .kinds) (c .ratios) a b x
 
-  ratio-at : (i : ℕ) → i < size c → T (le lowest (getD (c .ratios) i nan)) × T (le (getD (c .ratios) i nan) highest)
-  ratio-at i h = ratio-range (getD (c .ratios) i nan) (good .objects i nan h .ratio)
+  made-some : 0 < length made
+  made-some = omega (arith, length-made, x .some)
 
-  pub value-bounded : (i : ℕ) → i < size c → Bounded (getD (valuesOf s c) i nan) largestColour
-  value-bounded i h =
-      let r = ratio-at i h in
-      let p = ratio-at (i - 2) (omega arith) in
-      subst (λ (x : Float). Bounded x largestColour) (sym (value-is i h))
-      (formulas.colour-bounded (s .tolerance) i (getD (c .ratios) i nan) (getD (c .ratios) (i - 2) nan) (r .0) (r .1) (p .0) (p .1) (lookedAt (s .limit) (c .kinds) i))
+  made-few : length made ≤ 16384
+  made-few = omega (arith, length-made, x .inside, accepted-good c beside accepted .few)
 
-  pub value-number : (i : ℕ) → i < size c → Number (getD (valuesOf s c) i nan)
-  value-number i h =
-      bounded-number (getD (valuesOf s c) i nan) largestColour (subst (λ (x : Float). T (fits binary64 x)) (sym (value-is i h)) (mul-fits binary64 _ _)) (value-bounded i h)
+  made-bounded : (i : ℕ) → i < length made → Bounded (getD made i nan) largestColour
+  made-bounded i h =
+      let l : i < b - a = omega (arith, length-made) in
+      let k : a + i < size c = omega (arith, x .inside) in
+      subst (λ (x : Float). Bounded x largestColour)
+      (value-of (s .limit) (s .tolerance) (c .kinds) (c .ratios) (a + i) k ∙ sym (stretch-value (s .limit) (s .tolerance) (c .kinds) (c .ratios) a b x i l)) (value-bounded s c beside accepted (a + i) k)
 
-  pub value-no-nan : (i : ℕ) → i < size c → T (not (isNan (getD (valuesOf s c) i nan)))
-  value-no-nan i h = number-no-nan (value-number i h)
+  pub mean-bounded : Bounded (chartMean s c a b) largestColour
+  unfolding meanOf
+  mean-bounded = average-bounded largestColour made made-some (omega (arith, made-few)) (lit≤ tt) (omega (arith, made-few)) made-bounded
 
-  module _ (a b : ℕ) (x : Stretch (c .kinds) a b) where
-    -- the values that the mean is made of: some, few, and each bounded
-    abbrev made : List Float
-    made = stretchValues (s .limit) (s .tolerance) (c .kinds) (c .ratios) a b
+  pub mean-number : Number (chartMean s c a b)
+  unfolding meanOf averageOf
+  mean-number = bounded-number (chartMean s c a b) largestColour (div-fits binary64 _ _) mean-bounded
 
-    length-made : length made ≡ b - a
-    length-made = length-stretch (s .limit) (s .tolerance) (c .kinds) (c .ratios) a b x
+  pub mean-no-nan : T (not (isNan (chartMean s c a b)))
+  mean-no-nan = number-no-nan mean-number
 
-    made-some : 0 < length made
-    made-some = omega (arith, length-made, x .some)
-
-    made-few : length made ≤ 16384
-    made-few = omega (arith, length-made, x .inside, good .few)
-
-    made-bounded : (i : ℕ) → i < length made → Bounded (getD made i nan) largestColour
-    made-bounded i h =
-        let l : i < b - a = omega (arith, length-made) in
-        let k : a + i < size c = omega (arith, x .inside) in
-        subst (λ (x : Float). Bounded x largestColour)
-        (value-of (s .limit) (s .tolerance) (c .kinds) (c .ratios) (a + i) k ∙ sym (stretch-value (s .limit) (s .tolerance) (c .kinds) (c .ratios) a b x i l)) (value-bounded (a + i) k)
-
-    pub mean-bounded : Bounded (chartMean s c a b) largestColour
-    unfolding meanOf
-    mean-bounded = average-bounded largestColour made made-some (omega (arith, made-few)) (lit≤ tt) (omega (arith, made-few)) made-bounded
-
-    pub mean-number : Number (chartMean s c a b)
-    unfolding meanOf averageOf
-    mean-number = bounded-number (chartMean s c a b) largestColour (div-fits binary64 _ _) mean-bounded
-
-    pub mean-no-nan : T (not (isNan (chartMean s c a b)))
-    mean-no-nan = number-no-nan mean-number
-
-    pub mean-tenths : InTenthsRange (chartMean s c a b)
-    mean-tenths = bounded-tenths (chartMean s c a b) largestColour (lit≤ tt) mean-bounded
+  pub mean-tenths : InTenthsRange (chartMean s c a b)
+  mean-tenths = bounded-tenths (chartMean s c a b) largestColour (lit≤ tt) mean-bounded

@@ -24,11 +24,11 @@ use Rattle.grouping_color.specs.RepeatingHitPatterns.{stageAfter, opensHit, hit
 use Rattle.grouping_color.specs.Preprocessor.{patternsOpen, firstLengths, streakCounts, patternTypes, coupledPatterns, hitsOpen, hitCount, hitSizes, hitFirsts, hitSeconds, hitIntervals, streakPlaceOf, patternOf, patternPlaceOf, hitOf, intervalOf}
 use Rattle.evaluator_color.specs.Color.{hitValue, altValue, monoValue, addIf, objectSum}
 use Rattle.evaluator_color.specs.RatioPenalty.{lowered, ratioPenalty}
+use Rattle.evaluator_values.specs.Colour.{isFirst, lookedAt, colourAt, colourValues}
 use Rattle.evaluator_calls.specs.declared.Colouring.{Colouring}
 use Rattle.evaluator_calls.specs.declared.Colouring.the-variants as colouring
 use Rattle.evaluator_calls.specs.declared.Stretching.{Stretching}
 use Rattle.evaluator_calls.specs.declared.Stretching.the-variants as stretching
-use Rattle.evaluator_calls.specs.Colour.{isFirst, lookedAt, colourAt, colourValues}
 use Rattle.evaluator_calls.specs.Stretch.{stretchRefusal, stretchValues, sumFrom, averageOf, meanOf, meanTenths}
 use Rattle.evaluator_calls.specs.Calls.{Memory, Outcome, beside, filled, colourBy, colourOutcome, stretchVerdict, stretchBy, stretchOutcome}
 

@@ -1,10 +1,10 @@
 -- The laws of this crate. Those that are public are for the crates above, or are results of their own; the others serve the proofs of this crate alone.
-pub mod LookLaws
+pub mod StretchValues
 pub mod CallsLaws
 pub mod BoundLaws
 pub mod AlikeLaws
 pub mod AnswerLaws
-mod TablesLaws
+mod ColouredLaws
 mod StretchLaws
 mod StretchCases
 mod Examples

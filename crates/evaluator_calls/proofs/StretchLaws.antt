@@ -12,11 +12,12 @@ use Rattle.grouping_marks.proofs.PieceLaws.{getD-over}
 use Rattle.grouping_marks.proofs.OverLaws.{length-over, length-part, getD-part}
 use Rattle.grouping_chart.specs.Chart.{Chart, size}
 use Rattle.grouping_chart.specs.Settings.{Settings, Permitted}
+use Rattle.evaluator_values.specs.Colour.{valuesOf}
+use Rattle.evaluator_values.proofs.LookLaws.{length-values}
 use Rattle.evaluator_calls.specs.Stretch.{stretchValues, averageOf, meanOf}
-use Rattle.evaluator_calls.specs.Calls.{Memory, beside, valuesOf, chartMean}
+use Rattle.evaluator_calls.specs.Calls.{Memory, beside, chartMean}
 use Rattle.evaluator_calls.specs.Passes.{Coloured, StretchRoom}
 use Rattle.evaluator_calls.proofs.CallsLaws.{Within, judged, chart-room}
-use Rattle.evaluator_calls.proofs.LookLaws.{length-values}
 use Rattle.evaluator_calls.proofs.BoundLaws.{mean-tenths}
 
 -- a part that lies in what was written

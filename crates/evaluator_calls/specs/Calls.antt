@@ -13,7 +13,7 @@ use Rattle.grouping_chart.specs.Room.{anyShort, shortRefusal}
 use Rattle.grouping_chart.specs.declared.chart.Verdict.{Verdict}
 use Rattle.grouping_chart.specs.declared.chart.Verdict.the-variants.{Accepted, Refused}
 use Rattle.grouping_chart.specs.Settings.{Settings}
-use Rattle.evaluator_calls.specs.Colour.{colourValues}
+use Rattle.evaluator_values.specs.Colour.{valuesOf}
 use Rattle.evaluator_calls.specs.Stretch.{stretchRefusal, meanOf, meanTenths}
 use Rattle.evaluator_calls.specs.declared.Colouring.{Colouring}
 use Rattle.evaluator_calls.specs.declared.Colouring.the-variants as colouring
@@ -33,10 +33,6 @@ pub record Outcome (Answer : Type 0) : Type 0 where
 -- the number of what is refused beside the chart, or 0
 unfoldable pub beside : ℕ → Memory → ℕ
 beside n m = shortRefusal (anyShort n (length (m .value) ∷ [])) n (length (m .work)) (length (m .scratch))
-
--- the chart's colour values
-abbrev pub valuesOf : Settings → Chart → List Float
-valuesOf s c = colourValues (s .limit) (s .tolerance) (c .kinds) (c .ratios)
 
 -- the memory after an accepted call
 unfoldable pub filled : Settings → Chart → Memory → Memory

@@ -1,5 +1,4 @@
 -- The definitions that this crate's promises and laws cite.
-pub mod Colour
 pub mod Stretch
 pub mod Calls
 pub mod Passes

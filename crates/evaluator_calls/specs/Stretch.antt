@@ -10,7 +10,7 @@ use lib.Ieee.{Float, binary64, add, div, ofInt}
 use Rattle.numeric.specs.Constants.{zero}
 use Rattle.numeric.specs.Tenths.{tenthsOf}
 use Rattle.grouping_marks.specs.Over.{part}
-use Rattle.evaluator_calls.specs.Colour.{colourValues}
+use Rattle.evaluator_values.specs.Colour.{colourValues}
 
 -- the number of what is refused of a stretch, or 0: "9 stretch with a ≥ b or b > n"
 unfoldable pub stretchRefusal : List ℕ → ℕ → ℕ → ℕ
@@ -30,7 +30,7 @@ unfoldable pub sumFrom : Float → List Float → Float
 sumFrom sum [] = sum
 sumFrom sum (x ∷ xs) = sumFrom (add binary64 sum x) xs
 
--- divided by how many there are, which in a stretch is b − a: `length-stretch`, in proofs/LookLaws.antt
+-- divided by how many there are, which in a stretch is b − a: `length-stretch`, in proofs/StretchValues.antt
 unfoldable pub averageOf : List Float → Float
 averageOf values = div binary64 (sumFrom zero values) (ofInt binary64 (pos (length values)))
 

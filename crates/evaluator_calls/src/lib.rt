@@ -14,7 +14,6 @@ use grouping_chart::settings::TOLERANCE;
 use grouping_marks::fill;
 
 pub mod mean;
-pub mod tables;
 
 // The values are filled, or the first refusal that applies and its place.
 pub enum Colouring {
@@ -44,7 +43,7 @@ fn fill_chart(
     let n = kind.len();
     let k = grouping_preprocessor::encode_colors(kind, work, limit);
     let table = numeric::logistic::table();
-    tables::fill_values(&table, kind, ratio, work, k, tolerance, value);
+    evaluator_values::fill_values(&table, kind, ratio, work, k, tolerance, value);
     fill::clear(work, 8 * n);
     fill::clear_floats(scratch, n);
 }

@@ -24,7 +24,7 @@ use Rattle.grouping_normalizer.specs.Ordered.{insert, ordered}
 use Rattle.grouping_normalizer.specs.Normalizer.{alike, unrepeated, distinct, setsAfter, sets, holds, middle, middleOf, normalOf, normalized}
 use Rattle.evaluator_color.specs.Color.{hitValue, altValue, monoValue, addIf, objectSum}
 use Rattle.evaluator_color.specs.RatioPenalty as ratio
-use Rattle.evaluator_calls.specs.Colour.{isFirst, lookedAt, colourAt, colourValues}
+use Rattle.evaluator_values.specs.Colour.{isFirst, lookedAt, colourAt, colourValues}
 use Rattle.evaluator_calls.specs.Calls as calls
 use Rattle.evaluator_rhythm.specs.RepeatedInterval.{present, similar, similarTo, somePair, walkPenalty}
 use Rattle.examples.specs.Question.{whole, bitsOf, chart, encodeMemory, colourMemory, encodeAnswer, colourAnswer, encodeShown, colourShown, millis, answer}

@@ -1,6 +1,7 @@
 -- `fill_chart` meets its contract: the values by the encoder's tables, which are then cleared.
-use Rattle.evaluator_calls.proofs.TablesLaws.{tabled, coloured}
 use borrow.Author.Needs.{needs}
+use Rattle.evaluator_values.proofs.TablesLaws.{tabled}
+use Rattle.evaluator_calls.proofs.ColouredLaws.{coloured}
 use Rattle.evaluator_calls.proofs.fill_chart.Statement.{statement}
 use Rattle.evaluator_calls.proofs.fill_chart.Tie as tie
 

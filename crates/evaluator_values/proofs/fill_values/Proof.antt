@@ -5,10 +5,10 @@ use native.Mathlib.Omega.{arith}
 use lib.ListN.{length}
 use lib.Ieee.{nan}
 use Rattle.grouping_marks.proofs.FillLaws.{Fill, fill-start-front, fill-turn-front, fill-end-front}
-use Rattle.evaluator_calls.specs.Colour.{colourValues}
-use Rattle.evaluator_calls.proofs.LookLaws.{length-values, value-of}
-use Rattle.evaluator_calls.proofs.tables.fill_values.Statement.{statement}
-use Rattle.evaluator_calls.proofs.tables.fill_values.Tie as tie
+use Rattle.evaluator_values.specs.Colour.{colourValues}
+use Rattle.evaluator_values.proofs.LookLaws.{length-values, value-of}
+use Rattle.evaluator_values.proofs.fill_values.Statement.{statement}
+use Rattle.evaluator_values.proofs.fill_values.Tie as tie
 
 abbrev Inv-loop : tie.InvT-loop
 Inv-loop table kind ratio w k tolerance value₀ i₀ value i = Fill (colourValues (k .limit) tolerance kind ratio) (length kind) 0 value₀ value i

@@ -2,10 +2,10 @@
 use Prim.Native.Nat.{_+_, _*_}
 use native.Mathlib.Omega.{arith}
 use lib.ListN.{length, getD}
-use Rattle.evaluator_calls.proofs.TablesLaws.{streak-in, pattern-in, numbers-are}
+use Rattle.evaluator_values.proofs.TablesLaws.{streak-in, pattern-in, numbers-are}
 use borrow.Author.Needs.{needs}
-use Rattle.evaluator_calls.proofs.tables.numbers_at.Statement.{statement}
-use Rattle.evaluator_calls.proofs.tables.numbers_at.Tie as tie
+use Rattle.evaluator_values.proofs.numbers_at.Statement.{statement}
+use Rattle.evaluator_values.proofs.numbers_at.Tie as tie
 
 mul-streak : tie.Need-mul-streak
 mul-streak c = search needs

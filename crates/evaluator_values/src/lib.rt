@@ -4,8 +4,8 @@ ghost use Prim.Native.Nat.{_-_, _<_, _≤_};
 ghost use lib.ListN.{length, getD};
 ghost use lib.Ieee.{nan};
 ghost use Rattle.grouping_marks.specs.Over.{over};
-ghost use Rattle.evaluator_calls.specs.Colour.{colourAt, colourValues};
-ghost use Rattle.evaluator_calls.specs.Passes.{ObjectIn, NumbersAt, LookedIs, Lent};
+ghost use Rattle.evaluator_values.specs.Colour.{colourAt, colourValues};
+ghost use Rattle.evaluator_values.specs.Passes.{ObjectIn, NumbersAt, LookedIs, Lent};
 use evaluator_color::Looked;
 use grouping_preprocessor::Counts;
 

@@ -3,11 +3,11 @@ use mathlib.Core.Path.{ap, _∙_}
 use lib.Ieee.{binary64, mul}
 use Rattle.evaluator_color.specs.Color.{objectSum}
 use Rattle.evaluator_color.specs.RatioPenalty.{ratioPenalty}
-use Rattle.evaluator_calls.specs.Colour.{colourAt}
-use Rattle.evaluator_calls.proofs.LookLaws.{looked-is}
+use Rattle.evaluator_values.specs.Colour.{colourAt}
+use Rattle.evaluator_values.proofs.LookLaws.{looked-is}
 use borrow.Author.Needs.{needs}
-use Rattle.evaluator_calls.proofs.tables.value_at.Statement.{statement}
-use Rattle.evaluator_calls.proofs.tables.value_at.Tie as tie
+use Rattle.evaluator_values.proofs.value_at.Statement.{statement}
+use Rattle.evaluator_values.proofs.value_at.Tie as tie
 
 look-requires : tie.Need-look-requires
 look-requires c κs = search needs

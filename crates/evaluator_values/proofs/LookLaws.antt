@@ -1,19 +1,16 @@
--- What the evaluator looks at, put together from what was looked up; and the list of values, of a chart and of a stretch, element by element.
+-- What the evaluator looks at, put together from what was looked up; and the list of values, element by element.
 use mathlib.Core.Path.{_≡_, sym, ap, _∙_}
 use mathlib.Core.Bool.{Bool, true, cond, not}
 use mathlib.Core.List.{List}
-use Prim.Native.Nat.{ℕ, _+_, _-_, _<_}
-use native.Mathlib.Omega.{arith}
+use Prim.Native.Nat.{ℕ, _-_, _<_}
 use borrow.Author.Tests.{eq-eqb, ne-eqb}
 use lib.Dec.{eqb}
 use lib.ListN.{length, getD}
 use lib.Ieee.{Float, nan}
-use Rattle.grouping_marks.proofs.OverLaws.{length-part, getD-part}
 use Rattle.grouping_marks.proofs.FillLaws.{length-tabulate, getD-tabulate}
 use Rattle.evaluator_color.specs.declared.Looked.{Looked}
-use Rattle.evaluator_calls.specs.Colour.{isFirst, lookedAt, colourAt, colourValues}
-use Rattle.evaluator_calls.specs.Stretch.{Stretch, stretchValues}
-use Rattle.evaluator_calls.specs.Passes.{LookedIs}
+use Rattle.evaluator_values.specs.Colour.{isFirst, lookedAt, colourAt, colourValues}
+use Rattle.evaluator_values.specs.Passes.{LookedIs}
 
 -- ---- the first object of a group
 pub start-first : (numbers : List ℕ) (i : ℕ) → i ≡ 0 → true ≡ isFirst numbers i
@@ -38,14 +35,3 @@ module _ (limit : ℕ) (tolerance : Float) (kinds : List ℕ) (ratios : List Flo
   pub value-of : (i : ℕ) → i < length kinds → getD (colourValues limit tolerance kinds ratios) i nan ≡ colourAt limit tolerance kinds ratios i
   unfolding colourValues
   value-of i h = getD-tabulate (colourAt limit tolerance kinds ratios) (length kinds) i nan h
-
-  -- ---- of a stretch
-  module _ (a b : ℕ) (x : Stretch kinds a b) where
-    -- so the mean is divided by b − a
-    pub length-stretch : length (stretchValues limit tolerance kinds ratios a b) ≡ b - a
-    unfolding stretchValues
-    length-stretch = length-part a (b - a) (colourValues limit tolerance kinds ratios) (omega (arith, x .some, x .inside, length-values))
-
-    pub stretch-value : (i : ℕ) → i < b - a → getD (stretchValues limit tolerance kinds ratios a b) i nan ≡ colourAt limit tolerance kinds ratios (a + i)
-    unfolding stretchValues
-    stretch-value i h = getD-part a (b - a) (colourValues limit tolerance kinds ratios) i nan h ∙ value-of (a + i) (omega (arith, x .inside))

@@ -2,11 +2,11 @@
 use Prim.Native.Nat.{_+_, _*_}
 use native.Mathlib.Omega.{arith}
 use lib.ListN.{length}
-use Rattle.evaluator_calls.proofs.TablesLaws.{interval-is, outer-is, inner-is}
-use Rattle.evaluator_calls.proofs.LookLaws.{start-first, change-first}
+use Rattle.evaluator_values.proofs.TablesLaws.{interval-is, outer-is, inner-is}
+use Rattle.evaluator_values.proofs.LookLaws.{start-first, change-first}
 use borrow.Author.Needs.{needs}
-use Rattle.evaluator_calls.proofs.tables.look.Statement.{statement}
-use Rattle.evaluator_calls.proofs.tables.look.Tie as tie
+use Rattle.evaluator_values.proofs.look.Statement.{statement}
+use Rattle.evaluator_values.proofs.look.Tie as tie
 
 numbers-at-requires : tie.Need-numbers-at-requires
 numbers-at-requires c κs = search needs

@@ -5,8 +5,8 @@ use native.Mathlib.Omega.{arith}
 use lib.ListN.{getD}
 use lib.Ieee.{nan}
 use borrow.Author.Needs.{needs}
-use Rattle.evaluator_calls.proofs.tables.earlier_ratio.Statement.{statement}
-use Rattle.evaluator_calls.proofs.tables.earlier_ratio.Tie as tie
+use Rattle.evaluator_values.proofs.earlier_ratio.Statement.{statement}
+use Rattle.evaluator_values.proofs.earlier_ratio.Tie as tie
 
 shared-slice-read-result : tie.Need-shared-slice-read-result
 shared-slice-read-result c = search needs

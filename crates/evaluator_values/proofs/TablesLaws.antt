@@ -3,20 +3,18 @@ use mathlib.Core.Path.{_≡_, refl, sym, ap, _∙_}
 use mathlib.Core.List.{List}
 use Prim.Native.Nat.{ℕ, _+_, _*_, _<_}
 use native.Mathlib.Omega.{arith}
-use lib.ListN.{length, getD, replicate, length-replicate}
-use lib.Ieee.{Float, binary64, ofBits}
-use Rattle.grouping_marks.specs.Over.{over, part}
+use lib.ListN.{length, getD}
+use Rattle.grouping_marks.specs.Over.{part}
 use Rattle.grouping_marks.specs.Scan.{gathered}
-use Rattle.grouping_marks.proofs.OverLaws.{getD-part, over-agree}
+use Rattle.grouping_marks.proofs.OverLaws.{getD-part}
 use Rattle.grouping_marks.proofs.FillLaws.{getD-gathered}
 use Rattle.grouping_color.specs.MonoStreak.{streakOf}
 use Rattle.grouping_color.specs.Preprocessor.{hitIntervals, streakPlaceOf, patternOf, patternPlaceOf, hitOf, intervalOf}
 use Rattle.grouping_preprocessor.specs.Passes.{Regions, Tables}
 use Rattle.grouping_preprocessor.specs.declared.Counts.{Counts}
 use Rattle.grouping_color.proofs.BoundLaws.{streakPlaceOf-looked, patternOf-looked, patternPlaceOf-looked, hitOf-looked, intervalOf-looked, length-streakOf, length-patternOf, length-hitOf, streak-below, patternOf-below, hitOf-below}
-use Rattle.evaluator_calls.specs.Colour.{colourValues}
-use Rattle.evaluator_calls.specs.Passes.{Tabled, ObjectIn, NumbersAt, Coloured}
-use Rattle.evaluator_calls.specs.declared.tables.Numbers.{Numbers}
+use Rattle.evaluator_values.specs.Passes.{Tabled, ObjectIn, NumbersAt}
+use Rattle.evaluator_values.specs.declared.Numbers.{Numbers}
 
 -- ---- the encoder's answer says where its tables lie
 pub tabled : {limit : ℕ} {kinds w₀ w : List ℕ} {k : Counts} → Regions (length kinds) w₀ → Tables limit kinds w₀ w k → Tabled kinds w k
@@ -38,16 +36,6 @@ tabled {limit} {kinds} r t = record {
     interval = t .interval ∙ ap (λ (l : ℕ). hitIntervals l kinds) (sym (t .searched));
     outside = record { same = refl; beyond = refl };
   };
-}
-
--- the values written, and the tables cleared
-pub coloured : {kinds w₀ w work : List ℕ} {k : Counts} {limit : ℕ} {ratios value₀ value scratch₀ scratch : List Float} (tolerance : Float) → Tables limit kinds w₀ w k
-    → value ≡ over (colourValues (k .limit) tolerance kinds ratios) value₀ → work ≡ over (replicate (8 * length kinds) 0) w
-    → scratch ≡ over (replicate (length kinds) (ofBits binary64 0)) scratch₀ → Coloured limit tolerance kinds ratios value₀ value w₀ work scratch₀ scratch
-coloured {kinds} {w₀} {w} {ratios} {value₀} tolerance t v z s = record {
-  values = v ∙ ap (λ (l : ℕ). over (colourValues l tolerance kinds ratios) value₀) (t .searched);
-  cleared = z ∙ over-agree (replicate (8 * length kinds) 0) w w₀ (8 * length kinds) (length-replicate (8 * length kinds) 0) (t .outside .beyond);
-  floats = s;
 }
 
 -- ---- what is looked up

@@ -6,6 +6,8 @@ use lib.Dec.{eqb}
 use lib.ListN.{length, getD}
 use lib.Ieee.{Float, nan, binary64, mul}
 use Rattle.grouping_marks.specs.Scan.{tabulate}
+use Rattle.grouping_chart.specs.Chart.{Chart}
+use Rattle.grouping_chart.specs.Settings.{Settings}
 use Rattle.grouping_color.specs.MonoStreak.{streakOf}
 use Rattle.grouping_color.specs.Preprocessor.{streakPlaceOf, patternOf, patternPlaceOf, hitOf, intervalOf}
 use Rattle.evaluator_color.specs.declared.Looked.{Looked}
@@ -34,3 +36,7 @@ colourAt limit tolerance kinds ratios i =
 
 unfoldable pub colourValues : ℕ → Float → List ℕ → List Float → List Float
 colourValues limit tolerance kinds ratios = tabulate (colourAt limit tolerance kinds ratios) (length kinds)
+
+-- the colour values of a chart
+abbrev pub valuesOf : Settings → Chart → List Float
+valuesOf s c = colourValues (s .limit) (s .tolerance) (c .kinds) (c .ratios)

@@ -1,0 +1,53 @@
+-- Sizes: every colour value of an accepted chart is finite, no NaN, and at most `largestColour` in size.
+use mathlib.Core.Path.{_≡_, sym, subst}
+use mathlib.Core.Bool.{not}
+use Prim.Native.Nat.{ℕ, _-_, _<_}
+use native.Mathlib.Omega.{arith}
+use lib.Dec.{T}
+use lib.ListN.{getD}
+use lib.Ieee.{Float, nan, binary64, fits, isNan, le, mul}
+use lib.Ieee.Fits.{mul-fits}
+use Rattle.numeric.proofs.Values.{Number, number-no-nan}
+use Rattle.numeric.proofs.Bounded.{Bounded, bounded-number}
+use Rattle.grouping_chart.specs.Chart.{Chart, size}
+use Rattle.grouping_chart.specs.Refusal.{verdict}
+use Rattle.grouping_chart.specs.declared.chart.Verdict.the-variants.{Accepted}
+use Rattle.grouping_chart.proofs.AcceptedLaws.{GoodChart, accepted-good}
+use Rattle.grouping_chart.proofs.RangeLaws.{ratio-range}
+use Rattle.grouping_chart.specs.Settings.{Settings}
+use Rattle.evaluator_color.specs.Color.{objectSum}
+use Rattle.evaluator_color.specs.RatioPenalty.{ratioPenalty}
+use Rattle.evaluator_color.proofs.BoundLaws as formulas
+use Rattle.evaluator_color.proofs.BoundLaws.{lowest, highest}
+use Rattle.evaluator_values.specs.Colour.{lookedAt, colourAt, valuesOf}
+use Rattle.evaluator_values.proofs.LookLaws.{value-of}
+
+-- 5 * (2 ^ 24 + 1): an object's sum times its penalty
+abbrev pub largestColour : ℕ
+largestColour = 83886085
+
+module _ (s : Settings) (c : Chart) (beside : ℕ) (accepted : verdict c beside ≡ Accepted) where
+  good : GoodChart c beside
+  good = accepted-good c beside accepted
+
+  value-is : (i : ℕ) → i < size c
+      → getD (valuesOf s c) i nan ≡ mul binary64 (objectSum (lookedAt (s .limit) (c .kinds) i)) (ratioPenalty (s .tolerance) i (getD (c .ratios) i nan) (getD (c .ratios) (i - 2) nan))
+  unfolding colourAt
+  value-is i h = value-of (s .limit) (s .tolerance) (c .kinds) (c .ratios) i h
+
+  ratio-at : (i : ℕ) → i < size c → T (le lowest (getD (c .ratios) i nan)) × T (le (getD (c .ratios) i nan) highest)
+  ratio-at i h = ratio-range (getD (c .ratios) i nan) (good .objects i nan h .ratio)
+
+  pub value-bounded : (i : ℕ) → i < size c → Bounded (getD (valuesOf s c) i nan) largestColour
+  value-bounded i h =
+      let r = ratio-at i h in
+      let p = ratio-at (i - 2) (omega arith) in
+      subst (λ (x : Float). Bounded x largestColour) (sym (value-is i h))
+      (formulas.colour-bounded (s .tolerance) i (getD (c .ratios) i nan) (getD (c .ratios) (i - 2) nan) (r .0) (r .1) (p .0) (p .1) (lookedAt (s .limit) (c .kinds) i))
+
+  pub value-number : (i : ℕ) → i < size c → Number (getD (valuesOf s c) i nan)
+  value-number i h =
+      bounded-number (getD (valuesOf s c) i nan) largestColour (subst (λ (x : Float). T (fits binary64 x)) (sym (value-is i h)) (mul-fits binary64 _ _)) (value-bounded i h)
+
+  pub value-no-nan : (i : ℕ) → i < size c → T (not (isNan (getD (valuesOf s c) i nan)))
+  value-no-nan i h = number-no-nan (value-number i h)
