@@ -3,14 +3,11 @@
 set -eu
 cd "$(dirname "$0")"
 
-# rt runs this many checks at a time and waits for all of them before it starts the next: with more than there are processors none stands idle
-export RT_JOBS=8
-
 rt fmt --check
 (cd tests/repository && cargo test --release --offline --quiet)
 
 # an archive's own crate is proved once more as it is made, so these are made side by side, and what they use is proved before
-rt check evaluator_calls evaluator_record letters
+RT_JOBS=4 rt check evaluator_calls evaluator_record letters
 rt staticlib dresserduck &
 archive=$!
 rt staticlib numeric_host

@@ -1,5 +1,6 @@
-//! What a document names of the tree, each between backticks: a file, a name in a file, a function, a must-fail edit.
+//! What a document names of the tree, each between backticks: a file, a name in a file, a function, a must-fail edit, or a name alone.
 
+use std::collections::BTreeSet;
 use std::fs;
 use std::path::{Path, PathBuf};
 
@@ -45,6 +46,8 @@ pub enum Named {
     Function(String, bool),
     /// `crate/must-fail/edit`
     Edit(String),
+    /// a name by itself
+    Alone(String),
 }
 
 /// Words that may name something: no commands, no signs, and no `crate::..` or `crate/..` that stand for any.
@@ -85,9 +88,19 @@ pub fn named(line: &str) -> Vec<Named> {
         } else if let Some(path) = &file {
             all.push(Named::In(path.clone(), text));
             file = file.filter(|_| behind == ", ");
+        } else if text.chars().all(is_inside) {
+            all.push(Named::Alone(text));
         }
     }
     all
+}
+
+fn is_inside(c: char) -> bool {
+    c.is_alphanumeric() || "_-′".contains(c)
+}
+
+fn split(text: &str) -> impl Iterator<Item = &str> {
+    text.split(|c: char| !is_inside(c))
 }
 
 /// Whether the file, or one of the folder, has the name as a word of its own.
@@ -98,10 +111,42 @@ pub fn has_name(path: &Path, name: &str) -> bool {
             .into_iter()
             .any(|entry| has_name(&entry.path(), name));
     }
-    let inside = |c: char| c.is_alphanumeric() || "_-′".contains(c);
     let text = fs::read_to_string(path).unwrap_or_default();
-    let mut words = text.split(|c: char| !inside(c));
-    words.any(|word| word == name)
+    let there = split(&text).any(|word| word == name);
+    there
+}
+
+/// The words of a file or folder: what it is called, and what stands in it. What cargo makes is passed over, and these tests.
+fn gather(path: &Path, all: &mut BTreeSet<String>) {
+    let called = path.file_name().unwrap_or_default().to_string_lossy();
+    if called == "target" || called == "repository" {
+        return;
+    }
+    all.extend(split(&called).map(str::to_string));
+    for entry in fs::read_dir(path).into_iter().flatten().flatten() {
+        gather(&entry.path(), all);
+    }
+    let text = fs::read_to_string(path).unwrap_or_default();
+    all.extend(split(&text).map(str::to_string));
+}
+
+/// Every word of the tree but for the documents'.
+pub fn tree_words() -> BTreeSet<String> {
+    let mut all = BTreeSet::new();
+    for part in [
+        "crates",
+        "include",
+        "bindings",
+        "examples",
+        "tests",
+        "tools",
+        "crates.txt",
+        "NOTICE",
+        "test.sh",
+    ] {
+        gather(&root().join(part), &mut all);
+    }
+    all
 }
 
 /// The line that declares a function given as `crate::module::function`.

@@ -1,15 +1,24 @@
-//! Every name in the documents stands where they say, and docs/SCOPE.md has every must-fail edit.
+//! Every name in the documents stands where they say, or somewhere if they don't, and docs/SCOPE.md has every must-fail edit.
 
 use std::collections::BTreeSet;
 use std::fs;
 
-use repository_tests::{declaration, found, has_name, named, root, Named};
+use repository_tests::{declaration, found, has_name, named, root, tree_words, Named};
 
 const DOCUMENTS: [&str; 4] = [
     "README.md",
     "docs/SCOPE.md",
     "docs/DECISIONS.md",
     "docs/DIFFERENCES.md",
+];
+
+/// What the original has and the tree has not.
+const ORIGINAL: [&str; 5] = [
+    "ColorDifficultyPreprocessor",
+    "RefCount",
+    "TaikoDifficultyObject",
+    "VecDeque",
+    "Weak",
 ];
 
 fn text_of(document: &str) -> String {
@@ -41,21 +50,29 @@ fn function_fault(function: &str, private: bool) -> Option<String> {
     }
 }
 
-fn fault(word: Named) -> Option<String> {
+fn alone_fault(tree: &BTreeSet<String>, name: &str) -> Option<String> {
+    let there = tree.contains(name) || ORIGINAL.contains(&name);
+    (!there).then(|| format!("nothing has the name {name}"))
+}
+
+fn fault(tree: &BTreeSet<String>, word: Named) -> Option<String> {
     match word {
         Named::Path(path) => path_fault(&path),
         Named::In(path, name) => name_fault(&path, &name),
         Named::Function(function, private) => function_fault(&function, private),
         Named::Edit(edit) => path_fault(&format!("{edit}.edit")),
+        Named::Alone(name) => alone_fault(tree, &name),
     }
 }
 
 #[test]
 fn names_stand_where_the_documents_say() {
+    let tree = tree_words();
     let mut faults = Vec::new();
     for document in DOCUMENTS {
         for (number, line) in text_of(document).lines().enumerate() {
-            let here = named(line).into_iter().filter_map(fault);
+            let words = named(line).into_iter();
+            let here = words.filter_map(|word| fault(&tree, word));
             faults.extend(here.map(|what| format!("{document}:{}: {what}", number + 1)));
         }
     }
@@ -96,13 +113,16 @@ fn the_scope_has_every_must_fail_edit() {
 
 #[test]
 fn what_is_not_there_is_told() {
-    let line = "`numeric/specs/Near.antt`: `isNear`, `isFar` (text); `numeric::near::near` (private), `numeric/must-fail/none`, `no/such.file`";
-    let faults: Vec<String> = named(line).into_iter().filter_map(fault).collect();
+    let line = "`numeric/specs/Near.antt`: `isNear`, `isFar` (text); `numeric::near::near` (private), `numeric/must-fail/none`, `no/such.file`, `near`, `farther`";
+    let tree = BTreeSet::from(["near".to_string()]);
+    let words = named(line).into_iter();
+    let faults: Vec<String> = words.filter_map(|word| fault(&tree, word)).collect();
     let expected = [
         "numeric/specs/Near.antt has no isFar",
         "numeric::near::near is said to be private: true",
         "there is no numeric/must-fail/none.edit",
         "there is no no/such.file",
+        "nothing has the name farther",
     ];
     assert_eq!(faults, expected);
 }
