@@ -17,10 +17,10 @@ use Rattle.numeric.proofs.order.Laws.{antisym}
 use Rattle.grouping_marks.specs.Over.{over}
 use Rattle.grouping_marks.proofs.OverLaws.{length-over, front}
 use Rattle.grouping_marks.proofs.PieceLaws.{over-pieces}
-use Rattle.grouping_normalizer.specs.Ordered.{insert, ordered}
+use Rattle.grouping_sort.specs.Ordered.{ordered}
 use Rattle.grouping_normalizer.specs.Normalizer.{alike, unrepeated, distinct, sets, middleOf, normalOf, Distinct, NormalOf}
-use Rattle.grouping_normalizer.proofs.InsertLaws.{Numbers}
-use Rattle.grouping_normalizer.proofs.OrderedLaws.{number-at, length-ordered, numbers-ordered}
+use Rattle.grouping_sort.proofs.InsertLaws.{Numbers}
+use Rattle.grouping_sort.proofs.OrderedLaws.{number-at, ordered-few, length-ordered, numbers-ordered}
 
 -- ---- lengths
 
@@ -185,10 +185,13 @@ module _ {s w : List Float} {n k i : ℕ} (x : Thinning s w n k i) where
 
 -- at most one value is in order, and no other is alike
 pub few-left : (xs : List Float) → length xs < 2 → xs ≡ over (distinct xs) (ordered xs)
-unfolding distinct unrepeated ordered insert
-few-left [] h = over-pieces [] [] 0 refl
-few-left (x ∷ []) h = over-pieces (x ∷ []) (x ∷ []) 1 refl
-few-left (x ∷ y ∷ xs) h = absurd (omega arith)
+unfolding distinct unrepeated
+few-left xs h = few xs h ∙ ap (λ (z : List Float). over (unrepeated z) z) (sym (ordered-few xs h))
+  where
+    few : (xs : List Float) → length xs < 2 → xs ≡ over (unrepeated xs) xs
+    few [] h = over-pieces [] [] 0 refl
+    few (x ∷ []) h = over-pieces (x ∷ []) (x ∷ []) 1 refl
+    few (x ∷ y ∷ xs) h = absurd (omega arith)
 
 -- no values at all
 pub distinct-none : (s old : List Float) → length s ≡ 0 → s ≡ ordered old → Distinct old s 0

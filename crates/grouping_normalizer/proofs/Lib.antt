@@ -1,10 +1,4 @@
 -- The laws of this crate. Those that are public are for the crates above, or are results of their own; the others serve the proofs of this crate alone.
 pub mod DistinctLaws
-mod InsertLaws
-mod OrderedLaws
-mod ShuffleLaws
-mod HeapLaws
-mod SortLaws
-mod RunLaws
 mod SetLaws
 mod Examples

@@ -11,7 +11,7 @@ use Rattle.numeric.specs.Constants.{two}
 use Rattle.numeric.specs.Near.{isNear}
 use Rattle.numeric.specs.TotalOrder.{totalOrder}
 use Rattle.grouping_marks.specs.Over.{over}
-use Rattle.grouping_normalizer.specs.Ordered.{ordered}
+use Rattle.grouping_sort.specs.Ordered.{ordered}
 
 -- equal in all bits, for values that are no NaN: each stands at or before the other
 unfoldable pub alike : Float → Float → Bool

@@ -2,14 +2,11 @@
 ghost use mathlib.Core.Path.{_≡_};
 ghost use Prim.Native.Nat.{_<_};
 ghost use lib.ListN.{length};
-ghost use Rattle.grouping_normalizer.specs.Ordered.{AllFinite};
+ghost use Rattle.grouping_sort.specs.Ordered.{AllFinite};
 ghost use Rattle.grouping_normalizer.specs.Normalizer.{alike, holds, middle, middleOf, sets, Distinct, NormalOf};
 ghost use Rattle.grouping_normalizer.specs.Sets.{SetEnd};
 use numeric::near::near;
 use numeric::order::total_order;
-
-pub mod heap;
-pub mod sort;
 
 // Equal in all bits, for values that are no NaN.
 fn is_alike(a: f64, b: f64) -> bool
@@ -26,7 +23,7 @@ pub fn distinct_values(values: &mut [f64]) -> usize
     requires { ⌜ AllFinite (now values) ⌝ }
     ensures { λ r. ⌜ Distinct (now (values .entry)) (now (values .exit)) r ⌝ }
 {
-    sort::sort(values);
+    grouping_sort::sort(values);
     let n = values.len();
     if n == 0 {
         return 0;

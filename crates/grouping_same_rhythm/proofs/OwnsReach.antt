@@ -14,7 +14,7 @@ use Rattle.grouping_marks.proofs.PieceLaws.{part-pieces}
 use Rattle.grouping_interval.specs.IntervalGrouping.{intervalMarks}
 use Rattle.grouping_interval.specs.GroupEnd.{groupEnd}
 use Rattle.grouping_interval.proofs.EndLaws.{end-after, end-within, end-same}
-use Rattle.grouping_normalizer.specs.Ordered.{AllFinite}
+use Rattle.grouping_sort.specs.Ordered.{AllFinite}
 use Rattle.grouping_same_rhythm.specs.declared.own.Own.{Own}
 use Rattle.grouping_same_rhythm.specs.declared.own.Own.the-variants.{Absent}
 use Rattle.grouping_same_rhythm.specs.declared.owns.Recent.{Recent}

@@ -1,0 +1,66 @@
+-- The loop's invariant: the first `end` places are a heap, and each value from place `end` on stands at or behind all before it.
+use native.Mathlib.Omega.{arith}
+use Rattle.grouping_sort.proofs.OrderedLaws.{slice-numbers}
+use Rattle.grouping_sort.proofs.SortLaws.{Sorting, sorting-start, sorting-two, sorting-asks, sorting-turn, sorting-end, sorting-long}
+use Rattle.grouping_sort.proofs.heap.heap_sort.Statement.{statement}
+use Rattle.grouping_sort.proofs.heap.heap_sort.Tie as tie
+
+abbrev Inv-loop : tie.InvT-loop
+Inv-loop values₀ end₀ values end = Sorting values₀ values end
+
+abbrev μ-loop : tie.MeasureT-loop
+μ-loop values₀ end₀ values end = end
+
+heapify-requires : tie.Need-heapify-requires Inv-loop μ-loop
+heapify-requires c κs = c .before .before .pre
+
+loop-holds : tie.Need-loop-holds Inv-loop μ-loop
+loop-holds c =
+    let s = c .before .before .before .before in
+    sorting-start (slice-numbers (s .before .pre) (s .slice-known .given)) (c .before .before .heapify .ensures)
+
+sub-end : tie.Need-sub-end Inv-loop μ-loop
+sub-end c = omega arith
+
+swap-requires : tie.Need-swap-requires Inv-loop μ-loop
+swap-requires c κs = sorting-two (c .before .before .loop .inv) (c .before .loop-test .taken)
+
+sink-requires : tie.Need-sink-requires Inv-loop μ-loop
+sink-requires c κs =
+    let l = c .before .before .before .before .before in
+    sorting-asks (l .before .loop .inv) (l .loop-test .taken) _ (c .before .before .before .swap .ensures)
+
+loop-less : tie.Need-loop-less Inv-loop μ-loop
+loop-less c = omega arith
+
+loop-again : tie.Need-loop-again Inv-loop μ-loop
+loop-again c =
+    let w = c .before .before .before .before .before .before in
+    let l = w .before .before in
+    sorting-turn (l .before .loop .inv) (l .loop-test .taken) _ _ (w .swap .ensures) (c .before .before .sink .ensures)
+
+same-length : tie.Need-same-length Inv-loop μ-loop
+same-length c =
+    let s = c .before .before .before .before .before .before in
+    sorting-long (slice-numbers (s .before .pre) (s .slice-known .given)) (c .before .before .before .before .heapify .ensures) (c .before .loop .inv)
+
+returns : tie.Need-returns Inv-loop μ-loop
+returns c =
+    let s = c .before .before .before .before .before .before in
+    sorting-end (slice-numbers (s .before .pre) (s .slice-known .given)) (c .before .before .before .before .heapify .ensures) (c .before .loop .inv) (c .loop-test .left)
+
+pub heap-sort-spec : {M : Type 1} → statement M
+heap-sort-spec =
+    tie.close
+    (tie.spec
+    Inv-loop
+    μ-loop
+    heapify-requires
+    loop-holds
+    sub-end
+    swap-requires
+    sink-requires
+    loop-less
+    loop-again
+    same-length
+    returns)

@@ -1,0 +1,83 @@
+-- The loop's invariant: what the values from i on say is what all say.
+use Prim.Native.Nat.{_-_}
+use native.Mathlib.Omega.{arith}
+use mathlib.Core.Path.{refl, sym, _∙_}
+use lib.ListN.{length}
+use borrow.Author.Needs.{needs}
+use borrow.Author.Tests.{not-true, not-false}
+use Rattle.numeric.specs.TotalOrder.{totalOrder}
+use Rattle.grouping_sort.specs.Sort.{rising}
+use Rattle.grouping_sort.proofs.RunLaws.{Testing, testing-fails, testing-turn, testing-end}
+use Rattle.grouping_sort.proofs.rises.Statement.{statement}
+use Rattle.grouping_sort.proofs.rises.Tie as tie
+
+abbrev Inv-loop : tie.InvT-loop
+Inv-loop values i₀ i = Testing totalOrder values i
+
+abbrev μ-loop : tie.MeasureT-loop
+μ-loop values i₀ i = length values - i
+
+loop-holds : tie.Need-loop-holds Inv-loop μ-loop
+loop-holds c = record { upto = omega arith; same = refl }
+
+add-loop : tie.Need-add-loop Inv-loop μ-loop
+add-loop c = omega arith
+
+mul-total-order : tie.Need-mul-total-order Inv-loop μ-loop
+mul-total-order c = omega arith
+
+shared-slice-read-total-order : tie.Need-shared-slice-read-total-order Inv-loop μ-loop
+shared-slice-read-total-order c = omega arith
+
+add-total-order : tie.Need-add-total-order Inv-loop μ-loop
+add-total-order c = omega arith
+
+mul-total-order-2 : tie.Need-mul-total-order-2 Inv-loop μ-loop
+mul-total-order-2 c = omega arith
+
+shared-slice-read-total-order-2 : tie.Need-shared-slice-read-total-order-2 Inv-loop μ-loop
+shared-slice-read-total-order-2 c = omega arith
+
+total-order-requires : tie.Need-total-order-requires Inv-loop μ-loop
+total-order-requires c κs = search needs
+
+returns : tie.Need-returns Inv-loop μ-loop
+unfolding rising
+returns c =
+    let l = c .before .before .before .before in
+    testing-fails (l .before .loop .inv) (l .loop-test .taken) (sym (c .before .total-order .ensures) ∙ not-true _ (c .if1 .taken))
+
+add-i : tie.Need-add-i Inv-loop μ-loop
+add-i c = omega arith
+
+loop-less : tie.Need-loop-less Inv-loop μ-loop
+loop-less c = omega arith
+
+loop-again : tie.Need-loop-again Inv-loop μ-loop
+loop-again c =
+    let l = c .before .before .before .before in
+    testing-turn (l .before .loop .inv) (l .loop-test .taken) (sym (c .before .total-order .ensures) ∙ not-false _ (c .if1 .left))
+
+returns-2 : tie.Need-returns-2 Inv-loop μ-loop
+unfolding rising
+returns-2 c = testing-end (c .before .loop .inv) (c .loop-test .left)
+
+pub rises-spec : {M : Type 1} → statement M
+rises-spec =
+    tie.close
+    (tie.spec
+    Inv-loop
+    μ-loop
+    loop-holds
+    add-loop
+    mul-total-order
+    shared-slice-read-total-order
+    add-total-order
+    mul-total-order-2
+    shared-slice-read-total-order-2
+    total-order-requires
+    returns
+    add-i
+    loop-less
+    loop-again
+    returns-2)

@@ -1,0 +1,46 @@
+-- Exchanges keep the order: what rises then is it, and what heap sort leaves is it.
+use mathlib.Core.Path.{sym, _∙_}
+use Rattle.grouping_sort.proofs.OrderedLaws.{slice-numbers, all-finite}
+use Rattle.grouping_sort.proofs.RunLaws.{turned-numbers, turned-sorted, turned-rising}
+use borrow.Author.Needs.{needs}
+use Rattle.grouping_sort.proofs.sort.Statement.{statement}
+use Rattle.grouping_sort.proofs.sort.Tie as tie
+
+turn-if-falling-requires : tie.Need-turn-if-falling-requires
+turn-if-falling-requires c κs = search needs
+
+rises-requires : tie.Need-rises-requires
+rises-requires c κs = search needs
+
+same-length : tie.Need-same-length
+same-length c = search needs
+
+returns : tie.Need-returns
+returns c =
+    let s = c .before .before .before .before .before .before .before in
+    turned-rising (slice-numbers (s .before .pre) (s .slice-known .given)) (c .before .before .before .before .before .turn-if-falling .ensures) (sym (c .before .rises .ensures) ∙ c .if1 .taken)
+
+heap-sort-requires : tie.Need-heap-sort-requires
+heap-sort-requires c κs =
+    let s = c .before .before .before .before .before .before .before .before in
+    all-finite (turned-numbers (slice-numbers (s .before .pre) (s .slice-known .given)) (c .before .before .before .before .before .before .turn-if-falling .ensures))
+
+same-length-2 : tie.Need-same-length-2
+same-length-2 c = search needs
+
+returns-2 : tie.Need-returns-2
+returns-2 c =
+    let s = c .before .before .before .before .before .before .before .before .before .before .before in
+    turned-sorted (slice-numbers (s .before .pre) (s .slice-known .given)) (c .before .before .before .before .before .before .before .before .before .turn-if-falling .ensures) (c .before .before .heap-sort .ensures)
+
+pub sort-spec : {M : Type 1} → statement M
+sort-spec =
+    tie.close
+    (tie.spec
+    turn-if-falling-requires
+    rises-requires
+    same-length
+    returns
+    heap-sort-requires
+    same-length-2
+    returns-2)
