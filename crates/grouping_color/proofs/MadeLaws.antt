@@ -5,7 +5,7 @@ use Prim.Native.Nat.{ℕ}
 use Rattle.grouping_marks.specs.Marks.{groupCount, groupNumbers, groupSizes, groupFirsts}
 use Rattle.grouping_color.specs.MonoStreak.{streakMarks, streakOf, streakLengths, streakTypes}
 use Rattle.grouping_color.specs.AlternatingMonoPattern.{patternMarks, coupled}
-use Rattle.grouping_color.specs.RepeatingHitPatterns.{hitMarks, secondLengths, intervals}
+use Rattle.grouping_hits.specs.RepeatingHitPatterns.{hitMarks, secondLengths, intervals}
 use Rattle.grouping_color.specs.Preprocessor.{patternsOpen, firstLengths, streakCounts, patternTypes, coupledPatterns, hitsOpen, hitCount, hitSizes, hitFirsts, hitSeconds, hitIntervals}
 
 module _ (kinds : List ℕ) where

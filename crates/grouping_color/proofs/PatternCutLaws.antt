@@ -1,4 +1,5 @@
--- Alternating patterns: a boundary between two streaks of unequal length cuts the list of streaks, and the patterns behind it are those of the back alone.
+-- Alternating patterns: a boundary between two streaks of unequal length cuts the list of streaks, and the patterns behind it are those of the back alone;
+-- whether a pattern is coupled hangs on what follows it alone.
 use mathlib.Core.Path.{_≡_, refl, sym, ap, _∙_}
 use mathlib.Core.List.{List, _++_}
 use Prim.Native.Nat.{ℕ, zero, suc, _+_, _-_, _<_}
@@ -9,8 +10,9 @@ use borrow.Author.Tests.{ne-eqb}
 use Rattle.grouping_marks.specs.Marks.{groupSizes, groupFirsts}
 use Rattle.grouping_marks.proofs.FillLaws.{getD-tabulate}
 use Rattle.grouping_marks.proofs.CutLaws.{Opening, opening-at, sizes-cut, firsts-cut}
-use Rattle.grouping_marks.proofs.TableLaws.{tabulate-cut₂}
-use Rattle.grouping_color.specs.AlternatingMonoPattern.{opensPattern, patternMarks}
+use Rattle.grouping_marks.proofs.TableLaws.{getD-past, ltb-past, tabulate-cut, tabulate-cut₂}
+use Rattle.grouping_marks.specs.Scan.{tabulate}
+use Rattle.grouping_color.specs.AlternatingMonoPattern.{opensPattern, patternMarks, coupledAt, coupled}
 use Rattle.grouping_color.proofs.LengthLaws.{length-patternMarks}
 
 -- ---- which streak opens a pattern
@@ -77,3 +79,17 @@ module _ (front back : List ℕ) (u : Uneven front back) where
   listed-cut xs ys e f =
       ap (λ (l : List ℕ). groupFirsts l (xs ++ ys)) (patternMarks-cut front back u)
       ∙ firsts-cut (patternMarks front) (patternMarks back) xs ys (patternMarks-opening back) (length-patternMarks front ∙ e) (length-patternMarks back ∙ f)
+
+-- ---- coupled patterns
+module _ (ls ls′ cs cs′ ts ts′ : List ℕ) (e : length cs ≡ length ls) (f : length ts ≡ length ls) where
+  coupledAt-back : (i : ℕ) → coupledAt (ls ++ ls′) (cs ++ cs′) (ts ++ ts′) (length ls + i) ≡ coupledAt ls′ cs′ ts′ i
+  unfolding coupledAt
+  coupledAt-back i = rw (ltb-past ls ls′ i 2, getD-past ls ls′ (length ls) i 2 refl, getD-past cs cs′ (length ls) i 2 e, getD-past ts ts′ (length ls) i 2 f, at ls ls′ refl, at cs cs′ e, at ts ts′ f)
+    where
+      at : (front back : List ℕ) → length front ≡ length ls → getD (front ++ back) (length ls + i) 0 ≡ getD back i 0
+      at front back e = rw (← e) (getD-append-add front back i 0)
+
+  -- the flags of the back are those of the back alone
+  pub coupled-cut : coupled (ls ++ ls′) (cs ++ cs′) (ts ++ ts′) ≡ tabulate (coupledAt (ls ++ ls′) (cs ++ cs′) (ts ++ ts′)) (length ls) ++ coupled ls′ cs′ ts′
+  unfolding coupled
+  coupled-cut = tabulate-cut (coupledAt (ls ++ ls′) (cs ++ cs′) (ts ++ ts′)) (coupledAt ls′ cs′ ts′) ls ls′ (λ i h. coupledAt-back i)

@@ -1,9 +1,12 @@
--- Lists made by a function of the place, cut in two; and entries looked up in a table that is cut in two.
+-- Lists made by a function of the place, cut in two; entries past the cut; and entries looked up in a table that is cut in two.
 use mathlib.Core.Path.{_≡_, refl, ap, _∙_}
+use mathlib.Core.Bool.{Bool, true, false}
 use mathlib.Core.List.{List, [], _∷_, _++_, map, append-nil, append-assoc}
 use Prim.Native.Nat.{ℕ, zero, suc, _+_, _<_}
 use native.Mathlib.Nat.{add-zero, add-suc}
 use native.Mathlib.Omega.{arith}
+use borrow.Author.Tests.{lt-ltb, le-ltb, ltb-true, ltb-false}
+use lib.Dec.{ltb}
 use lib.ListN.{length, getD, length-append}
 use lib.Seq.{getD-append-add}
 use Rattle.grouping_marks.specs.Scan.{tabulate, gathered}
@@ -29,6 +32,19 @@ pub tabulate-cut₂ : {A B : Type 0} (f e g : ℕ → B) (xs ys : List A) → ((
     → tabulate f (length (xs ++ ys)) ≡ tabulate e (length xs) ++ tabulate g (length ys)
 tabulate-cut₂ {B} f e g xs ys h k =
     tabulate-cut f g xs ys k ∙ ap (λ (l : List B). l ++ tabulate g (length ys)) (tabulate-agree f e (length xs) h)
+
+-- ---- past the cut
+
+-- counted from the cut, an entry past it, and one two or one further on
+pub getD-past : (front back : List ℕ) (n i k : ℕ) → length front ≡ n → getD (front ++ back) (n + i + k) 0 ≡ getD back (i + k) 0
+getD-past front back n i k e = ap (λ (j : ℕ). getD (front ++ back) j 0) (omega arith) ∙ getD-append-add front back (i + k) 0
+
+pub ltb-past : (front back : List ℕ) (i k : ℕ) → ltb (length front + i + k) (length (front ++ back)) ≡ ltb (i + k) (length back)
+ltb-past front back i k = by (ltb (i + k) (length back)) refl
+  where
+    by : (b : Bool) → ltb (i + k) (length back) ≡ b → ltb (length front + i + k) (length (front ++ back)) ≡ b
+    by true e = lt-ltb (length front + i + k) (length (front ++ back)) (omega (arith, ltb-true (i + k) (length back) e, length-append front back))
+    by false e = le-ltb (length front + i + k) (length (front ++ back)) (omega (arith, ltb-false (i + k) (length back) e, length-append front back))
 
 -- ---- tables
 

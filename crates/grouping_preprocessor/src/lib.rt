@@ -6,7 +6,6 @@ ghost use Rattle.grouping_color.specs.AlternatingMonoPattern.{coupled};
 ghost use Rattle.grouping_preprocessor.specs.Passes.{Regions, Streaks, Patterns, HitMarks, Hits, Encodes};
 use grouping_color::alternating_mono_pattern;
 use grouping_color::mono_streak;
-use grouping_color::repeating_hit_patterns;
 
 // How many streaks, alternating patterns and hit patterns there are, and the search limit of the intervals.
 pub struct Counts {
@@ -47,8 +46,8 @@ fn find_hit_marks(w: &mut [u16], n: usize, p: usize)
     ensures { λ r. ⌜ HitMarks n p (part n p (now (w .entry))) (coupled (part n p (now (w .entry))) (part (5 * n) p (now (w .entry))) (part (2 * n) p (now (w .entry)))) (now (w .entry)) (now (w .exit)) ⌝ }
 {
     alternating_mono_pattern::mark_coupled(w, n, 5 * n, 2 * n, p, 6 * n);
-    repeating_hit_patterns::mark_hits(w, 6 * n, p);
-    repeating_hit_patterns::second_lengths(w, n, 6 * n, p, 2 * n);
+    grouping_hits::mark_hits(w, 6 * n, p);
+    grouping_hits::second_lengths(w, n, 6 * n, p, 2 * n);
 }
 
 // From p alternating patterns to hit patterns and their intervals; the result is their count.
@@ -60,7 +59,7 @@ fn find_hits(w: &mut [u16], n: usize, p: usize, limit: u16) -> usize
     let h = grouping_marks::group_sizes(w, 6 * n, p, 5 * n);
     grouping_marks::group_firsts(w, 6 * n, p, n);
     grouping_marks::group_firsts(w, 6 * n, p, 2 * n);
-    repeating_hit_patterns::repetition_intervals(w, 5 * n, n, 2 * n, h, limit, 7 * n);
+    grouping_hits::repetition_intervals(w, 5 * n, n, 2 * n, h, limit, 7 * n);
     grouping_marks::group_numbers(w, 6 * n, p, n);
     grouping_marks::group_places(w, 6 * n, p, 2 * n);
     h

@@ -1,0 +1,15 @@
+-- What a pass of the search for intervals leaves.
+use mathlib.Core.Bool.{cond, _&&_}
+use Prim.Native.Nat.{ℕ, _-_}
+use mathlib.Core.List.{List}
+use lib.Dec.{leb}
+use lib.ListN.{length, getD}
+use Rattle.grouping_marks.specs.Scan.{tabulate}
+use Rattle.grouping_hits.specs.RepeatingHitPatterns.{matches}
+
+-- what each hit pattern has after a pass that looks k back: k where it matches the one k before it, else what it had
+unfoldable pub matchTakenAt : ℕ → List ℕ → List ℕ → List ℕ → List ℕ → ℕ → ℕ
+matchTakenAt k sizes firsts seconds had h = cond (leb k h && matches sizes firsts seconds (h - k) h) k (getD had h 0)
+
+unfoldable pub matchesTaken : ℕ → List ℕ → List ℕ → List ℕ → List ℕ → List ℕ
+matchesTaken k sizes firsts seconds had = tabulate (matchTakenAt k sizes firsts seconds had) (length sizes)
