@@ -77,10 +77,10 @@ fn median(mut runs: Vec<f64>) -> f64 {
 }
 
 /// The medians of some runs of either, in turn, so that what else the machine does falls on both.
-fn medians(original: &mut dyn FnMut(), library: &mut dyn FnMut()) -> [f64; 2] {
+fn medians(one: &mut dyn FnMut(), other: &mut dyn FnMut()) -> [f64; 2] {
     let times = |work: &mut dyn FnMut()| (1e6 / timed(work, 1)).clamp(1.0, 10_000.0) as u32;
-    let counts = [times(original), times(library)];
-    let run = |_| [timed(original, counts[0]), timed(library, counts[1])];
+    let counts = [times(one), times(other)];
+    let run = |_| [timed(one, counts[0]), timed(other, counts[1])];
     let runs: Vec<[f64; 2]> = (0..21).map(run).collect();
     [0, 1].map(|k| median(runs.iter().map(|pair| pair[k]).collect()))
 }
@@ -164,45 +164,45 @@ fn library_works<'a>(set: &'a [Lists], originals: &'a [Original]) -> [Work<'a>; 
     })
 }
 
-/// The times of the four calls, the original's and the library's.
-fn times(set: &[Lists]) -> [[f64; 4]; 2] {
+/// Call by call, how often the library's time is in the original's.
+fn ratios(set: &[Lists]) -> [f64; 4] {
     let originals: Vec<Original> = set.iter().map(Original::of).collect();
     let mut original = original_works(&originals);
     let mut library = library_works(set, &originals);
-    let both = [0, 1, 2, 3].map(|k| medians(&mut original[k], &mut library[k]));
-    [0, 1].map(|who| both.map(|pair| pair[who]))
+    [0, 1, 2, 3].map(|k| {
+        let [theirs, ours] = medians(&mut original[k], &mut library[k]);
+        theirs / ours
+    })
+}
+
+/// Call by call, how often the library's time for a chart of the one set is in that for one of the other.
+fn growth(small: &[Lists], large: &[Lists]) -> [f64; 4] {
+    let [few, many] = [small, large].map(|set| set.iter().map(Original::of).collect::<Vec<_>>());
+    let mut one = library_works(small, &few);
+    let mut other = library_works(large, &many);
+    let charts = small.len() as f64 / large.len() as f64;
+    [0, 1, 2, 3].map(|k| {
+        let [less, more] = medians(&mut one[k], &mut other[k]);
+        more / less * charts
+    })
 }
 
 fn row(numbers: [f64; 4]) -> String {
     numbers.map(|x| format!("{x:.1}")).join(" | ")
 }
 
-/// Column by column, the one over the other.
-fn over(a: &[f64; 4], b: &[f64; 4]) -> [f64; 4] {
-    [0, 1, 2, 3].map(|k| a[k] / b[k])
-}
-
 fn main() {
     let calls = CALLS.join(" | ");
     println!("How many times as fast as the original:\n");
     println!("| chart | objects | {calls} |\n|---|---|---|---|---|---|");
-    let mut growth: Vec<String> = Vec::new();
-    let mut at_thousand: Vec<[f64; 4]> = Vec::new();
     for n in SIZES {
-        for (place, (name, set)) in charts(n).iter().enumerate() {
-            let [original, library] = times(set);
-            println!("| {name} | {n} | {} |", row(over(&original, &library)));
-            let each = library.map(|time| time / set.len() as f64);
-            if n == 1_000 {
-                at_thousand.push(each);
-            }
-            if n == 16_384 {
-                let grown = row(over(&each, &at_thousand[place]));
-                growth.push(format!("| {name} | {grown} |"));
-            }
+        for (name, set) in charts(n) {
+            println!("| {name} | {n} | {} |", row(ratios(&set)));
         }
     }
     println!("\nThe library's time at 16,384 objects over that at 1,000:\n");
     println!("| chart | {calls} |\n|---|---|---|---|---|");
-    growth.iter().for_each(|line| println!("{line}"));
+    for ((name, small), (_, large)) in charts(SIZES[1]).iter().zip(charts(SIZES[2])) {
+        println!("| {name} | {} |", row(growth(small, &large)));
+    }
 }
