@@ -13,16 +13,16 @@ use Rattle.grouping_marks.proofs.FillLaws.{length-tabulate}
 use Rattle.grouping_marks.proofs.MarksLaws.{length-sizes, length-firsts, count-le}
 use Rattle.grouping_marks.proofs.CutLaws.{Opening, opening-front, count-cut}
 use Rattle.grouping_marks.proofs.SplitLaws.{CutAt, cut-at}
+use Rattle.grouping_hits.specs.RepeatingHitPatterns.{hitMarks}
+use Rattle.grouping_hits.proofs.LengthLaws.{length-hitMarks}
+use Rattle.grouping_hits.proofs.HitCutLaws.{hitMarks-cut, hitMarks-opening}
 use Rattle.grouping_color.specs.MonoStreak.{streakMarks, streakLengths, streakTypes}
 use Rattle.grouping_color.specs.AlternatingMonoPattern.{patternMarks, coupledAt, coupled}
-use Rattle.grouping_hits.specs.RepeatingHitPatterns.{hitMarks}
 use Rattle.grouping_color.specs.Preprocessor.{patternsOpen, firstLengths, streakCounts, patternTypes, coupledPatterns, hitsOpen}
 use Rattle.grouping_color.proofs.LengthLaws.{length-streakMarks, length-patternMarks, length-coupled}
-use Rattle.grouping_hits.proofs.LengthLaws.{length-hitMarks}
 use Rattle.grouping_color.proofs.MadeLaws.{streakLengths-made, streakTypes-made, patternsOpen-made, firstLengths-made, streakCounts-made, patternTypes-made, coupledPatterns-made, hitsOpen-made}
 use Rattle.grouping_color.proofs.StreakCutLaws.{streakMarksAfter, length-marksAfter, streakMarks-cut, streakLengths-cut, streakTypes-cut}
 use Rattle.grouping_color.proofs.PatternCutLaws.{Uneven, patternMarks-cut, patternMarks-opening, counts-cut, listed-cut, coupled-cut}
-use Rattle.grouping_hits.proofs.HitCutLaws.{hitMarks-cut, hitMarks-opening}
 use Rattle.agreement.proofs.PartLaws.{Back, Parted}
 
 -- ---- (a) a cut before a streak, after `position` objects: `marks` and `types` are the objects' marks and the streaks' types behind it

@@ -15,10 +15,10 @@ use Rattle.grouping_encode.specs.Encode as encode
 use Rattle.grouping_encode.specs.Encode.{encodeOutcome}
 use Rattle.grouping_encode.proofs.EncodeLaws.{hit-written, interval-written}
 use Rattle.evaluator_values.specs.Colour.{isFirst, valuesOf}
-use Rattle.evaluator_calls.specs.Calls.{Memory, beside}
-use Rattle.evaluator_calls.specs.declared.Stretching.the-variants.{Done}
 use Rattle.evaluator_values.proofs.LookLaws.{value-of}
 use Rattle.evaluator_values.proofs.AlikeLaws.{first-alike}
+use Rattle.evaluator_calls.specs.Calls.{Memory, beside}
+use Rattle.evaluator_calls.specs.declared.Stretching.the-variants.{Done}
 use Rattle.evaluator_calls.proofs.AnswerLaws.{value-written, stretch-answered}
 use Rattle.agreement.specs.CommonTail.{Counterparts, CommonTail}
 use Rattle.agreement.specs.Landmark.{Landmark}

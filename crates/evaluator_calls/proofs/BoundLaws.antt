@@ -18,8 +18,8 @@ use Rattle.numeric.proofs.Bounded.{Bounded, bounded-more, bounded-number, bound
 use Rattle.grouping_chart.specs.Chart.{Chart, size}
 use Rattle.grouping_chart.specs.Refusal.{verdict}
 use Rattle.grouping_chart.specs.declared.chart.Verdict.the-variants.{Accepted}
-use Rattle.grouping_chart.proofs.AcceptedLaws.{accepted-good}
 use Rattle.grouping_chart.specs.Settings.{Settings}
+use Rattle.grouping_chart.proofs.AcceptedLaws.{accepted-good}
 use Rattle.evaluator_values.proofs.LookLaws.{value-of}
 use Rattle.evaluator_values.proofs.BoundLaws.{largestColour, value-bounded}
 use Rattle.evaluator_calls.specs.Stretch.{Stretch, stretchValues, sumFrom, averageOf, meanOf}

@@ -18,9 +18,9 @@ use Rattle.grouping_chart.specs.Chart.{Chart, even}
 use Rattle.grouping_chart.specs.Room.{anyShort, shortRefusal}
 use Rattle.grouping_chart.specs.Settings.{baseSettings}
 use Rattle.grouping_chart.specs.Refusal.{within, timeGood, ratioGood, objectRefusal, firstRefused, verdict}
+use Rattle.grouping_hits.specs.RepeatingHitPatterns.{stageAfter, opensHit, hitMarks, secondAt, secondLengths, matches, nearestMatch, intervalAt, intervals}
 use Rattle.grouping_color.specs.MonoStreak.{continues, opensStreak, streakMarks, streakOf, streakLengths, streakTypes}
 use Rattle.grouping_color.specs.AlternatingMonoPattern.{opensPattern, patternMarks, coupledAt, coupled}
-use Rattle.grouping_hits.specs.RepeatingHitPatterns.{stageAfter, opensHit, hitMarks, secondAt, secondLengths, matches, nearestMatch, intervalAt, intervals}
 use Rattle.grouping_color.specs.Preprocessor.{patternsOpen, firstLengths, streakCounts, patternTypes, coupledPatterns, hitsOpen, hitCount, hitSizes, hitFirsts, hitSeconds, hitIntervals, streakPlaceOf, patternOf, patternPlaceOf, hitOf, intervalOf}
 use Rattle.evaluator_color.specs.Color.{hitValue, altValue, monoValue, addIf, objectSum}
 use Rattle.evaluator_color.specs.RatioPenalty.{lowered, ratioPenalty}

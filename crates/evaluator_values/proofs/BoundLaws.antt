@@ -12,9 +12,9 @@ use Rattle.numeric.proofs.Bounded.{Bounded, bounded-number}
 use Rattle.grouping_chart.specs.Chart.{Chart, size}
 use Rattle.grouping_chart.specs.Refusal.{verdict}
 use Rattle.grouping_chart.specs.declared.chart.Verdict.the-variants.{Accepted}
+use Rattle.grouping_chart.specs.Settings.{Settings}
 use Rattle.grouping_chart.proofs.AcceptedLaws.{GoodChart, accepted-good}
 use Rattle.grouping_chart.proofs.RangeLaws.{ratio-range}
-use Rattle.grouping_chart.specs.Settings.{Settings}
 use Rattle.evaluator_color.specs.Color.{objectSum}
 use Rattle.evaluator_color.specs.RatioPenalty.{ratioPenalty}
 use Rattle.evaluator_color.proofs.BoundLaws as formulas

@@ -10,9 +10,9 @@ use Rattle.grouping_marks.proofs.OverLaws.{getD-part}
 use Rattle.grouping_marks.proofs.FillLaws.{getD-gathered}
 use Rattle.grouping_color.specs.MonoStreak.{streakOf}
 use Rattle.grouping_color.specs.Preprocessor.{hitIntervals, streakPlaceOf, patternOf, patternPlaceOf, hitOf, intervalOf}
+use Rattle.grouping_color.proofs.BoundLaws.{streakPlaceOf-looked, patternOf-looked, patternPlaceOf-looked, hitOf-looked, intervalOf-looked, length-streakOf, length-patternOf, length-hitOf, streak-below, patternOf-below, hitOf-below}
 use Rattle.grouping_preprocessor.specs.Passes.{Regions, Tables}
 use Rattle.grouping_preprocessor.specs.declared.Counts.{Counts}
-use Rattle.grouping_color.proofs.BoundLaws.{streakPlaceOf-looked, patternOf-looked, patternPlaceOf-looked, hitOf-looked, intervalOf-looked, length-streakOf, length-patternOf, length-hitOf, streak-below, patternOf-below, hitOf-below}
 use Rattle.evaluator_values.specs.Passes.{Tabled, ObjectIn, NumbersAt}
 use Rattle.evaluator_values.specs.declared.Numbers.{Numbers}
 

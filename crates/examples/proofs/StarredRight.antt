@@ -14,19 +14,19 @@ use Rattle.grouping_chart.specs.Object.{isNote, notes, noteIdx, noteBefore, pre
 use Rattle.grouping_chart.specs.Chart.{even}
 use Rattle.grouping_chart.specs.Room.{anyShort, shortRefusal}
 use Rattle.grouping_chart.specs.Refusal.{within, timeGood, ratioGood, objectRefusal, firstRefused, verdict}
+use Rattle.grouping_hits.specs.RepeatingHitPatterns.{stageAfter, opensHit, hitMarks, secondAt, secondLengths, matches, nearestMatch, intervalAt, intervals}
 use Rattle.grouping_color.specs.MonoStreak.{continues, opensStreak, streakMarks, streakOf, streakLengths, streakTypes}
 use Rattle.grouping_color.specs.AlternatingMonoPattern.{opensPattern, patternMarks, coupledAt, coupled}
-use Rattle.grouping_hits.specs.RepeatingHitPatterns.{stageAfter, opensHit, hitMarks, secondAt, secondLengths, matches, nearestMatch, intervalAt, intervals}
 use Rattle.grouping_color.specs.Preprocessor.{patternsOpen, firstLengths, streakCounts, patternTypes, coupledPatterns, hitsOpen, hitCount, hitSizes, hitFirsts, hitSeconds, hitIntervals, streakPlaceOf, patternOf, patternPlaceOf, hitOf, intervalOf}
 use Rattle.grouping_encode.specs.Encode as encode
-use Rattle.grouping_interval.specs.IntervalGrouping.{rises, marksAfter, intervalMarks}
 use Rattle.grouping_sort.specs.Ordered.{insert, ordered}
 use Rattle.grouping_normalizer.specs.Normalizer.{alike, unrepeated, distinct, setsAfter, sets, holds, middle, middleOf, normalOf, normalized}
+use Rattle.grouping_interval.specs.IntervalGrouping.{rises, marksAfter, intervalMarks}
 use Rattle.evaluator_color.specs.Color.{hitValue, altValue, monoValue, addIf, objectSum}
 use Rattle.evaluator_color.specs.RatioPenalty as ratio
+use Rattle.evaluator_rhythm.specs.RepeatedInterval.{present, similar, similarTo, somePair, walkPenalty}
 use Rattle.evaluator_values.specs.Colour.{isFirst, lookedAt, colourAt, colourValues}
 use Rattle.evaluator_calls.specs.Calls as calls
-use Rattle.evaluator_rhythm.specs.RepeatedInterval.{present, similar, similarTo, somePair, walkPenalty}
 use Rattle.examples.specs.Question.{whole, bitsOf, chart, encodeMemory, colourMemory, encodeAnswer, colourAnswer, encodeShown, colourShown, millis, answer}
 use Rattle.examples.specs.Starred.{Example, encoding, starred}
 

@@ -7,11 +7,11 @@ use native.Mathlib.Omega.{arith}
 use lib.ListN.{length, getD, List·getD-append}
 use lib.Seq.{getD-append-add}
 use borrow.Author.Tests.{ne-eqb}
+use Rattle.grouping_marks.specs.Scan.{tabulate}
 use Rattle.grouping_marks.specs.Marks.{groupSizes, groupFirsts}
 use Rattle.grouping_marks.proofs.FillLaws.{getD-tabulate}
 use Rattle.grouping_marks.proofs.CutLaws.{Opening, opening-at, sizes-cut, firsts-cut}
 use Rattle.grouping_marks.proofs.TableLaws.{getD-past, ltb-past, tabulate-cut, tabulate-cut₂}
-use Rattle.grouping_marks.specs.Scan.{tabulate}
 use Rattle.grouping_color.specs.AlternatingMonoPattern.{opensPattern, patternMarks, coupledAt, coupled}
 use Rattle.grouping_color.proofs.LengthLaws.{length-patternMarks}
 

@@ -8,11 +8,11 @@ use borrow.Author.Tests.{lt-ltb, le-ltb, eq-eqb, ne-eqb}
 use lib.Dec.{eqb}
 use lib.ListN.{length, getD, set}
 use Rattle.grouping_marks.specs.Over.{part}
+use Rattle.grouping_marks.specs.Passes.{Apart, Triple, TripleApart}
 use Rattle.grouping_marks.proofs.OverLaws.{length-part}
 use Rattle.grouping_marks.proofs.FillLaws.{Fill}
-use Rattle.grouping_color.specs.AlternatingMonoPattern.{opensPattern, patternMarks, coupledAt, coupled}
-use Rattle.grouping_marks.specs.Passes.{Apart, Triple, TripleApart}
 use Rattle.grouping_marks.proofs.StoreLaws.{read-at, fill-apart, table-start, table-turn}
+use Rattle.grouping_color.specs.AlternatingMonoPattern.{opensPattern, patternMarks, coupledAt, coupled}
 
 -- ---- which streak opens a pattern
 

@@ -3,8 +3,8 @@ ghost use mathlib.Core.Path.{_≡_};
 ghost use Prim.Native.Nat.{_+_, _≤_, _<_};
 ghost use lib.ListN.{length};
 ghost use Rattle.grouping_marks.specs.Over.{put, part};
-ghost use Rattle.grouping_color.specs.AlternatingMonoPattern.{opensPattern, patternMarks, coupledAt, coupled};
 ghost use Rattle.grouping_marks.specs.Passes.{Apart, Triple, TripleApart};
+ghost use Rattle.grouping_color.specs.AlternatingMonoPattern.{opensPattern, patternMarks, coupledAt, coupled};
 
 fn opens_pattern(w: &[u16], from: usize, m: usize, i: usize) -> u16
     requires { ⌜ from + m ≤ length (now w) ⌝ ∗ ⌜ i < m ⌝ }

@@ -1,7 +1,7 @@
 // `group_by_interval` and the normaliser under C names, for the host tests alone.
-ghost use Rattle.grouping_interval.specs.Grouped.{Places, Grouped};
 ghost use Rattle.grouping_sort.specs.Ordered.{AllFinite};
 ghost use Rattle.grouping_normalizer.specs.Normalizer.{NormalOf};
+ghost use Rattle.grouping_interval.specs.Grouped.{Places, Grouped};
 
 #[no_mangle]
 pub extern "C" fn grouping_group_by_interval(

@@ -18,9 +18,9 @@ use Rattle.grouping_marks.specs.Over.{over}
 use Rattle.grouping_marks.proofs.OverLaws.{length-over, front}
 use Rattle.grouping_marks.proofs.PieceLaws.{over-pieces}
 use Rattle.grouping_sort.specs.Ordered.{ordered}
-use Rattle.grouping_normalizer.specs.Normalizer.{alike, unrepeated, distinct, sets, middleOf, normalOf, Distinct, NormalOf}
 use Rattle.grouping_sort.proofs.InsertLaws.{Numbers}
 use Rattle.grouping_sort.proofs.OrderedLaws.{number-at, ordered-few, length-ordered, numbers-ordered}
+use Rattle.grouping_normalizer.specs.Normalizer.{alike, unrepeated, distinct, sets, middleOf, normalOf, Distinct, NormalOf}
 
 -- ---- lengths
 

@@ -11,12 +11,12 @@ use Rattle.grouping_marks.specs.Passes.{Room, Apart}
 use Rattle.grouping_marks.proofs.OverLaws.{length-part, length-put, part-put-same, part-put-before, part-put-after, drop-put, written-append}
 use Rattle.grouping_marks.proofs.PieceLaws.{part-shorter}
 use Rattle.grouping_marks.proofs.MarksLaws.{length-numbers, length-places, length-sizes, length-firsts, count-le}
+use Rattle.grouping_hits.specs.RepeatingHitPatterns.{hitMarks, secondLengths, intervals}
+use Rattle.grouping_hits.proofs.LengthLaws.{length-hitMarks, length-secondLengths, length-intervals}
 use Rattle.grouping_color.specs.MonoStreak.{streakMarks, streakOf, streakLengths, streakTypes}
 use Rattle.grouping_color.specs.AlternatingMonoPattern.{patternMarks, coupled}
-use Rattle.grouping_hits.specs.RepeatingHitPatterns.{hitMarks, secondLengths, intervals}
 use Rattle.grouping_color.specs.Preprocessor.{patternsOpen, firstLengths, streakCounts, patternTypes, coupledPatterns, hitsOpen}
 use Rattle.grouping_color.proofs.LengthLaws.{length-streakMarks, length-patternMarks, length-coupled}
-use Rattle.grouping_hits.proofs.LengthLaws.{length-hitMarks, length-secondLengths, length-intervals}
 use Rattle.grouping_color.proofs.MadeLaws.{streakOf-made, streakLengths-made, streakTypes-made, patternsOpen-made, firstLengths-made, streakCounts-made, patternTypes-made, coupledPatterns-made, hitsOpen-made, hitCount-made, hitSizes-made, hitFirsts-made, hitSeconds-made, hitIntervals-made}
 use Rattle.grouping_preprocessor.specs.Writes.{streakWrites, patternWrites, hitMarkWrites, hitWrites, coupledWrites, encoderWrites}
 use Rattle.grouping_preprocessor.specs.Passes.{Regions, Outside, Streaks, Patterns, Kept, HitMarks, Hits, Encodes}

@@ -5,9 +5,9 @@ use mathlib.Core.List.{List}
 use lib.ListN.{length, drop}
 use Rattle.grouping_marks.specs.Over.{part, written}
 use Rattle.grouping_marks.specs.Marks.{groupCount, groupNumbers, groupPlaces, groupSizes, groupFirsts}
+use Rattle.grouping_hits.specs.RepeatingHitPatterns.{hitMarks, secondLengths, intervals}
 use Rattle.grouping_color.specs.MonoStreak.{streakMarks, streakOf, streakLengths, streakTypes}
 use Rattle.grouping_color.specs.AlternatingMonoPattern.{patternMarks}
-use Rattle.grouping_hits.specs.RepeatingHitPatterns.{hitMarks, secondLengths, intervals}
 use Rattle.grouping_color.specs.Preprocessor.{patternsOpen, hitsOpen, hitCount, hitIntervals}
 use Rattle.grouping_preprocessor.specs.Writes.{streakWrites, patternWrites, hitMarkWrites, coupledWrites, encoderWrites}
 use Rattle.grouping_preprocessor.specs.declared.Counts.{Counts}

@@ -7,9 +7,9 @@ use mathlib.Core.List.{List, [], _∷_, _++_}
 use lib.ListN.{length}
 use Rattle.grouping_marks.specs.Over.{Write, write}
 use Rattle.grouping_marks.specs.Marks.{groupNumbers, groupPlaces, groupSizes, groupFirsts}
+use Rattle.grouping_hits.specs.RepeatingHitPatterns.{hitMarks, secondLengths, intervals}
 use Rattle.grouping_color.specs.MonoStreak.{streakMarks, streakOf, streakLengths, streakTypes}
 use Rattle.grouping_color.specs.AlternatingMonoPattern.{patternMarks}
-use Rattle.grouping_hits.specs.RepeatingHitPatterns.{hitMarks, secondLengths, intervals}
 use Rattle.grouping_color.specs.Preprocessor.{firstLengths, coupledPatterns}
 
 -- the streaks: their marks, each object's streak, each streak's type and length

@@ -11,10 +11,10 @@ use Rattle.grouping_marks.specs.Over.{part}
 use Rattle.grouping_marks.specs.Parted.{parted}
 use Rattle.grouping_marks.proofs.OverLaws.{length-part, getD-part}
 use Rattle.grouping_marks.proofs.PieceLaws.{part-pieces}
+use Rattle.grouping_sort.specs.Ordered.{AllFinite}
 use Rattle.grouping_interval.specs.IntervalGrouping.{intervalMarks}
 use Rattle.grouping_interval.specs.GroupEnd.{groupEnd}
 use Rattle.grouping_interval.proofs.EndLaws.{end-after, end-within, end-same}
-use Rattle.grouping_sort.specs.Ordered.{AllFinite}
 use Rattle.grouping_same_rhythm.specs.declared.own.Own.{Own}
 use Rattle.grouping_same_rhythm.specs.declared.own.Own.the-variants.{Absent}
 use Rattle.grouping_same_rhythm.specs.declared.owns.Recent.{Recent}

@@ -7,9 +7,9 @@ use lib.Ieee.{Float}
 use Rattle.grouping_marks.specs.Over.{over, put, part}
 use Rattle.grouping_marks.specs.Marks.{groupCount}
 use Rattle.grouping_marks.specs.Parted.{parted}
-use Rattle.grouping_interval.specs.IntervalGrouping.{intervalMarks}
 use Rattle.grouping_sort.specs.Ordered.{ordered, AllFinite}
 use Rattle.grouping_normalizer.specs.Normalizer.{distinct}
+use Rattle.grouping_interval.specs.IntervalGrouping.{intervalMarks}
 use Rattle.grouping_same_rhythm.specs.Own.{modalDelta, ownsOf}
 use Rattle.grouping_same_rhythm.specs.SameRhythm.{firstsOf}
 use Rattle.grouping_same_rhythm.specs.declared.own.Own.{Own}

@@ -5,9 +5,9 @@ use Prim.Native.Nat.{ℕ}
 use Rattle.grouping_marks.specs.Scan.{scan, after, tabulate, gathered}
 use Rattle.grouping_marks.specs.Marks.{opened, groupCount, groupNumbers, placeAt, groupPlaces, sizesFrom, groupSizes, firstsFrom, groupFirsts}
 use Rattle.grouping_chart.specs.Object.{isNote, notes, noteIdx, noteBefore, previousNote}
+use Rattle.grouping_hits.specs.RepeatingHitPatterns.{stageAfter, opensHit, hitMarks, secondAt, secondLengths, matches, nearestMatch, intervalAt, intervals}
 use Rattle.grouping_color.specs.MonoStreak.{continues, opensStreak, streakMarks, streakOf, streakLengths, streakTypes}
 use Rattle.grouping_color.specs.AlternatingMonoPattern.{opensPattern, patternMarks, coupledAt, coupled}
-use Rattle.grouping_hits.specs.RepeatingHitPatterns.{stageAfter, opensHit, hitMarks, secondAt, secondLengths, matches, nearestMatch, intervalAt, intervals}
 use Rattle.grouping_color.specs.Preprocessor.{patternsOpen, firstLengths, streakCounts, patternTypes, coupledPatterns, hitsOpen, hitSizes, hitFirsts, hitSeconds, hitIntervals, patternOf, hitOf, intervalOf}
 use Rattle.letters_text.specs.Letters.{trimmed, isLetter, kindOf, letterOf, kindsOf, firstBad, reading}
 use Rattle.letters_text.specs.Decimal.{digitAt, decimal}
