@@ -6,7 +6,8 @@ cd "$(dirname "$0")"
 rt fmt --check
 (cd tests/repository && cargo test --release --offline --quiet)
 
-# an archive's own crate is proved once more as it is made, so these are made side by side, and what they use is proved before
+# an archive's own crate is proved once more as it is made, so these are made side by side, and what they use is proved before;
+# few of these crates can be proved at the same time, so all that can are
 RT_JOBS=4 rt check evaluator_calls evaluator_record letters
 rt staticlib dresserduck &
 archive=$!
