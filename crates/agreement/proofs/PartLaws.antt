@@ -55,31 +55,18 @@ backPattern k = gathered (groupNumbers (k .patterns)) (groupNumbers (k .streaks)
 unfoldable pub backHit : Back → List ℕ
 backHit k = gathered (groupNumbers (k .hits)) (backPattern k)
 
+-- a level with an item for each group of the level below it, before the cut and in all, has one for each behind the cut too
+back-level : {whole below : List ℕ} (front back front′ back′ : List ℕ) → length whole ≡ groupCount below → whole ≡ front ++ back → below ≡ front′ ++ back′ → Opening back′
+    → groupCount front′ ≡ length front → length back ≡ groupCount back′
+back-level front back front′ back′ long e f o h = omega (arith, long, ap length e, length-append front back, ap groupCount f, count-cut front′ back′ o, h)
+
 module _ {kinds : List ℕ} {k : Back} (x : Parted kinds k) where
   -- the levels behind the cut fit each other as those of the whole chart do
   back-patterns : length (k .patterns) ≡ groupCount (k .streaks)
-  back-patterns =
-      omega (
-        arith,
-        length-patternsOpen kinds,
-        ap length (x .patterns-whole),
-        length-append (x .patterns) (k .patterns),
-        ap groupCount (x .streaks-whole),
-        count-cut (x .streaks) (k .streaks) (x .streaks-open),
-        x .streaks-count,
-      )
+  back-patterns = back-level (x .patterns) (k .patterns) (x .streaks) (k .streaks) (length-patternsOpen kinds) (x .patterns-whole) (x .streaks-whole) (x .streaks-open) (x .streaks-count)
 
   back-hits : length (k .hits) ≡ groupCount (k .patterns)
-  back-hits =
-      omega (
-        arith,
-        length-hitsOpen kinds,
-        ap length (x .hits-whole),
-        length-append (x .hits) (k .hits),
-        ap groupCount (x .patterns-whole),
-        count-cut (x .patterns) (k .patterns) (x .patterns-open),
-        x .patterns-count,
-      )
+  back-hits = back-level (x .hits) (k .hits) (x .patterns) (k .patterns) (length-hitsOpen kinds) (x .hits-whole) (x .patterns-whole) (x .patterns-open) (x .patterns-count)
 
   -- ---- the numbers
 
