@@ -6,13 +6,12 @@ use native.Mathlib.Omega.{arith}
 use lib.ListN.{length, getD}
 use Rattle.grouping_chart.specs.Object.{noteIdx}
 use Rattle.grouping_chart.specs.Notes.{noteDeltas}
-use Rattle.grouping_chart.specs.Chart.{Chart, size}
-use Rattle.grouping_chart.specs.Refusal.{verdict}
+use Rattle.grouping_chart.specs.Chart.{Chart}
 use Rattle.grouping_chart.specs.Settings.{Settings}
 use Rattle.grouping_chart.specs.declared.chart.Verdict.the-variants.{Accepted}
 use Rattle.grouping_chart.proofs.AcceptedLaws.{accepted-good}
 use Rattle.grouping_chart.proofs.NoteLaws.{length-note-objects, length-note-deltas, note-within}
-use Rattle.grouping_rhythm.specs.Rhythm.{Memory, beside, rhythmOutcome}
+use Rattle.grouping_rhythm.specs.Rhythm.{Memory, judged, rhythmOutcome}
 use Rattle.grouping_rhythm.proofs.RhythmLaws.{group-written}
 use Rattle.agreement.specs.CommonTail.{Counterparts, CommonTail}
 use Rattle.agreement_rhythm.specs.RhythmClaim.{groupAt, tailNotes}
@@ -22,12 +21,12 @@ use Rattle.agreement_rhythm.proofs.RhythmClaimed.{chart-numbers, share-group}
 use Rattle.agreement_charts.specs.TailAgreement.{AlikeTails}
 use Rattle.agreement_charts.specs.RhythmCallClaim.{TailNote, RhythmCallClaim}
 
-module _ (s : Settings) (c c′ : Chart) (lent lent′ : Memory) (m : ℕ) (x : verdict c (beside (size c) lent) ≡ Accepted) (x′ : verdict c′ (beside (size c′) lent′) ≡ Accepted)
+module _ (s : Settings) (c c′ : Chart) (lent lent′ : Memory) (m : ℕ) (x : judged c lent ≡ Accepted) (x′ : judged c′ lent′ ≡ Accepted)
     (t : AlikeTails c c′ m) where
   tail : CommonTail m (c .kinds) (c .deltas) (c′ .kinds) (c′ .deltas)
   tail = record {
-    whole = accepted-good c (beside (size c) lent) x .lengths .delta;
-    whole′ = accepted-good c′ (beside (size c′) lent′) x′ .lengths .delta;
+    whole = accepted-good c _ x .lengths .delta;
+    whole′ = accepted-good c′ _ x′ .lengths .delta;
     inside = t .inside;
     inside′ = t .inside′;
     kinds-alike = t .kinds;

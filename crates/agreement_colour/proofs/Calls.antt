@@ -17,7 +17,7 @@ use Rattle.grouping_encode.proofs.EncodeLaws.{hit-written, interval-written}
 use Rattle.evaluator_values.specs.Colour.{isFirst, valuesOf}
 use Rattle.evaluator_values.proofs.LookLaws.{value-of}
 use Rattle.evaluator_values.proofs.AlikeLaws.{first-alike}
-use Rattle.evaluator_calls.specs.Calls.{Memory, beside}
+use Rattle.evaluator_calls.specs.Calls.{Memory, judged}
 use Rattle.evaluator_calls.specs.declared.Stretching.the-variants.{Done}
 use Rattle.evaluator_calls.proofs.AnswerLaws.{value-written, stretch-answered}
 use Rattle.agreement.specs.CommonTail.{Counterparts, CommonTail}
@@ -28,7 +28,7 @@ use Rattle.agreement_colour.proofs.ColourClaimed.{colour-claim}
 
 -- ---- one accepted call of encode
 
-module _ (s : Settings) (c : Chart) (lent : encode.Memory) (accepted : verdict c (encode.beside (size c) lent) ≡ Accepted) where
+module _ (s : Settings) (c : Chart) (lent : encode.Memory) (accepted : encode.judged c lent ≡ Accepted) where
   -- two objects are of one hit pattern by what was written exactly when they are by the definition
   together : (i j : ℕ) → i < size c → j < size c
       → (getD (encodeOutcome s c lent .memory .hit) i 0 ≡ getD (encodeOutcome s c lent .memory .hit) j 0) ↔ (getD (hitOf (c .kinds)) i 0 ≡ getD (hitOf (c .kinds)) j 0)
@@ -62,10 +62,10 @@ module _ (s : Settings) (c c′ : Chart) (m position position′ : ℕ) (tail : 
   set-claim b b′ x x′ =
       colour-claim (s .limit) (s .tolerance) (c .kinds) (c .ratios) (c′ .kinds) (c′ .ratios) m position position′ (common-tail c c′ m b b′ x x′ tail) far landmark
 
-  pub encode-claim : (lent lent′ : encode.Memory) → verdict c (encode.beside (size c) lent) ≡ Accepted → verdict c′ (encode.beside (size c′) lent′) ≡ Accepted
+  pub encode-claim : (lent lent′ : encode.Memory) → encode.judged c lent ≡ Accepted → encode.judged c′ lent′ ≡ Accepted
       → EncodeClaim s c c′ lent lent′ position position′
   encode-claim lent lent′ x x′ =
-      let k = set-claim (encode.beside (size c) lent) (encode.beside (size c′) lent′) x x′ in
+      let k = set-claim _ _ x x′ in
       record {
         opens = λ i i′ p l e. first-written s c lent x i l ∙ k .opens i i′ p l e ∙ sym (first-written s c′ lent′ x′ i′ (omega arith));
         all-after = λ i j p l n e. k .all-after i j p l n (together s c lent x i j l n .0 e);
@@ -78,7 +78,7 @@ module _ (s : Settings) (c c′ : Chart) (m position position′ : ℕ) (tail : 
         interval = λ i i′ y e. interval-written s c lent x i (y .there) ∙ k .interval i i′ y e ∙ sym (interval-written s c′ lent′ x′ i′ (omega (arith, y .there)));
       }
 
-  pub calls-claim : (lent lent′ : Memory) → verdict c (beside (size c) lent) ≡ Accepted → verdict c′ (beside (size c′) lent′) ≡ Accepted
+  pub calls-claim : (lent lent′ : Memory) → judged c lent ≡ Accepted → judged c′ lent′ ≡ Accepted
       → CallsClaim s c c′ lent lent′ position position′
   calls-claim lent lent′ x x′ = record {
     value = value;
@@ -89,7 +89,7 @@ module _ (s : Settings) (c c′ : Chart) (m position position′ : ℕ) (tail : 
   }
     where
       k : ColourClaim (s .limit) (s .tolerance) (c .kinds) (c .ratios) (c′ .kinds) (c′ .ratios) position position′
-      k = set-claim (beside (size c) lent) (beside (size c′) lent′) x x′
+      k = set-claim _ _ x x′
 
       value : (i i′ : ℕ) → Settled (s .limit) (c .kinds) position i → Counterparts (c .kinds) (c′ .kinds) i i′ → getD (valuesOf s c) i nan ≡ getD (valuesOf s c′) i′ nan
       value i i′ y e =

@@ -9,9 +9,10 @@ use lib.Ieee.{Float, binary64, toBits, ofBits}
 use Rattle.grouping_marks.specs.Over.{over}
 use Rattle.grouping_marks.proofs.OverLaws.{lent-part}
 use Rattle.grouping_chart.specs.Chart.{Chart}
+use Rattle.grouping_chart.specs.Lent.{Outcome}
 use Rattle.grouping_chart.specs.Settings.{baseSettings}
 use Rattle.grouping_chart.specs.declared.object.ObjectIndex.{ObjectIndex}
-use Rattle.evaluator_calls.specs.Calls.{Memory, Outcome, colourOutcome, stretchOutcome}
+use Rattle.evaluator_calls.specs.Calls.{Memory, colourOutcome, stretchOutcome}
 use Rattle.evaluator_calls.specs.declared.Colouring.{Colouring}
 use Rattle.evaluator_calls.specs.declared.Colouring.the-variants as colouring
 use Rattle.evaluator_calls.specs.declared.Stretching.{Stretching}
@@ -36,16 +37,16 @@ pub colour-refused : (answer : Colouring) (number : ℕ) (place : ObjectIndex) �
 colour-refused answer number place e = denied (λ h. let z : _≡_ {A = ℕ} 0 1 = cc in omega arith)
 
 module _ {call : Asked} {c : Chart} {m : Memory} {r : Bool} where
-  pub colour-answered : {o : Outcome Colouring} → call ≡ asked.Colour → o ≡ colourOutcome baseSettings c m → Tells r (o .answer ≡ colouring.Done) → Answered call c m (o .memory) r
+  pub colour-answered : {o : Outcome Colouring Memory} → call ≡ asked.Colour → o ≡ colourOutcome baseSettings c m → Tells r (o .answer ≡ colouring.Done) → Answered call c m (o .memory) r
   unfolding Answers leaves
   colour-answered a e t =
-      rw a (record { told = subst (λ (x : Outcome Colouring). Tells r (x .answer ≡ colouring.Done)) e t; memory = ap (λ (x : Outcome Colouring). x .memory) e })
+      rw a (record { told = subst (λ (x : Outcome Colouring Memory). Tells r (x .answer ≡ colouring.Done)) e t; memory = ap (λ (x : Outcome Colouring Memory). x .memory) e })
 
-  pub stretch-answered : {o : Outcome Stretching} (s : Stretch) → call ≡ asked.Stretched s → o ≡ stretchOutcome baseSettings c (s .a) (s .b) m → Tells r (MeanIs s (o .answer))
+  pub stretch-answered : {o : Outcome Stretching Memory} (s : Stretch) → call ≡ asked.Stretched s → o ≡ stretchOutcome baseSettings c (s .a) (s .b) m → Tells r (MeanIs s (o .answer))
       → Answered call c m (o .memory) r
   unfolding Answers leaves
   stretch-answered s a e t =
-      rw a (record { told = subst (λ (x : Outcome Stretching). Tells r (MeanIs s (x .answer))) e t; memory = ap (λ (x : Outcome Stretching). x .memory) e })
+      rw a (record { told = subst (λ (x : Outcome Stretching Memory). Tells r (MeanIs s (x .answer))) e t; memory = ap (λ (x : Outcome Stretching Memory). x .memory) e })
 
 pub values-told : {size n : ℕ} {body : List ℕ} {m : Memory} {r : Bool}
     → Tells r (Held (words body (2 + n + size) n) (toBits binary64 floatMark) (bitsOf (m .value)) × Cleared n (m .work) (m .scratch)) → Tells r (ValuesHeld size n body m)

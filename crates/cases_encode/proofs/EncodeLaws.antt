@@ -10,9 +10,10 @@ use lib.Ieee.{Float}
 use Rattle.grouping_marks.specs.Over.{part}
 use Rattle.grouping_marks.proofs.OverLaws.{lent-part}
 use Rattle.grouping_chart.specs.Chart.{Chart}
+use Rattle.grouping_chart.specs.Lent.{Outcome}
 use Rattle.grouping_chart.specs.Settings.{baseSettings}
 use Rattle.grouping_chart.specs.declared.object.ObjectIndex.{ObjectIndex}
-use Rattle.grouping_encode.specs.Encode.{Memory, Outcome, encodeOutcome}
+use Rattle.grouping_encode.specs.Encode.{Memory, encodeOutcome}
 use Rattle.grouping_encode.specs.declared.Encoding.{Encoding}
 use Rattle.grouping_encode.specs.declared.Encoding.the-variants.{Done, Refused}
 use Rattle.vectors.specs.Case.{pairAt, columnSize, column}
@@ -65,7 +66,7 @@ module _ (n spare : ℕ) (body : List ℕ) (few : Few n spare) where
   memory-is = rw (numbers-lent few, bytes-lent few, work-lent few, floats-lent few)
 
   -- each part is compared by itself, and the answers are put together
-  pub call-told : (size width : ℕ) {o : Outcome} {a b c d e f bc abc de def r : Bool} → o ≡ encodeOutcome baseSettings (chart n body) (memory n spare)
+  pub call-told : (size width : ℕ) {o : Outcome Encoding Memory} {a b c d e f bc abc de def r : Bool} → o ≡ encodeOutcome baseSettings (chart n body) (memory n spare)
       → Tells a (o .answer ≡ Done (pairAt body 0))
       → Tells b (Columns body (2 + n) size width n (o .memory .streak) (o .memory .streakPlace))
       → Tells c (Columns body (2 + n + 2 * size) size width n (o .memory .pattern) (o .memory .patternPlace))
@@ -75,7 +76,7 @@ module _ (n spare : ℕ) (body : List ℕ) (few : Few n spare) where
       → bc ≡ (b && c) → abc ≡ (a && bc) → de ≡ (d && e) → def ≡ (de && f) → r ≡ (abc && def)
       → Tells r (EncodeStored size width n body (encodeOutcome baseSettings (encodeChart n body) (encodeLent n spare)))
   call-told size width {r} is ta tb tc td te tf p q u v w =
-      subst (λ (x : Outcome). Tells r (EncodeStored size width n body x)) (is ∙ (λ i. encodeOutcome baseSettings (chart-is i) (memory-is i)))
+      subst (λ (x : Outcome Encoding Memory). Tells r (EncodeStored size width n body x)) (is ∙ (λ i. encodeOutcome baseSettings (chart-is i) (memory-is i)))
       (tells-as
       (λ p. record {
         answer = p .0 .0;

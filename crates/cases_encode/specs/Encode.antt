@@ -5,8 +5,10 @@ use Prim.Native.Nat.{ℕ, _+_, _*_, _≤_}
 use lib.ListN.{length, replicate}
 use Rattle.grouping_marks.specs.Over.{part}
 use Rattle.grouping_chart.specs.Chart.{Chart}
+use Rattle.grouping_chart.specs.Lent.{Outcome}
 use Rattle.grouping_chart.specs.Settings.{baseSettings}
-use Rattle.grouping_encode.specs.Encode.{Memory, Outcome, encodeOutcome}
+use Rattle.grouping_encode.specs.Encode.{Memory, encodeOutcome}
+use Rattle.grouping_encode.specs.declared.Encoding.{Encoding}
 use Rattle.grouping_encode.specs.declared.Encoding.the-variants.{Done}
 use Rattle.vectors.specs.Case.{pairAt, columnSize, column}
 use Rattle.vectors.specs.Held.{Held}
@@ -32,7 +34,7 @@ encodeLent n spare = record {
 }
 
 -- the number of hit patterns, five columns of numbers that have so many bytes each, a row of bytes, and cleared work slices
-pub record EncodeStored (size width n : ℕ) (body : List ℕ) (o : Outcome) : Type 0 where
+pub record EncodeStored (size width n : ℕ) (body : List ℕ) (o : Outcome Encoding Memory) : Type 0 where
   pub answer : o .answer ≡ Done (pairAt body 0)
   pub streak : Held (column body (2 + n) width n) numberMark (o .memory .streak)
   pub streakPlace : Held (column body (2 + n + size) width n) numberMark (o .memory .streakPlace)

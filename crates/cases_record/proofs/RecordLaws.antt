@@ -6,11 +6,12 @@ use Prim.Native.Nat.{ℕ, _+_, _*_}
 use lib.Dec.{eqb}
 use lib.ListN.{take, replicate}
 use lib.Ieee.{Float, binary64, toBits, ofBits}
+use Rattle.grouping_chart.specs.Lent.{Outcome}
 use Rattle.grouping_chart.specs.Settings.{baseSettings}
 use Rattle.grouping_chart.specs.declared.object.ObjectIndex.{ObjectIndex}
 use Rattle.grouping_same_rhythm.specs.declared.own.Own.{Own}
 use Rattle.grouping_same_rhythm.specs.declared.own.Own.the-variants.{Absent, Millis}
-use Rattle.evaluator_record.specs.Calls.{Memory, Outcome, recordOutcome}
+use Rattle.evaluator_record.specs.Calls.{Memory, recordOutcome}
 use Rattle.evaluator_record.specs.declared.GroupRecord.{GroupRecord}
 use Rattle.evaluator_record.specs.declared.Recording.{Recording}
 use Rattle.evaluator_record.specs.declared.Recording.the-variants.{Done, Refused}
@@ -75,12 +76,12 @@ module _ (n spare : ℕ) (body : List ℕ) (few : Few n spare) {starts deltas : 
   unfolding recordLent
   memory-is = rw (work-lent few, floats-lent few)
 
-  pub call-told : (part : List ℕ) {o : Outcome} {g : ℕ} {window : Float} {a b r : Bool} → o ≡ recordOutcome baseSettings (chart n body starts deltas) g window memory → g ≡ pairAt part 0
+  pub call-told : (part : List ℕ) {o : Outcome Recording Memory} {g : ℕ} {window : Float} {a b r : Bool} → o ≡ recordOutcome baseSettings (chart n body starts deltas) g window memory → g ≡ pairAt part 0
       → window ≡ ofBits binary64 (wordAt part 10) → Tells a (RecordIs part (o .answer)) → Tells b (Cleared n (o .memory .work) (o .memory .scratch)) → r ≡ (a && b)
       → Tells r (RecordStored n part (recordOf n body part spare))
   unfolding recordOf
   call-told part {a} {b} {r} e p w t u q =
-      subst (λ (y : Outcome). Tells r (RecordStored n part y)) (e ∙ (λ i. recordOutcome baseSettings (chart-is n spare body few x i) (p i) (w i) (memory-is i)))
+      subst (λ (y : Outcome Recording Memory). Tells r (RecordStored n part y)) (e ∙ (λ i. recordOutcome baseSettings (chart-is n spare body few x i) (p i) (w i) (memory-is i)))
       (tells-as (λ h. record { answer = h .0; cleared = h .1 }) (λ h. (h .answer, h .cleared)) (tells-both a b q t u))
 
 pub record-call : (chart : Head) (body : List ℕ) (h : Head) (part : List ℕ) (spare : ℕ) → RecordHolds chart body h part spare → h .call ≡ 5

@@ -4,10 +4,11 @@ use mathlib.Core.List.{List}
 use Prim.Native.Nat.{ℕ, _+_, _*_}
 use lib.ListN.{length, replicate}
 use lib.Ieee.{binary64, toBits, ofBits}
+use Rattle.grouping_chart.specs.Lent.{Outcome}
 use Rattle.grouping_chart.specs.Settings.{baseSettings}
 use Rattle.grouping_same_rhythm.specs.declared.own.Own.{Own}
 use Rattle.grouping_same_rhythm.specs.declared.own.Own.the-variants.{Absent, Millis}
-use Rattle.evaluator_record.specs.Calls.{Memory, Outcome, recordOutcome}
+use Rattle.evaluator_record.specs.Calls.{Memory, recordOutcome}
 use Rattle.evaluator_record.specs.declared.GroupRecord.{GroupRecord}
 use Rattle.evaluator_record.specs.declared.Recording.{Recording}
 use Rattle.evaluator_record.specs.declared.Recording.the-variants.{Done, Refused}
@@ -41,12 +42,12 @@ unfoldable pub RecordIs : List ℕ → Recording → Type 0
 RecordIs part (Done r) = FieldsAre part r
 RecordIs part (Refused number place) = ⊥
 
-pub record RecordStored (n : ℕ) (part : List ℕ) (o : Outcome) : Type 0 where
+pub record RecordStored (n : ℕ) (part : List ℕ) (o : Outcome Recording Memory) : Type 0 where
   pub answer : RecordIs part (o .answer)
   pub cleared : Cleared n (o .memory .work) (o .memory .scratch)
 
 -- what the definition gives for the group and the window that are stored
-unfoldable pub recordOf : ℕ → List ℕ → List ℕ → ℕ → Outcome
+unfoldable pub recordOf : ℕ → List ℕ → List ℕ → ℕ → Outcome Recording Memory
 recordOf n body part spare = recordOutcome baseSettings (rhythmChart n body) (pairAt part 0) (ofBits binary64 (wordAt part 10)) (recordLent n spare)
 
 -- a record with this head and these bytes, of the chart of a rhythm case

@@ -9,9 +9,10 @@ use lib.ListN.{take, drop, replicate}
 use lib.Ieee.{Float, binary64, ofBits}
 use Rattle.grouping_marks.proofs.OverLaws.{lent-part}
 use Rattle.grouping_chart.specs.Chart.{Chart}
+use Rattle.grouping_chart.specs.Lent.{Outcome}
 use Rattle.grouping_chart.specs.Settings.{baseSettings}
 use Rattle.grouping_chart.specs.declared.object.ObjectIndex.{ObjectIndex}
-use Rattle.grouping_rhythm.specs.Rhythm.{Memory, Outcome, rhythmOutcome}
+use Rattle.grouping_rhythm.specs.Rhythm.{Memory, rhythmOutcome}
 use Rattle.grouping_rhythm.specs.declared.Grouping.{Grouping}
 use Rattle.grouping_rhythm.specs.declared.Grouping.the-variants.{Done, Refused}
 use Rattle.vectors.specs.Case.{pairAt}
@@ -65,13 +66,13 @@ module _ (n spare : ℕ) (body : List ℕ) (few : Few n spare) {starts deltas : 
   memory-is = rw (numbers-lent few, work-lent few, floats-lent few)
 
   -- each part is compared by itself, and the answers are put together
-  pub call-told : {o : Outcome} {a b c bc r : Bool} → o ≡ rhythmOutcome baseSettings (chart n body starts deltas) memory
+  pub call-told : {o : Outcome Grouping Memory} {a b c bc r : Bool} → o ≡ rhythmOutcome baseSettings (chart n body starts deltas) memory
       → Tells a (o .answer ≡ Done (pairAt body 0) (pairAt body 2))
       → Tells b (Columns body (4 + 17 * n) (2 * n) 2 n (o .memory .group) (o .memory .pattern))
       → Tells c (Cleared n (o .memory .work) (o .memory .scratch))
       → bc ≡ (b && c) → r ≡ (a && bc) → Tells r (RhythmStored n body (rhythmOutcome baseSettings (rhythmChart n body) (rhythmLent n spare)))
   call-told {r} is ta tb tc p q =
-      subst (λ (y : Outcome). Tells r (RhythmStored n body y)) (is ∙ (λ i. rhythmOutcome baseSettings (chart-is i) (memory-is i)))
+      subst (λ (y : Outcome Grouping Memory). Tells r (RhythmStored n body y)) (is ∙ (λ i. rhythmOutcome baseSettings (chart-is i) (memory-is i)))
       (tells-as (λ p. record { answer = p .0; numbers = p .1 .0; cleared = p .1 .1 }) (λ q. (q .answer, (q .numbers, q .cleared)))
       (tells-both _ _ q ta (tells-both _ _ p tb tc)))
 

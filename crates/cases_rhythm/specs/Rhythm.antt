@@ -6,8 +6,10 @@ use lib.ListN.{length, replicate}
 use lib.Ieee.{Float}
 use Rattle.grouping_marks.specs.Over.{over, part}
 use Rattle.grouping_chart.specs.Chart.{Chart}
+use Rattle.grouping_chart.specs.Lent.{Outcome}
 use Rattle.grouping_chart.specs.Settings.{baseSettings}
-use Rattle.grouping_rhythm.specs.Rhythm.{Memory, Outcome, rhythmOutcome}
+use Rattle.grouping_rhythm.specs.Rhythm.{Memory, rhythmOutcome}
+use Rattle.grouping_rhythm.specs.declared.Grouping.{Grouping}
 use Rattle.grouping_rhythm.specs.declared.Grouping.the-variants.{Done}
 use Rattle.vectors.specs.Case.{pairAt}
 use Rattle.vectors.specs.Table.{entries}
@@ -48,7 +50,7 @@ rhythmLent n spare = record {
 }
 
 -- both counts, the numbers of each object, which have two bytes, and cleared work slices
-pub record RhythmStored (n : ℕ) (body : List ℕ) (o : Outcome) : Type 0 where
+pub record RhythmStored (n : ℕ) (body : List ℕ) (o : Outcome Grouping Memory) : Type 0 where
   pub answer : o .answer ≡ Done (pairAt body 0) (pairAt body 2)
   pub numbers : Columns body (4 + 17 * n) (2 * n) 2 n (o .memory .group) (o .memory .pattern)
   pub cleared : Cleared n (o .memory .work) (o .memory .scratch)

@@ -2,10 +2,7 @@
 use Prim.Native.Nat.{ℕ}
 use lib.IntN.{pos}
 use lib.Ieee.{binary64, ofBits, toBits}
-use Rattle.grouping_encode.specs.Encode as encode
-use Rattle.evaluator_calls.specs.Calls as calls
-use Rattle.grouping_rhythm.specs.Rhythm as rhythm
-use Rattle.evaluator_record.specs.Calls as recording
+use Rattle.grouping_chart.specs.Lent.{Outcome, outcome}
 use Rattle.grouping_encode.specs.declared.Encoding.{Encoding}
 use Rattle.grouping_encode.specs.declared.Encoding.the-variants as encoding
 use Rattle.evaluator_calls.specs.declared.Colouring.{Colouring}
@@ -78,22 +75,6 @@ recordedOf (record-answer.Refused number place) = record {
   patternratiobits = 0;
 }
 
--- the record and the lent memory after a call
-pub record HostOutcome (Answer Lent : Type 0) : Type 0 where
-  pub answer : Answer
-  pub memory : Lent
-
-unfoldable pub encodeForHost : encode.Outcome → HostOutcome Encoded encode.Memory
-encodeForHost o = record { answer = encodedOf (o .answer); memory = o .memory }
-
-unfoldable pub colourForHost : calls.Outcome Colouring → HostOutcome Coloured calls.Memory
-colourForHost o = record { answer = colouredOf (o .answer); memory = o .memory }
-
-unfoldable pub stretchForHost : calls.Outcome Stretching → HostOutcome Stretched calls.Memory
-stretchForHost o = record { answer = stretchedOf (o .answer); memory = o .memory }
-
-unfoldable pub rhythmForHost : rhythm.Outcome → HostOutcome Grouped rhythm.Memory
-rhythmForHost o = record { answer = groupedOf (o .answer); memory = o .memory }
-
-unfoldable pub recordForHost : recording.Outcome → HostOutcome Recorded recording.Memory
-recordForHost o = record { answer = recordedOf (o .answer); memory = o .memory }
+-- a call's outcome, its answer turned into such a record
+unfoldable pub forHost : {Answer Record Memory : Type 0} → (Answer → Record) → Outcome Answer Memory → Outcome Record Memory
+forHost f o = outcome (f (o .answer)) (o .memory)

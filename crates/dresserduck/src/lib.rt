@@ -1,15 +1,13 @@
 // The calls for C and Rust. Each hands its slices on and turns the answer into a record of plain numbers.
 ghost use mathlib.Core.Path.{_≡_};
 ghost use Rattle.grouping_chart.specs.Settings.{baseSettings};
-ghost use Rattle.grouping_encode.specs.Encode.{Memory, encodeOutcome};
+ghost use Rattle.grouping_chart.specs.Lent.{outcome, chart};
+ghost use Rattle.grouping_encode.specs.Encode as encode;
 ghost use Rattle.evaluator_calls.specs.Calls as calls;
-ghost use Rattle.evaluator_calls.specs.Calls.{colourOutcome, stretchOutcome};
 ghost use Rattle.grouping_rhythm.specs.Rhythm as rhythm;
-ghost use Rattle.grouping_rhythm.specs.Rhythm.{rhythmOutcome};
 ghost use Rattle.evaluator_record.specs.Calls as recording;
 ghost use Rattle.evaluator_record.specs.declared.Recording.the-variants as answer;
-ghost use Rattle.evaluator_record.specs.Calls.{recordOutcome};
-ghost use Rattle.dresserduck.specs.Host.{encodedOf, colouredOf, stretchedOf, groupedOf, hasOwn, ownBits, recordedOf, HostOutcome, encodeForHost, colourForHost, stretchForHost, rhythmForHost, recordForHost};
+ghost use Rattle.dresserduck.specs.Host.{encodedOf, colouredOf, stretchedOf, groupedOf, hasOwn, ownBits, recordedOf, forHost};
 use evaluator_calls::Colouring;
 use evaluator_calls::Stretching;
 use evaluator_record::Recording;
@@ -61,10 +59,9 @@ pub extern "C" fn dresserduck_encode(
     work: &mut [u16],
     scratch: &mut [f64],
 ) -> Encoded
-    ensures { λ r. ⌜ _≡_ {A = HostOutcome Encoded Memory}
-        (record { answer = r; memory = record { streak = now (streak .exit); streakPlace = now («streak_place» .exit); pattern = now (pattern .exit); patternPlace = now («pattern_place» .exit); hit = now (hit .exit); interval = now (interval .exit); work = now (work .exit); scratch = now (scratch .exit) } })
-        (encodeForHost (encodeOutcome baseSettings (record { kinds = now (kind .entry); starts = now (start .entry); deltas = now (delta .entry); ratios = now (ratio .entry) })
-        (record { streak = now (streak .entry); streakPlace = now («streak_place» .entry); pattern = now (pattern .entry); patternPlace = now («pattern_place» .entry); hit = now (hit .entry); interval = now (interval .entry); work = now (work .entry); scratch = now (scratch .entry) }))) ⌝ }
+    ensures { λ r. ⌜ outcome r (encode.after streak «streak_place» pattern «pattern_place» hit interval work scratch)
+        ≡ forHost encodedOf (encode.encodeOutcome baseSettings (chart kind start delta ratio)
+        (encode.before streak «streak_place» pattern «pattern_place» hit interval work scratch)) ⌝ }
 {
     let answer = grouping_encode::encode(
         kind,
@@ -118,10 +115,9 @@ pub extern "C" fn dresserduck_colour(
     work: &mut [u16],
     scratch: &mut [f64],
 ) -> Coloured
-    ensures { λ r. ⌜ _≡_ {A = HostOutcome Coloured calls.Memory}
-        (record { answer = r; memory = record { value = now (value .exit); work = now (work .exit); scratch = now (scratch .exit) } })
-        (colourForHost (colourOutcome baseSettings (record { kinds = now (kind .entry); starts = now (start .entry); deltas = now (delta .entry); ratios = now (ratio .entry) })
-        (record { value = now (value .entry); work = now (work .entry); scratch = now (scratch .entry) }))) ⌝ }
+    ensures { λ r. ⌜ outcome r (calls.after value work scratch)
+        ≡ forHost colouredOf (calls.colourOutcome baseSettings (chart kind start delta ratio)
+        (calls.before value work scratch)) ⌝ }
 {
     let answer = evaluator_calls::colour(kind, start, delta, ratio, value, work, scratch);
     coloured_of(answer)
@@ -170,10 +166,9 @@ pub extern "C" fn dresserduck_stretch(
     work: &mut [u16],
     scratch: &mut [f64],
 ) -> Stretched
-    ensures { λ r. ⌜ _≡_ {A = HostOutcome Stretched calls.Memory}
-        (record { answer = r; memory = record { value = now (value .exit); work = now (work .exit); scratch = now (scratch .exit) } })
-        (stretchForHost (stretchOutcome baseSettings (record { kinds = now (kind .entry); starts = now (start .entry); deltas = now (delta .entry); ratios = now (ratio .entry) }) a b
-        (record { value = now (value .entry); work = now (work .entry); scratch = now (scratch .entry) }))) ⌝ }
+    ensures { λ r. ⌜ outcome r (calls.after value work scratch)
+        ≡ forHost stretchedOf (calls.stretchOutcome baseSettings (chart kind start delta ratio) a b
+        (calls.before value work scratch)) ⌝ }
 {
     let answer = evaluator_calls::stretch(kind, start, delta, ratio, a, b, value, work, scratch);
     stretched_of(answer)
@@ -221,10 +216,9 @@ pub extern "C" fn dresserduck_rhythm(
     work: &mut [u16],
     scratch: &mut [f64],
 ) -> Grouped
-    ensures { λ r. ⌜ _≡_ {A = HostOutcome Grouped rhythm.Memory}
-        (record { answer = r; memory = record { group = now (group .exit); pattern = now (pattern .exit); work = now (work .exit); scratch = now (scratch .exit) } })
-        (rhythmForHost (rhythmOutcome baseSettings (record { kinds = now (kind .entry); starts = now (start .entry); deltas = now (delta .entry); ratios = now (ratio .entry) })
-        (record { group = now (group .entry); pattern = now (pattern .entry); work = now (work .entry); scratch = now (scratch .entry) }))) ⌝ }
+    ensures { λ r. ⌜ outcome r (rhythm.after group pattern work scratch)
+        ≡ forHost groupedOf (rhythm.rhythmOutcome baseSettings (chart kind start delta ratio)
+        (rhythm.before group pattern work scratch)) ⌝ }
 {
     let answer = grouping_rhythm::rhythm(kind, start, delta, ratio, group, pattern, work, scratch);
     grouped_of(answer)
@@ -318,10 +312,9 @@ pub extern "C" fn dresserduck_record(
     work: &mut [u16],
     scratch: &mut [f64],
 ) -> Recorded
-    ensures { λ r. ⌜ _≡_ {A = HostOutcome Recorded recording.Memory}
-        (record { answer = r; memory = record { work = now (work .exit); scratch = now (scratch .exit) } })
-        (recordForHost (recordOutcome baseSettings (record { kinds = now (kind .entry); starts = now (start .entry); deltas = now (delta .entry); ratios = now (ratio .entry) }) group window
-        (record { work = now (work .entry); scratch = now (scratch .entry) }))) ⌝ }
+    ensures { λ r. ⌜ outcome r (recording.after work scratch)
+        ≡ forHost recordedOf (recording.recordOutcome baseSettings (chart kind start delta ratio) group window
+        (recording.before work scratch)) ⌝ }
 {
     let answer = evaluator_record::record(kind, start, delta, ratio, group, window, work, scratch);
     recorded_of(answer)

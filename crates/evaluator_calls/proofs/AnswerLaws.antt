@@ -6,6 +6,7 @@ use lib.ListN.{getD}
 use lib.Ieee.{nan}
 use Rattle.grouping_marks.proofs.PieceLaws.{getD-over}
 use Rattle.grouping_chart.specs.Chart.{Chart, size}
+use Rattle.grouping_chart.specs.Lent.{Outcome}
 use Rattle.grouping_chart.specs.Settings.{Settings}
 use Rattle.grouping_chart.specs.declared.chart.Verdict.the-variants.{Accepted}
 use Rattle.evaluator_values.specs.Colour.{valuesOf}
@@ -13,16 +14,16 @@ use Rattle.evaluator_values.proofs.LookLaws.{length-values}
 use Rattle.evaluator_calls.specs.declared.Stretching.{Stretching}
 use Rattle.evaluator_calls.specs.declared.Stretching.the-variants.{Done}
 use Rattle.evaluator_calls.specs.Stretch.{Stretch}
-use Rattle.evaluator_calls.specs.Calls.{Memory, Outcome, filled, chartMean, chartTenths, colourOutcome, stretchOutcome}
-use Rattle.evaluator_calls.proofs.CallsLaws.{stretch-accepted, judged, colour-done, stretch-done}
+use Rattle.evaluator_calls.specs.Calls.{Memory, judged, filled, chartMean, chartTenths, colourOutcome, stretchOutcome}
+use Rattle.evaluator_calls.proofs.CallsLaws.{stretch-accepted, colour-done, stretch-done}
 
-module _ (s : Settings) (c : Chart) (lent : Memory) (accepted : judged s c lent ≡ Accepted) where
+module _ (s : Settings) (c : Chart) (lent : Memory) (accepted : judged c lent ≡ Accepted) where
   pub value-written : (i : ℕ) → i < size c → getD (colourOutcome s c lent .memory .value) i nan ≡ getD (valuesOf s c) i nan
   unfolding filled
   value-written i h =
-      ap (λ (o : Outcome _). getD (o .memory .value) i nan) (sym (colour-done s c lent (filled s c lent) accepted refl))
+      ap (λ (o : Outcome _ Memory). getD (o .memory .value) i nan) (sym (colour-done s c lent (filled s c lent) accepted refl))
       ∙ getD-over (valuesOf s c) (lent .value) i nan (omega (arith, length-values (s .limit) (s .tolerance) (c .kinds) (c .ratios)))
 
   pub stretch-answered : (a b : ℕ) → Stretch (c .kinds) a b → stretchOutcome s c a b lent .answer ≡ Done (chartMean s c a b) (chartTenths s c a b)
   stretch-answered a b x =
-      sym (ap (λ (o : Outcome Stretching). o .answer) (stretch-done s c lent a b _ _ (filled s c lent) (stretch-accepted _ (c .kinds) a b accepted x) refl refl refl))
+      sym (ap (λ (o : Outcome Stretching Memory). o .answer) (stretch-done s c lent a b _ _ (filled s c lent) (stretch-accepted _ (c .kinds) a b accepted x) refl refl refl))

@@ -12,19 +12,17 @@ use lib.Ieee.{Float}
 use Rattle.grouping_chart.specs.Chart.{Chart, size}
 use Rattle.grouping_chart.specs.Refusal.{verdict, refused}
 use Rattle.grouping_chart.specs.Room.{shortRefusal}
-use Rattle.grouping_chart.specs.declared.object.ObjectIndex.{ObjectIndex}
+use Rattle.grouping_chart.specs.Lent.{outcome}
 use Rattle.grouping_chart.specs.declared.chart.Verdict.{Verdict}
 use Rattle.grouping_chart.specs.declared.chart.Verdict.the-variants.{Accepted, Refused}
 use Rattle.grouping_chart.proofs.AcceptedLaws.{accepted-good}
-use Rattle.grouping_chart.proofs.RefusalLaws.{verdict-is}
+use Rattle.grouping_chart.proofs.LentLaws.{judged-is, answered-done}
 use Rattle.grouping_chart.proofs.RoomLaws.{roomy, long-enough, short-last}
 use Rattle.grouping_chart.specs.Settings.{Settings, Permitted}
-use Rattle.evaluator_calls.specs.declared.Colouring.{Colouring}
 use Rattle.evaluator_calls.specs.declared.Colouring.the-variants as colouring
-use Rattle.evaluator_calls.specs.declared.Stretching.{Stretching}
 use Rattle.evaluator_calls.specs.declared.Stretching.the-variants as stretching
 use Rattle.evaluator_calls.specs.Stretch.{stretchRefusal, Stretch}
-use Rattle.evaluator_calls.specs.Calls.{Memory, Outcome, beside, filled, colourBy, colourOutcome, stretchVerdict, chartMean, chartTenths, stretchBy, stretchOutcome}
+use Rattle.evaluator_calls.specs.Calls.{Memory, judged, filled, colourOutcome, stretchVerdict, chartMean, chartTenths, stretchOutcome}
 use Rattle.evaluator_calls.specs.Passes.{ChartRoom, Coloured}
 use Rattle.evaluator_calls.proofs.StretchCases.{stretch-good, good-stretch}
 
@@ -52,18 +50,14 @@ within-bounds (Refused number at) kinds a b e = absurd (let z : _≡_ {A = ℕ} 
 
 -- ---- what the tests that were run say of the definition's verdict
 module _ (s : Settings) (c : Chart) (m : Memory) where
-  abbrev pub judged : Verdict
-  judged = verdict c (beside (size c) m)
-
   -- the verdict on the chart, from what `short_refusal` and `check` answered
-  pub judged-is : (b : ℕ) {v u : Verdict} → b ≡ shortRefusal (ltb (length (m .value)) (size c)) (size c) (length (m .work)) (length (m .scratch)) → v ≡ verdict c b → v ≡ u → judged ≡ u
-  unfolding beside
-  judged-is b e f g = verdict-is c (e ∙ ap (λ (x : Bool). shortRefusal x (size c) (length (m .work)) (length (m .scratch))) (short-last (size c) (length (m .value)))) f g
+  pub chart-judged : {b : ℕ} {v u : Verdict} → b ≡ shortRefusal (ltb (length (m .value)) (size c)) (size c) (length (m .work)) (length (m .scratch)) → v ≡ verdict c b → v ≡ u
+      → judged c m ≡ u
+  chart-judged e f g = judged-is c _ _ _ (short-last (size c) (length (m .value))) e f g
 
-  pub chart-room : Permitted s → judged ≡ Accepted → ChartRoom (size c) (s .limit) (c .ratios) (m .value) (m .work) (m .scratch)
-  unfolding beside
+  pub chart-room : Permitted s → judged c m ≡ Accepted → ChartRoom (size c) (s .limit) (c .ratios) (m .value) (m .work) (m .scratch)
   chart-room p h =
-      let g = accepted-good c (beside (size c) m) h in
+      let g = accepted-good c _ h in
       let r = roomy _ (size c) _ _ (g .room) in
       let v = long-enough (size c) _ _ (r .answered) in
       record {
@@ -80,28 +74,17 @@ module _ (s : Settings) (c : Chart) (m : Memory) where
   unfolding filled
   filled-is value scratch work e t = record { value = e .values t; work = e .cleared t; scratch = e .floats t }
 
-  pub colour-refused : (number : ℕ) (place : ObjectIndex) → judged ≡ Refused number place
-      → _≡_ {A = Outcome Colouring} (record { answer = colouring.Refused number place; memory = m }) (colourOutcome s c m)
-  unfolding colourOutcome colourBy
-  colour-refused number place h = sym (ap (λ (v : Verdict). colourBy v s c m) h)
-
-  pub colour-done : (new : Memory) → judged ≡ Accepted → new ≡ filled s c m → _≡_ {A = Outcome Colouring} (record { answer = colouring.Done; memory = new }) (colourOutcome s c m)
-  unfolding colourOutcome colourBy
-  colour-done new h f = (λ t. record { answer = colouring.Done; memory = f t }) ∙ sym (ap (λ (v : Verdict). colourBy v s c m) h)
+  pub colour-done : (new : Memory) → judged c m ≡ Accepted → new ≡ filled s c m → outcome colouring.Done new ≡ colourOutcome s c m
+  unfolding colourOutcome
+  colour-done new h f = answered-done _ colouring.Refused m h (λ t. outcome colouring.Done (f t))
 
   module _ (a b : ℕ) where
     -- the same, with what `with_bounds` answered
-    pub stretch-is : (n : ℕ) {u v w : Verdict} → n ≡ shortRefusal (ltb (length (m .value)) (size c)) (size c) (length (m .work)) (length (m .scratch)) → u ≡ verdict c n
-        → v ≡ stretchVerdict u (c .kinds) a b → v ≡ w → stretchVerdict judged (c .kinds) a b ≡ w
-    stretch-is n e f g h = ap (λ (x : Verdict). stretchVerdict x (c .kinds) a b) (judged-is n e f refl) ∙ sym g ∙ h
+    pub stretch-is : {n : ℕ} {u v w : Verdict} → n ≡ shortRefusal (ltb (length (m .value)) (size c)) (size c) (length (m .work)) (length (m .scratch)) → u ≡ verdict c n
+        → v ≡ stretchVerdict u (c .kinds) a b → v ≡ w → stretchVerdict (judged c m) (c .kinds) a b ≡ w
+    stretch-is e f g h = ap (λ (x : Verdict). stretchVerdict x (c .kinds) a b) (chart-judged e f refl) ∙ sym g ∙ h
 
-    pub stretch-refused : (number : ℕ) (place : ObjectIndex) → stretchVerdict judged (c .kinds) a b ≡ Refused number place
-        → _≡_ {A = Outcome Stretching} (record { answer = stretching.Refused number place; memory = m }) (stretchOutcome s c a b m)
-    unfolding stretchOutcome stretchBy
-    stretch-refused number place h = sym (ap (λ (v : Verdict). stretchBy v s c a b m) h)
-
-    pub stretch-done : (mean : Float) (tenths : ℤ) (new : Memory) → stretchVerdict judged (c .kinds) a b ≡ Accepted → mean ≡ chartMean s c a b → tenths ≡ chartTenths s c a b
-        → new ≡ filled s c m → _≡_ {A = Outcome Stretching} (record { answer = stretching.Done mean tenths; memory = new }) (stretchOutcome s c a b m)
-    unfolding stretchOutcome stretchBy
-    stretch-done mean tenths new h e f g =
-        (λ t. record { answer = stretching.Done (e t) (f t); memory = g t }) ∙ sym (ap (λ (v : Verdict). stretchBy v s c a b m) h)
+    pub stretch-done : (mean : Float) (tenths : ℤ) (new : Memory) → stretchVerdict (judged c m) (c .kinds) a b ≡ Accepted → mean ≡ chartMean s c a b → tenths ≡ chartTenths s c a b
+        → new ≡ filled s c m → outcome (stretching.Done mean tenths) new ≡ stretchOutcome s c a b m
+    unfolding stretchOutcome
+    stretch-done mean tenths new h e f g = answered-done _ stretching.Refused m h (λ t. outcome (stretching.Done (e t) (f t)) (g t))

@@ -15,6 +15,7 @@ use Rattle.grouping_marks.specs.Scan.{scan, after, tabulate, gathered}
 use Rattle.grouping_marks.specs.Marks.{opened, groupCount, groupNumbers, placeAt, groupPlaces, sizesFrom, groupSizes, firstsFrom, groupFirsts}
 use Rattle.grouping_chart.specs.Object.{isNote, notes, noteIdx, noteBefore, previousNote}
 use Rattle.grouping_chart.specs.Chart.{Chart, even}
+use Rattle.grouping_chart.specs.Lent.{Outcome, answered}
 use Rattle.grouping_chart.specs.Room.{anyShort, shortRefusal}
 use Rattle.grouping_chart.specs.Settings.{baseSettings}
 use Rattle.grouping_chart.specs.Refusal.{within, timeGood, ratioGood, objectRefusal, firstRefused, verdict}
@@ -30,7 +31,7 @@ use Rattle.evaluator_calls.specs.declared.Colouring.the-variants as colo
 use Rattle.evaluator_calls.specs.declared.Stretching.{Stretching}
 use Rattle.evaluator_calls.specs.declared.Stretching.the-variants as stretching
 use Rattle.evaluator_calls.specs.Stretch.{stretchRefusal, stretchValues, sumFrom, averageOf, meanOf, meanTenths}
-use Rattle.evaluator_calls.specs.Calls.{Memory, Outcome, beside, filled, colourBy, colourOutcome, stretchVerdict, stretchBy, stretchOutcome}
+use Rattle.evaluator_calls.specs.Calls.{Memory, filled, colourOutcome, stretchVerdict, stretchOutcome}
 
 -- starts and deltas 0.0, ratios 1.0
 unfoldable pub chart : List ℕ → Chart
@@ -47,7 +48,7 @@ pub record Shown (Answer : Type 0) : Type 0 where
   pub work : List ℕ
   pub scratch : List ℕ
 
-unfoldable pub shown : {Answer : Type 0} → Outcome Answer → Shown Answer
+unfoldable pub shown : {Answer : Type 0} → Outcome Answer Memory → Shown Answer
 shown o = record {
   answer = o .answer;
   value = map (toBits binary64) (o .memory .value);
@@ -96,5 +97,5 @@ stretches =
 -- every one of the two lists comes out as it says
 pub examples-right : (map (λ (e : Example). shown (colourOutcome baseSettings (chart (e .kinds)) (lent (length (e .kinds))))) examples ≡ map (λ (e : Example). e .outcome) examples)
     × (map (λ (e : StretchExample). shown (stretchOutcome baseSettings (chart (e .kinds)) (e .a) (e .b) (lent (length (e .kinds))))) stretches ≡ map (λ (e : StretchExample). e .outcome) stretches)
-unfolding examples stretches chart lent shown colourOutcome colourBy stretchOutcome stretchBy stretchVerdict stretchRefusal meanTenths tenthsOf meanOf averageOf stretchValues sumFrom part ofInt beside anyShort shortRefusal verdict even firstRefused objectRefusal timeGood ratioGood within filled colourValues colourAt lookedAt isFirst over tabulate scan after gathered opened groupCount groupNumbers placeAt groupPlaces sizesFrom groupSizes firstsFrom groupFirsts isNote notes noteIdx noteBefore previousNote continues opensStreak streakMarks streakOf streakLengths streakTypes opensPattern patternMarks coupledAt coupled stageAfter opensHit hitMarks secondAt secondLengths matches nearestMatch intervalAt intervals patternsOpen firstLengths streakCounts patternTypes coupledPatterns hitsOpen hitCount hitSizes hitFirsts hitSeconds hitIntervals streakPlaceOf patternOf patternPlaceOf hitOf intervalOf objectSum hitValue altValue monoValue addIf ratioPenalty lowered eightTenths logisticAt tableBits isNear round add sub mul div le ofBits toBits
+unfolding examples stretches chart lent shown answered colourOutcome stretchOutcome stretchVerdict stretchRefusal meanTenths tenthsOf meanOf averageOf stretchValues sumFrom part ofInt anyShort shortRefusal verdict even firstRefused objectRefusal timeGood ratioGood within filled colourValues colourAt lookedAt isFirst over tabulate scan after gathered opened groupCount groupNumbers placeAt groupPlaces sizesFrom groupSizes firstsFrom groupFirsts isNote notes noteIdx noteBefore previousNote continues opensStreak streakMarks streakOf streakLengths streakTypes opensPattern patternMarks coupledAt coupled stageAfter opensHit hitMarks secondAt secondLengths matches nearestMatch intervalAt intervals patternsOpen firstLengths streakCounts patternTypes coupledPatterns hitsOpen hitCount hitSizes hitFirsts hitSeconds hitIntervals streakPlaceOf patternOf patternPlaceOf hitOf intervalOf objectSum hitValue altValue monoValue addIf ratioPenalty lowered eightTenths logisticAt tableBits isNear round add sub mul div le ofBits toBits
 examples-right = (refl, refl)

@@ -15,9 +15,9 @@ use Rattle.grouping_chart.specs.Settings.{Settings, Permitted}
 use Rattle.evaluator_values.specs.Colour.{valuesOf}
 use Rattle.evaluator_values.proofs.LookLaws.{length-values}
 use Rattle.evaluator_calls.specs.Stretch.{stretchValues, averageOf, meanOf}
-use Rattle.evaluator_calls.specs.Calls.{Memory, beside, chartMean}
+use Rattle.evaluator_calls.specs.Calls.{Memory, judged, chartMean}
 use Rattle.evaluator_calls.specs.Passes.{Coloured, StretchRoom}
-use Rattle.evaluator_calls.proofs.CallsLaws.{Within, judged, chart-room}
+use Rattle.evaluator_calls.proofs.CallsLaws.{Within, chart-room}
 use Rattle.evaluator_calls.proofs.BoundLaws.{mean-tenths}
 
 -- a part that lies in what was written
@@ -28,7 +28,7 @@ part-over a n new old h r =
     (λ i k. let j : i < n = omega arith in getD-part a n (over new old) i nan j ∙ getD-over new old (a + i) nan (omega arith) ∙ sym (getD-part a n new i nan j))
 
 -- ---- an accepted stretch, after the values are filled
-module _ (s : Settings) (p : Permitted s) (c : Chart) (m : Memory) (a b : ℕ) (w : Within (judged s c m) (c .kinds) a b) (value scratch : List Float) (work : List ℕ)
+module _ (s : Settings) (p : Permitted s) (c : Chart) (m : Memory) (a b : ℕ) (w : Within (judged c m) (c .kinds) a b) (value scratch : List Float) (work : List ℕ)
     (e : Coloured (s .limit) (s .tolerance) (c .kinds) (c .ratios) (m .value) value (m .work) work (m .scratch) scratch) where
   abbrev values : List Float
   values = valuesOf s c
@@ -52,4 +52,4 @@ module _ (s : Settings) (p : Permitted s) (c : Chart) (m : Memory) (a b : ℕ) (
       h ∙ ap (λ (l : List Float). averageOf (part a (b - a) l)) (e .values) ∙ ap averageOf (part-over a (b - a) values (m .value) (omega (arith, w .stretch, long)) room)
 
   pub mean-in-range : (mean : Float) → mean ≡ averageOf (part a (b - a) value) → InTenthsRange mean
-  mean-in-range mean h = subst InTenthsRange (sym (mean-is mean h)) (mean-tenths s c (beside (size c) m) (w .accepted) a b (w .stretch))
+  mean-in-range mean h = subst InTenthsRange (sym (mean-is mean h)) (mean-tenths s c _ (w .accepted) a b (w .stretch))

@@ -9,7 +9,8 @@ use lib.Ieee.{Float, binary64, ofBits}
 use Rattle.grouping_marks.specs.Over.{over}
 use Rattle.grouping_chart.specs.Chart.{Chart, size}
 use Rattle.grouping_chart.specs.Refusal.{verdict, refused}
-use Rattle.grouping_chart.specs.Room.{anyShort, shortRefusal}
+use Rattle.grouping_chart.specs.Room.{beside}
+use Rattle.grouping_chart.specs.Lent.{Outcome, outcome, answered, Slice, lent, left}
 use Rattle.grouping_chart.specs.declared.chart.Verdict.{Verdict}
 use Rattle.grouping_chart.specs.declared.chart.Verdict.the-variants.{Accepted, Refused}
 use Rattle.grouping_chart.specs.Settings.{Settings}
@@ -26,13 +27,15 @@ pub record Memory : Type 0 where
   pub work : List ℕ
   pub scratch : List Float
 
-pub record Outcome (Answer : Type 0) : Type 0 where
-  pub answer : Answer
-  pub memory : Memory
+abbrev pub before : Slice Float → Slice ℕ → Slice Float → Memory
+before value work scratch = record { value = lent value; work = lent work; scratch = lent scratch }
 
--- the number of what is refused beside the chart, or 0
-unfoldable pub beside : ℕ → Memory → ℕ
-beside n m = shortRefusal (anyShort n (length (m .value) ∷ [])) n (length (m .work)) (length (m .scratch))
+abbrev pub after : Slice Float → Slice ℕ → Slice Float → Memory
+after value work scratch = record { value = left value; work = left work; scratch = left scratch }
+
+-- the verdict on the chart
+abbrev pub judged : Chart → Memory → Verdict
+judged c m = verdict c (beside (size c) (length (m .value) ∷ []) (length (m .work)) (length (m .scratch)))
 
 -- the memory after an accepted call
 unfoldable pub filled : Settings → Chart → Memory → Memory
@@ -42,13 +45,8 @@ filled s c m = record {
   scratch = over (replicate (size c) (ofBits binary64 0)) (m .scratch);
 }
 
--- a refusal leaves all as lent
-unfoldable pub colourBy : Verdict → Settings → Chart → Memory → Outcome Colouring
-colourBy Accepted s c m = record { answer = colouring.Done; memory = filled s c m }
-colourBy (Refused number place) s c m = record { answer = colouring.Refused number place; memory = m }
-
-unfoldable pub colourOutcome : Settings → Chart → Memory → Outcome Colouring
-colourOutcome s c m = colourBy (verdict c (beside (size c) m)) s c m
+unfoldable pub colourOutcome : Settings → Chart → Memory → Outcome Colouring Memory
+colourOutcome s c m = answered (judged c m) (outcome colouring.Done (filled s c m)) colouring.Refused m
 
 -- what is refused of the stretch comes after what is refused of the chart
 unfoldable pub stretchVerdict : Verdict → List ℕ → ℕ → ℕ → Verdict
@@ -62,9 +60,6 @@ chartMean s c a b = meanOf (s .limit) (s .tolerance) (c .kinds) (c .ratios) a b
 abbrev pub chartTenths : Settings → Chart → ℕ → ℕ → ℤ
 chartTenths s c a b = meanTenths (s .limit) (s .tolerance) (c .kinds) (c .ratios) a b
 
-unfoldable pub stretchBy : Verdict → Settings → Chart → ℕ → ℕ → Memory → Outcome Stretching
-stretchBy Accepted s c a b m = record { answer = stretching.Done (chartMean s c a b) (chartTenths s c a b); memory = filled s c m }
-stretchBy (Refused number place) s c a b m = record { answer = stretching.Refused number place; memory = m }
-
-unfoldable pub stretchOutcome : Settings → Chart → ℕ → ℕ → Memory → Outcome Stretching
-stretchOutcome s c a b m = stretchBy (stretchVerdict (verdict c (beside (size c) m)) (c .kinds) a b) s c a b m
+unfoldable pub stretchOutcome : Settings → Chart → ℕ → ℕ → Memory → Outcome Stretching Memory
+stretchOutcome s c a b m =
+    answered (stretchVerdict (judged c m) (c .kinds) a b) (outcome (stretching.Done (chartMean s c a b) (chartTenths s c a b)) (filled s c m)) stretching.Refused m

@@ -2,15 +2,13 @@
 ghost use mathlib.Core.Path.{_≡_};
 ghost use lib.ListN.{length};
 ghost use Rattle.grouping_chart.specs.Settings.{baseSettings};
-ghost use Rattle.evaluator_calls.specs.Calls.{Outcome, colourOutcome, stretchOutcome};
+ghost use Rattle.grouping_chart.specs.Lent.{outcome, chart};
+ghost use Rattle.evaluator_calls.specs.Calls.{before, after, colourOutcome, stretchOutcome};
 ghost use Rattle.evaluator_calls.specs.Passes.{ChartRoom, Coloured};
-ghost use Rattle.evaluator_calls.specs.declared.Colouring.{Colouring};
-ghost use Rattle.evaluator_calls.specs.declared.Stretching.{Stretching};
 use grouping_chart::chart::Verdict;
 use grouping_chart::object::ObjectIndex;
 use grouping_chart::room::short_refusal;
-use grouping_chart::settings::SEARCH_LIMIT;
-use grouping_chart::settings::TOLERANCE;
+use grouping_chart::settings;
 use grouping_marks::fill;
 
 pub mod mean;
@@ -57,17 +55,17 @@ pub fn colour(
     work: &mut [u16],
     scratch: &mut [f64],
 ) -> Colouring
-    ensures { λ r. ⌜ _≡_ {A = Outcome Colouring}
-        (record { answer = r; memory = record { value = now (value .exit); work = now (work .exit); scratch = now (scratch .exit) } })
-        (colourOutcome baseSettings (record { kinds = now (kind .entry); starts = now (start .entry); deltas = now (delta .entry); ratios = now (ratio .entry) })
-        (record { value = now (value .entry); work = now (work .entry); scratch = now (scratch .entry) })) ⌝ }
+    ensures { λ r. ⌜ outcome r (after value work scratch)
+        ≡ colourOutcome baseSettings (chart kind start delta ratio) (before value work scratch) ⌝ }
 {
     let n = kind.len();
     let beside = short_refusal(value.len() < n, n, work.len(), scratch.len());
     match grouping_chart::chart::check(kind, start, delta, ratio, beside) {
         Verdict::Refused(number, place) => Colouring::Refused(number, place),
         Verdict::Accepted => {
-            fill_chart(kind, ratio, SEARCH_LIMIT, TOLERANCE, value, work, scratch);
+            let s = settings::base();
+            let m = s.limit as u16;
+            fill_chart(kind, ratio, m, s.tolerance, value, work, scratch);
             Colouring::Done
         }
     }
@@ -84,10 +82,8 @@ pub fn stretch(
     work: &mut [u16],
     scratch: &mut [f64],
 ) -> Stretching
-    ensures { λ r. ⌜ _≡_ {A = Outcome Stretching}
-        (record { answer = r; memory = record { value = now (value .exit); work = now (work .exit); scratch = now (scratch .exit) } })
-        (stretchOutcome baseSettings (record { kinds = now (kind .entry); starts = now (start .entry); deltas = now (delta .entry); ratios = now (ratio .entry) }) a b
-        (record { value = now (value .entry); work = now (work .entry); scratch = now (scratch .entry) })) ⌝ }
+    ensures { λ r. ⌜ outcome r (after value work scratch)
+        ≡ stretchOutcome baseSettings (chart kind start delta ratio) a b (before value work scratch) ⌝ }
 {
     let n = kind.len();
     let beside = short_refusal(value.len() < n, n, work.len(), scratch.len());
@@ -95,7 +91,9 @@ pub fn stretch(
     match mean::with_bounds(verdict, kind, a, b) {
         Verdict::Refused(number, place) => Stretching::Refused(number, place),
         Verdict::Accepted => {
-            fill_chart(kind, ratio, SEARCH_LIMIT, TOLERANCE, value, work, scratch);
+            let s = settings::base();
+            let m = s.limit as u16;
+            fill_chart(kind, ratio, m, s.tolerance, value, work, scratch);
             let mean = mean::mean(value, a, b);
             Stretching::Done(mean, numeric::tenths::tenths(mean))
         }

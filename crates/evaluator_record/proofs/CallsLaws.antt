@@ -1,7 +1,7 @@
 -- The outcomes of record, case by case, over plain lists: a refusal leaves all as lent, and an accepted call has room in both slices and finite deltas.
-use mathlib.Core.Path.{_≡_, refl, sym, ap, _∙_}
+use mathlib.Core.Path.{_≡_, refl, ap, _∙_}
 use mathlib.Core.Bool.{Bool, true, false, cond}
-use mathlib.Core.List.{List}
+use mathlib.Core.List.{List, []}
 use Prim.Native.Nat.{ℕ, _≤_, _<_}
 use native.Mathlib.Omega.{arith}
 use borrow.Author.Tests.{lt-ltb, le-ltb}
@@ -14,19 +14,20 @@ use Rattle.numeric.proofs.Values.{finite-between}
 use Rattle.grouping_chart.specs.Chart.{Chart, size}
 use Rattle.grouping_chart.specs.Refusal.{timeGood, verdict, refused}
 use Rattle.grouping_chart.specs.Room.{shortRefusal}
+use Rattle.grouping_chart.specs.Lent.{outcome}
 use Rattle.grouping_chart.specs.Settings.{Settings}
 use Rattle.grouping_chart.specs.declared.object.ObjectIndex.{ObjectIndex}
 use Rattle.grouping_chart.specs.declared.chart.Verdict.{Verdict}
 use Rattle.grouping_chart.specs.declared.chart.Verdict.the-variants.{Accepted, Refused}
 use Rattle.grouping_chart.proofs.AcceptedLaws.{accepted-good}
 use Rattle.grouping_chart.proofs.RangeLaws.{time-range}
-use Rattle.grouping_chart.proofs.RefusalLaws.{verdict-is}
+use Rattle.grouping_chart.proofs.LentLaws.{judged-is, answered-refused, answered-done}
 use Rattle.grouping_chart.proofs.RoomLaws.{roomy, none-asked}
 use Rattle.grouping_rhythm.specs.Rhythm.{groupsIn}
 use Rattle.evaluator_record.specs.declared.GroupRecord.{GroupRecord}
 use Rattle.evaluator_record.specs.declared.Recording.the-variants.{Done}
 use Rattle.evaluator_record.specs.declared.Recording.the-variants as answer
-use Rattle.evaluator_record.specs.Calls.{Memory, Outcome, beside, windowGood, recordVerdict, cleared, recordBy, recordOutcome}
+use Rattle.evaluator_record.specs.Calls.{Memory, judged, windowGood, recordVerdict, cleared, recordOutcome}
 use Rattle.evaluator_record.specs.Passes.{GroupRoom, Recorded}
 
 -- ---- a time in range is finite
@@ -41,23 +42,17 @@ groupsOf s c = groupsIn (s .margin) (c .kinds) (c .deltas)
 
 -- ---- what the tests that were run say of the definition's verdict
 module _ (s : Settings) (c : Chart) (m : Memory) where
-  -- the verdict on the chart
-  abbrev pub judged : Verdict
-  judged = verdict c (beside (size c) m)
-
   -- from what `short_refusal` and `check` answered
-  pub judged-is : (b : ℕ) {v u : Verdict} → b ≡ shortRefusal false (size c) (length (m .work)) (length (m .scratch)) → v ≡ verdict c b → v ≡ u → judged ≡ u
-  unfolding beside
-  judged-is b e f g = verdict-is c (e ∙ ap (λ (x : Bool). shortRefusal x (size c) (length (m .work)) (length (m .scratch))) (none-asked (size c))) f g
+  pub chart-judged : {b : ℕ} {v u : Verdict} → b ≡ shortRefusal false (size c) (length (m .work)) (length (m .scratch)) → v ≡ verdict c b → v ≡ u → judged c m ≡ u
+  chart-judged e f g = judged-is c [] _ _ (none-asked (size c)) e f g
 
-  pub lengths-same : judged ≡ Accepted → length (c .deltas) ≡ length (c .kinds)
-  lengths-same h = accepted-good c (beside (size c) m) h .lengths .delta
+  pub lengths-same : judged c m ≡ Accepted → length (c .deltas) ≡ length (c .kinds)
+  lengths-same h = accepted-good c _ h .lengths .delta
 
-  pub group-room : (g : ℕ) → judged ≡ Accepted → g < groupsOf s c
+  pub group-room : (g : ℕ) → judged c m ≡ Accepted → g < groupsOf s c
       → GroupRoom (s .margin) (c .kinds) (c .starts) (c .deltas) g (m .work) (m .scratch)
-  unfolding beside
   group-room g h there =
-      let good = accepted-good c (beside (size c) m) h in
+      let good = accepted-good c _ h in
       let e = roomy _ (size c) _ _ (good .room) in
       record {
         few = good .few;
@@ -71,35 +66,34 @@ module _ (s : Settings) (c : Chart) (m : Memory) where
 
   -- ---- each case leaves its outcome
   module _ (g : ℕ) (window : Float) where
-    refused-by : (number : ℕ) (place : ObjectIndex) → recordVerdict judged window g (groupsOf s c) ≡ Refused number place
-        → _≡_ {A = Outcome} (record { answer = answer.Refused number place; memory = m }) (recordOutcome s c g window m)
-    unfolding recordOutcome recordBy
-    refused-by number place h = sym (ap (λ (v : Verdict). recordBy v s c g window m) h)
+    refused-by : (number : ℕ) (place : ObjectIndex) → recordVerdict (judged c m) window g (groupsOf s c) ≡ Refused number place
+        → outcome (answer.Refused number place) m ≡ recordOutcome s c g window m
+    unfolding recordOutcome
+    refused-by number place h = answered-refused _ answer.Refused m h
 
     -- the chart is refused
-    pub chart-refused : (number : ℕ) (place : ObjectIndex) → judged ≡ Refused number place
-        → _≡_ {A = Outcome} (record { answer = answer.Refused number place; memory = m }) (recordOutcome s c g window m)
+    pub chart-refused : (number : ℕ) (place : ObjectIndex) → judged c m ≡ Refused number place
+        → outcome (answer.Refused number place) m ≡ recordOutcome s c g window m
     unfolding recordVerdict
     chart-refused number place h = refused-by number place (ap (λ (v : Verdict). recordVerdict v window g (groupsOf s c)) h)
 
     -- the chart is accepted, and the window and the group number are tested
-    module _ (accepted : judged ≡ Accepted) where
-      tested : (a b : Bool) → windowGood window ≡ a → ltb g (groupsOf s c) ≡ b → recordVerdict judged window g (groupsOf s c) ≡ cond a (cond b Accepted (refused 9)) (refused 8)
+    module _ (accepted : judged c m ≡ Accepted) where
+      tested : (a b : Bool) → windowGood window ≡ a → ltb g (groupsOf s c) ≡ b → recordVerdict (judged c m) window g (groupsOf s c) ≡ cond a (cond b Accepted (refused 9)) (refused 8)
       unfolding recordVerdict
       tested a b p q =
           ap (λ (v : Verdict). recordVerdict v window g (groupsOf s c)) accepted ∙ (λ t. cond (p t) (cond (q t) Accepted (refused 9)) (refused 8))
 
-      pub window-refused : windowGood window ≡ false → _≡_ {A = Outcome} (record { answer = answer.Refused 8 (record { 0 = 0 }); memory = m }) (recordOutcome s c g window m)
+      pub window-refused : windowGood window ≡ false → outcome (answer.Refused 8 (record { 0 = 0 })) m ≡ recordOutcome s c g window m
       window-refused h = refused-by 8 (record { 0 = 0 }) (tested false _ h refl)
 
       pub group-refused : windowGood window ≡ true → groupsOf s c ≤ g
-          → _≡_ {A = Outcome} (record { answer = answer.Refused 9 (record { 0 = 0 }); memory = m }) (recordOutcome s c g window m)
+          → outcome (answer.Refused 9 (record { 0 = 0 })) m ≡ recordOutcome s c g window m
       group-refused h k = refused-by 9 (record { 0 = 0 }) (tested true false h (le-ltb _ _ k))
 
       pub record-done : windowGood window ≡ true → g < groupsOf s c → (r : GroupRecord) (work : List ℕ) (scratch : List Float)
           → Recorded (s .margin) (s .threshold) (c .kinds) (c .starts) (c .deltas) g window (m .work) work (m .scratch) scratch r
-          → _≡_ {A = Outcome} (record { answer = Done r; memory = record { work = work; scratch = scratch } }) (recordOutcome s c g window m)
-      unfolding recordOutcome recordBy cleared
+          → outcome (Done r) (record { work = work; scratch = scratch }) ≡ recordOutcome s c g window m
+      unfolding recordOutcome cleared
       record-done h k r work scratch x =
-          (λ t. record { answer = Done (x .answer t); memory = record { work = x .work-cleared t; scratch = x .scratch-cleared t } })
-          ∙ sym (ap (λ (v : Verdict). recordBy v s c g window m) (tested true true h (lt-ltb _ _ k)))
+          answered-done _ answer.Refused m (tested true true h (lt-ltb _ _ k)) (λ t. outcome (Done (x .answer t)) (record { work = x .work-cleared t; scratch = x .scratch-cleared t }))

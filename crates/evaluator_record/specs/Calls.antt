@@ -10,7 +10,8 @@ use Rattle.numeric.specs.Constants.{one}
 use Rattle.grouping_marks.specs.Over.{over}
 use Rattle.grouping_chart.specs.Chart.{Chart, size}
 use Rattle.grouping_chart.specs.Refusal.{within, verdict, refused}
-use Rattle.grouping_chart.specs.Room.{anyShort, shortRefusal}
+use Rattle.grouping_chart.specs.Room.{beside}
+use Rattle.grouping_chart.specs.Lent.{Outcome, outcome, answered, Slice, lent, left}
 use Rattle.grouping_chart.specs.Settings.{Settings}
 use Rattle.grouping_chart.specs.declared.chart.Verdict.{Verdict}
 use Rattle.grouping_chart.specs.declared.chart.Verdict.the-variants.{Accepted, Refused}
@@ -25,13 +26,15 @@ pub record Memory : Type 0 where
   pub work : List ℕ
   pub scratch : List Float
 
-pub record Outcome : Type 0 where
-  pub answer : Recording
-  pub memory : Memory
+abbrev pub before : Slice ℕ → Slice Float → Memory
+before work scratch = record { work = lent work; scratch = lent scratch }
 
--- the number of what is refused beside the chart, or 0; there are no answer slices
-unfoldable pub beside : ℕ → Memory → ℕ
-beside n m = shortRefusal (anyShort n []) n (length (m .work)) (length (m .scratch))
+abbrev pub after : Slice ℕ → Slice Float → Memory
+after work scratch = record { work = left work; scratch = left scratch }
+
+-- the verdict on the chart; there are no answer slices
+abbrev pub judged : Chart → Memory → Verdict
+judged c m = verdict c (beside (size c) [] (length (m .work)) (length (m .scratch)))
 
 -- from 1.0 to 1,000.0: a NaN is not
 unfoldable pub windowGood : Float → Bool
@@ -49,12 +52,7 @@ cleared n m = record {
   scratch = over (replicate n (ofBits binary64 0)) (m .scratch);
 }
 
--- a refusal leaves all as lent
-unfoldable pub recordBy : Verdict → Settings → Chart → ℕ → Float → Memory → Outcome
-recordBy Accepted s c g window m =
-    record { answer = Done (recordOf (s .margin) (s .threshold) window (c .kinds) (c .starts) (c .deltas) g); memory = cleared (size c) m }
-recordBy (Refused number place) s c g window m = record { answer = answer.Refused number place; memory = m }
-
-unfoldable pub recordOutcome : Settings → Chart → ℕ → Float → Memory → Outcome
+unfoldable pub recordOutcome : Settings → Chart → ℕ → Float → Memory → Outcome Recording Memory
 recordOutcome s c g window m =
-    recordBy (recordVerdict (verdict c (beside (size c) m)) window g (groupsIn (s .margin) (c .kinds) (c .deltas))) s c g window m
+    answered (recordVerdict (judged c m) window g (groupsIn (s .margin) (c .kinds) (c .deltas)))
+    (outcome (Done (recordOf (s .margin) (s .threshold) window (c .kinds) (c .starts) (c .deltas) g)) (cleared (size c) m)) answer.Refused m

@@ -1,14 +1,14 @@
 // The call record: what is said of one rhythm group.
 ghost use mathlib.Core.Path.{_≡_};
 ghost use Rattle.grouping_chart.specs.Settings.{baseSettings};
-ghost use Rattle.evaluator_record.specs.Calls.{Outcome, windowGood, recordOutcome};
+ghost use Rattle.grouping_chart.specs.Lent.{outcome, chart};
+ghost use Rattle.evaluator_record.specs.Calls.{before, after, windowGood, recordOutcome};
 ghost use Rattle.evaluator_record.specs.Passes.{GroupRoom, Recorded};
 use evaluator_rhythm::repeated_interval_penalty;
 use grouping_chart::chart::Verdict;
 use grouping_chart::object::ObjectIndex;
 use grouping_chart::room::short_refusal;
-use grouping_chart::settings::MARGIN;
-use grouping_chart::settings::THRESHOLD;
+use grouping_chart::settings;
 use grouping_marks::fill;
 use grouping_same_rhythm::own::Own;
 use numeric::canonical::canonical;
@@ -87,10 +87,8 @@ pub fn record(
     work: &mut [u16],
     scratch: &mut [f64],
 ) -> Recording
-    ensures { λ r. ⌜ _≡_ {A = Outcome}
-        (record { answer = r; memory = record { work = now (work .exit); scratch = now (scratch .exit) } })
-        (recordOutcome baseSettings (record { kinds = now (kind .entry); starts = now (start .entry); deltas = now (delta .entry); ratios = now (ratio .entry) }) g window
-        (record { work = now (work .entry); scratch = now (scratch .entry) })) ⌝ }
+    ensures { λ r. ⌜ outcome r (after work scratch)
+        ≡ recordOutcome baseSettings (chart kind start delta ratio) g window (before work scratch) ⌝ }
 {
     let beside = short_refusal(false, kind.len(), work.len(), scratch.len());
     match grouping_chart::chart::check(kind, start, delta, ratio, beside) {
@@ -99,11 +97,12 @@ pub fn record(
             if !window_good(window) {
                 return Recording::Refused(8, ObjectIndex(0));
             }
-            if grouping_notes::count_groups(kind, delta, MARGIN) <= g {
+            let s = settings::base();
+            if grouping_notes::count_groups(kind, delta, s.margin) <= g {
                 return Recording::Refused(9, ObjectIndex(0));
             }
-            let t = THRESHOLD;
-            let r = make_record(kind, start, delta, MARGIN, t, g, window, work, scratch);
+            let m = s.margin;
+            let r = make_record(kind, start, delta, m, s.threshold, g, window, work, scratch);
             Recording::Done(r)
         }
     }

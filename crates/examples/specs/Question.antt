@@ -7,6 +7,7 @@ use lib.Ieee.{Float, binary64, ofInt, toBits}
 use Rattle.numeric.specs.RoundTiesEven.{roundTiesEven}
 use Rattle.grouping_marks.specs.Marks.{groupNumbers}
 use Rattle.grouping_chart.specs.Chart.{Chart}
+use Rattle.grouping_chart.specs.Lent.{Outcome}
 use Rattle.grouping_chart.specs.Settings.{baseSettings}
 use Rattle.grouping_encode.specs.Encode as encode
 use Rattle.grouping_encode.specs.declared.Encoding.{Encoding}
@@ -71,12 +72,12 @@ unfoldable pub colourAnswer : Colouring → List ℕ
 colourAnswer colouring.Done = 0 ∷ []
 colourAnswer (colouring.Refused number place) = number ∷ place .0 ∷ []
 
-unfoldable pub encodeShown : encode.Outcome → List (List ℕ)
+unfoldable pub encodeShown : Outcome Encoding encode.Memory → List (List ℕ)
 encodeShown o =
     encodeAnswer (o .answer) ∷ o .memory .streak ∷ o .memory .streakPlace ∷ o .memory .pattern ∷ o .memory .patternPlace ∷ o .memory .hit ∷ o .memory .interval
     ∷ o .memory .work ∷ bitsOf (o .memory .scratch) ∷ []
 
-unfoldable pub colourShown : calls.Outcome Colouring → List (List ℕ)
+unfoldable pub colourShown : Outcome Colouring calls.Memory → List (List ℕ)
 colourShown o = colourAnswer (o .answer) ∷ bitsOf (o .memory .value) ∷ o .memory .work ∷ bitsOf (o .memory .scratch) ∷ []
 
 unfoldable pub millis : ℕ → Own

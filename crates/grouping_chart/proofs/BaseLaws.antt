@@ -1,5 +1,5 @@
 -- The base's four numbers: 5.0, 16, and the f64 nearest to 1 / 10 and to 1 / 100. Its search limit is permitted.
-use mathlib.Core.Path.{_≡_, refl}
+use mathlib.Core.Path.{_≡_, refl, sym, subst}
 use mathlib.Core.Bool.{false}
 use native.Mathlib.Omega.{arith}
 use lib.IntN.{pos}
@@ -12,3 +12,7 @@ base-is = refl
 
 pub base-permitted : Permitted baseSettings
 base-permitted = record { least = omega arith; most = omega arith }
+
+-- as `base` gives it
+pub is-permitted : {s : Settings} → s ≡ baseSettings → Permitted s
+is-permitted e = subst Permitted (sym e) base-permitted

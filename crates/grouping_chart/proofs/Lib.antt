@@ -2,6 +2,7 @@
 pub mod RefusalLaws
 pub mod AcceptedLaws
 pub mod RoomLaws
+pub mod LentLaws
 pub mod ObjectLaws
 pub mod NoteLaws
 pub mod SeenLaws

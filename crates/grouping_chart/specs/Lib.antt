@@ -4,5 +4,6 @@ pub mod Notes
 pub mod Chart
 pub mod Refusal
 pub mod Room
+pub mod Lent
 pub mod Settings
 pub mod Passes

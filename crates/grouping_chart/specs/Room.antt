@@ -13,3 +13,7 @@ anyShort n (l ∷ ls) = ltb l n || anyShort n ls
 -- 3, or 0 where no slice is too short; `answers` says that an answer slice is, `work` and `scratch` are how many places the work slices have
 unfoldable pub shortRefusal : Bool → ℕ → ℕ → ℕ → ℕ
 shortRefusal answers n work scratch = cond (answers || (ltb work (8 * n) || ltb scratch n)) 3 0
+
+-- the number of what is refused beside the chart, or 0, by how many places each answer slice, the work and the scratch slice have
+abbrev pub beside : ℕ → List ℕ → ℕ → ℕ → ℕ
+beside n answers work scratch = shortRefusal (anyShort n answers) n work scratch

@@ -1,16 +1,12 @@
 -- The four numbers of document 01 by which the calls on a chart group and score. The definitions of what a call answers have them as a parameter; the promises of the calls name `baseSettings`.
-use Prim.Native.Nat.{ℕ, _≤_}
-use lib.Ieee.{Float, binary64, ofBits}
+use Prim.Native.Nat.{_≤_}
+use lib.Ieee.{binary64, ofBits}
+use Rattle.grouping_chart.specs.declared.settings.Settings as declared
 
-pub record Settings : Type 0 where
-  -- what is near, in milliseconds
-  pub margin : Float
-  -- the search limit M of intervals: from 1 to M − 1 are searched, and M + 1 says that there is none
-  pub limit : ℕ
-  -- how near to 1.0 a repeated interval is
-  pub threshold : Float
-  -- how near to 1.0 a ratio over the one before is
-  pub tolerance : Float
+-- margin, what is near, in milliseconds; limit, the search limit M of intervals: from 1 to M − 1 are searched, and M + 1 says that there is none; threshold, how near to
+-- 1.0 a repeated interval is; tolerance, how near to 1.0 a ratio over the one before is
+abbrev pub Settings : Type 0
+Settings = declared.Settings
 
 -- 5.0, 16, 0.1 and 0.01: `base-is`, in proofs/BaseLaws.antt, says that the bits are these
 abbrev pub baseSettings : Settings

@@ -2,6 +2,7 @@
 ghost use mathlib.Core.Path.{_≡_};
 ghost use lib.ListN.{length};
 ghost use Rattle.grouping_chart.specs.Chart.{SameLengths, even};
+ghost use Rattle.grouping_chart.specs.Lent.{chart};
 ghost use Rattle.grouping_chart.specs.Refusal.{within, timeGood, ratioGood, objectRefusal, firstRefused, verdict};
 use crate::good;
 use crate::object::ObjectIndex;
@@ -88,7 +89,7 @@ fn check_objects(kind: &[u8], start: &[f64], delta: &[f64], ratio: &[f64]) -> Ve
 }
 
 fn lengths_even(kind: &[u8], start: &[f64], delta: &[f64], ratio: &[f64]) -> bool
-    ensures { λ r. ⌜ r ≡ even (record { kinds = now (kind .entry); starts = now (start .entry); deltas = now (delta .entry); ratios = now (ratio .entry) }) ⌝ }
+    ensures { λ r. ⌜ r ≡ even (chart kind start delta ratio) ⌝ }
 {
     if start.len() != kind.len() {
         return false;
@@ -104,7 +105,7 @@ fn lengths_even(kind: &[u8], start: &[f64], delta: &[f64], ratio: &[f64]) -> boo
 
 // Refusals 1 to 7 of a call on a chart; `beside` is the number of what is refused straight after 2, or 0.
 pub fn check(kind: &[u8], start: &[f64], delta: &[f64], ratio: &[f64], beside: u8) -> Verdict
-    ensures { λ r. ⌜ r ≡ verdict (record { kinds = now (kind .entry); starts = now (start .entry); deltas = now (delta .entry); ratios = now (ratio .entry) }) beside ⌝ }
+    ensures { λ r. ⌜ r ≡ verdict (chart kind start delta ratio) beside ⌝ }
 {
     if 16384 < kind.len() {
         return Verdict::Refused(1, ObjectIndex(0));

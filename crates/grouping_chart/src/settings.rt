@@ -1,8 +1,26 @@
-// The four numbers of document 01 that the calls on a chart pass on: the margin in milliseconds, the search limit, the penalty threshold and the ratio tolerance.
-pub const MARGIN: f64 = 5.0;
+// The four numbers of document 01 that the calls on a chart pass on.
+ghost use mathlib.Core.Path.{_≡_};
+ghost use Rattle.grouping_chart.specs.Settings.{baseSettings};
 
+// The margin in milliseconds, the search limit, the penalty threshold and the ratio tolerance.
+pub struct Settings {
+    pub margin: f64,
+    pub limit: u64,
+    pub threshold: f64,
+    pub tolerance: f64,
+}
+
+// The base's.
+pub fn base() -> Settings
+    ensures { λ r. ⌜ r ≡ baseSettings ⌝ }
+{
+    Settings {
+        margin: 5.0,
+        limit: 16,
+        threshold: 0.1,
+        tolerance: 0.01,
+    }
+}
+
+// The search limit of the letters program, which is handed no set.
 pub const SEARCH_LIMIT: u16 = 16;
-
-pub const THRESHOLD: f64 = 0.1;
-
-pub const TOLERANCE: f64 = 0.01;

@@ -1,6 +1,5 @@
 -- The outcome of encode, case by case, over plain lists: a refusal leaves all as lent, and an accepted chart has room in every slice.
 use mathlib.Core.Path.{_≡_, refl, sym, ap, _∙_}
-use mathlib.Core.Bool.{Bool}
 use mathlib.Core.List.{List}
 use Prim.Native.Nat.{ℕ, _*_, _≤_, _<_}
 use lib.ListN.{length, getD, replicate}
@@ -9,19 +8,16 @@ use native.Mathlib.Omega.{arith}
 use Rattle.grouping_marks.specs.Over.{over}
 use Rattle.grouping_marks.proofs.PieceLaws.{getD-over}
 use Rattle.grouping_chart.specs.Chart.{Chart, size}
-use Rattle.grouping_chart.specs.Refusal.{verdict}
-use Rattle.grouping_chart.specs.Room.{anyShort, shortRefusal}
+use Rattle.grouping_chart.specs.Lent.{Outcome, outcome}
 use Rattle.grouping_chart.specs.Settings.{Settings, Permitted}
-use Rattle.grouping_chart.specs.declared.object.ObjectIndex.{ObjectIndex}
-use Rattle.grouping_chart.specs.declared.chart.Verdict.{Verdict}
-use Rattle.grouping_chart.specs.declared.chart.Verdict.the-variants.{Accepted, Refused}
+use Rattle.grouping_chart.specs.declared.chart.Verdict.the-variants.{Accepted}
 use Rattle.grouping_chart.proofs.AcceptedLaws.{accepted-good}
-use Rattle.grouping_chart.proofs.RefusalLaws.{verdict-is}
+use Rattle.grouping_chart.proofs.LentLaws.{answered-done}
 use Rattle.grouping_chart.proofs.RoomLaws.{roomy, long-enough}
 use Rattle.grouping_color.specs.Preprocessor.{hitOf, intervalOf, hitCount}
 use Rattle.grouping_color.proofs.BoundLaws.{length-hitOf, length-intervalOf}
 use Rattle.grouping_encode.specs.declared.Encoding.the-variants as answer
-use Rattle.grouping_encode.specs.Encode.{Memory, Outcome, places, beside, filled, outcomeBy, encodeOutcome}
+use Rattle.grouping_encode.specs.Encode.{Memory, judged, filled, encodeOutcome}
 use Rattle.grouping_encode.specs.Passes.{AnswerRoom, Encoded}
 
 -- ---- no slice is too short
@@ -36,10 +32,10 @@ pub record Enough (n : ℕ) (m : Memory) : Type 0 where
   pub work : 8 * n ≤ length (m .work)
   pub scratch : n ≤ length (m .scratch)
 
-enough : (n : ℕ) (m : Memory) → beside n m ≡ 0 → Enough n m
-unfolding beside
-enough n m h =
-    let r = roomy _ n _ _ h in
+pub has-room : (c : Chart) (m : Memory) → judged c m ≡ Accepted → Enough (size c) m
+has-room c m h =
+    let n = size c in
+    let r = roomy _ n _ _ (accepted-good c _ h .room) in
     let h1 = long-enough n _ _ (r .answered) in
     let h2 = long-enough n _ _ (h1 .1) in
     let h3 = long-enough n _ _ (h2 .1) in
@@ -57,36 +53,19 @@ enough n m h =
       scratch = r .floats;
     }
 
--- ---- what the tests that were run say of the definition's verdict
-module _ (c : Chart) (m : Memory) where
-  -- from what `too_short`, `short_refusal` and `check` answered
-  pub judged : (s : Bool) (b : ℕ) {v u : Verdict} → s ≡ anyShort (size c) (places m) → b ≡ shortRefusal s (size c) (length (m .work)) (length (m .scratch)) → v ≡ verdict c b → v ≡ u
-      → verdict c (beside (size c) m) ≡ u
-  unfolding beside
-  judged s b e f g h = verdict-is c (f ∙ ap (λ (x : Bool). shortRefusal x (size c) (length (m .work)) (length (m .scratch))) e) g h
-
-  pub has-room : verdict c (beside (size c) m) ≡ Accepted → Enough (size c) m
-  has-room h = enough (size c) m (accepted-good c (beside (size c) m) h .room)
-
 -- ---- each case leaves its outcome
 module _ (s : Settings) (c : Chart) (m : Memory) where
-  pub refused-outcome : (number : ℕ) (place : ObjectIndex) → verdict c (beside (size c) m) ≡ Refused number place
-      → _≡_ {A = Outcome} (record { answer = answer.Refused number place; memory = m }) (encodeOutcome s c m)
-  unfolding encodeOutcome outcomeBy
-  refused-outcome number place h = sym (ap (λ (v : Verdict). outcomeBy v s (c .kinds) m) h)
+  pub done-outcome : (count : ℕ) (new : Memory) → judged c m ≡ Accepted → count ≡ hitCount (c .kinds) → new ≡ filled s (c .kinds) m
+      → outcome (answer.Done count) new ≡ encodeOutcome s c m
+  unfolding encodeOutcome
+  done-outcome count new h e f = answered-done _ answer.Refused m h (λ t. outcome (answer.Done (e t)) (f t))
 
-  pub done-outcome : (count : ℕ) (new : Memory) → verdict c (beside (size c) m) ≡ Accepted → count ≡ hitCount (c .kinds) → new ≡ filled s (c .kinds) m
-      → _≡_ {A = Outcome} (record { answer = answer.Done count; memory = new }) (encodeOutcome s c m)
-  unfolding encodeOutcome outcomeBy
-  done-outcome count new h e f =
-      (λ t. record { answer = answer.Done (e t); memory = f t }) ∙ sym (ap (λ (v : Verdict). outcomeBy v s (c .kinds) m) h)
-
-  pub answer-room : Permitted s → verdict c (beside (size c) m) ≡ Accepted
+  pub answer-room : Permitted s → judged c m ≡ Accepted
       → AnswerRoom (size c) (s .limit) (m .streak) (m .streakPlace) (m .pattern) (m .patternPlace) (m .hit) (m .interval) (m .work)
   answer-room p h =
       let r = has-room c m h in
       record {
-        few = accepted-good c (beside (size c) m) h .few;
+        few = accepted-good c _ h .few;
         streak-room = r .streak;
         streak-place-room = r .streakPlace;
         pattern-room = r .pattern;
@@ -116,9 +95,9 @@ filled-is s kinds m streak place pattern outer hit interval work scratch count e
 }
 
 -- ---- what an accepted call writes, place by place
-module _ (s : Settings) (c : Chart) (lent : Memory) (accepted : verdict c (beside (size c) lent) ≡ Accepted) where
+module _ (s : Settings) (c : Chart) (lent : Memory) (accepted : judged c lent ≡ Accepted) where
   left : encodeOutcome s c lent .memory ≡ filled s (c .kinds) lent
-  left = sym (ap (λ (o : Outcome). o .memory) (done-outcome s c lent _ (filled s (c .kinds) lent) accepted refl refl))
+  left = sym (ap (λ (o : Outcome _ Memory). o .memory) (done-outcome s c lent _ (filled s (c .kinds) lent) accepted refl refl))
 
   pub hit-written : (i : ℕ) → i < size c → getD (encodeOutcome s c lent .memory .hit) i 0 ≡ getD (hitOf (c .kinds)) i 0
   unfolding filled

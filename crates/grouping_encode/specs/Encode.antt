@@ -6,10 +6,10 @@ use lib.Ieee.{Float, binary64, ofBits}
 use Rattle.grouping_marks.specs.Over.{over}
 use Rattle.grouping_chart.specs.Chart.{Chart, size}
 use Rattle.grouping_chart.specs.Refusal.{verdict}
-use Rattle.grouping_chart.specs.Room.{anyShort, shortRefusal}
+use Rattle.grouping_chart.specs.Room.{beside}
+use Rattle.grouping_chart.specs.Lent.{Outcome, outcome, answered, Slice, lent, left}
 use Rattle.grouping_chart.specs.Settings.{Settings}
 use Rattle.grouping_chart.specs.declared.chart.Verdict.{Verdict}
-use Rattle.grouping_chart.specs.declared.chart.Verdict.the-variants.{Accepted, Refused}
 use Rattle.grouping_color.specs.MonoStreak.{streakOf}
 use Rattle.grouping_color.specs.Preprocessor.{streakPlaceOf, patternOf, patternPlaceOf, hitOf, intervalOf, hitCount}
 use Rattle.grouping_encode.specs.declared.Encoding.{Encoding}
@@ -27,17 +27,20 @@ pub record Memory : Type 0 where
   pub work : List ℕ
   pub scratch : List Float
 
-pub record Outcome : Type 0 where
-  pub answer : Encoding
-  pub memory : Memory
+abbrev pub before : Slice ℕ → Slice ℕ → Slice ℕ → Slice ℕ → Slice ℕ → Slice ℕ → Slice ℕ → Slice Float → Memory
+before a b c d e f work scratch =
+    record { streak = lent a; streakPlace = lent b; pattern = lent c; patternPlace = lent d; hit = lent e; interval = lent f; work = lent work; scratch = lent scratch }
+
+abbrev pub after : Slice ℕ → Slice ℕ → Slice ℕ → Slice ℕ → Slice ℕ → Slice ℕ → Slice ℕ → Slice Float → Memory
+after a b c d e f work scratch =
+    record { streak = left a; streakPlace = left b; pattern = left c; patternPlace = left d; hit = left e; interval = left f; work = left work; scratch = left scratch }
 
 -- how many places the answer slices have
 abbrev pub places : Memory → List ℕ
 places m = length (m .streak) ∷ length (m .streakPlace) ∷ length (m .pattern) ∷ length (m .patternPlace) ∷ length (m .hit) ∷ length (m .interval) ∷ []
 
--- the number of what is refused beside the chart, or 0
-unfoldable pub beside : ℕ → Memory → ℕ
-beside n m = shortRefusal (anyShort n (places m)) n (length (m .work)) (length (m .scratch))
+abbrev pub judged : Chart → Memory → Verdict
+judged c m = verdict c (beside (size c) (places m) (length (m .work)) (length (m .scratch)))
 
 -- the memory after an accepted call: the answers in the first n places, the first 8 n and n places of the work slices 0 and +0.0, old contents elsewhere
 unfoldable pub filled : Settings → List ℕ → Memory → Memory
@@ -52,10 +55,5 @@ filled s kinds m = record {
   scratch = over (replicate (length kinds) (ofBits binary64 0)) (m .scratch);
 }
 
--- a refusal leaves all as lent
-unfoldable pub outcomeBy : Verdict → Settings → List ℕ → Memory → Outcome
-outcomeBy Accepted s kinds m = record { answer = Done (hitCount kinds); memory = filled s kinds m }
-outcomeBy (Refused number place) s kinds m = record { answer = answer.Refused number place; memory = m }
-
-unfoldable pub encodeOutcome : Settings → Chart → Memory → Outcome
-encodeOutcome s c m = outcomeBy (verdict c (beside (size c) m)) s (c .kinds) m
+unfoldable pub encodeOutcome : Settings → Chart → Memory → Outcome Encoding Memory
+encodeOutcome s c m = answered (judged c m) (outcome (Done (hitCount (c .kinds))) (filled s (c .kinds) m)) answer.Refused m

@@ -4,7 +4,8 @@ ghost use mathlib.Core.List.{[], _∷_};
 ghost use lib.ListN.{length};
 ghost use Rattle.grouping_chart.specs.Room.{anyShort};
 ghost use Rattle.grouping_chart.specs.Settings.{baseSettings};
-ghost use Rattle.grouping_encode.specs.Encode.{Outcome, encodeOutcome};
+ghost use Rattle.grouping_chart.specs.Lent.{outcome, chart};
+ghost use Rattle.grouping_encode.specs.Encode.{before, after, encodeOutcome};
 ghost use Rattle.grouping_encode.specs.Passes.{PatternsRoom, PatternsSpread, HitsRoom, HitsSpread, AnswerRoom, Encoded};
 use grouping_chart::chart::Verdict;
 use grouping_chart::object::ObjectIndex;
@@ -124,10 +125,9 @@ pub fn encode(
     work: &mut [u16],
     scratch: &mut [f64],
 ) -> Encoding
-    ensures { λ r. ⌜ _≡_ {A = Outcome}
-        (record { answer = r; memory = record { streak = now (streak .exit); streakPlace = now (inner .exit); pattern = now (pattern .exit); patternPlace = now (outer .exit); hit = now (hit .exit); interval = now (interval .exit); work = now (work .exit); scratch = now (scratch .exit) } })
-        (encodeOutcome baseSettings (record { kinds = now (kind .entry); starts = now (start .entry); deltas = now (delta .entry); ratios = now (ratio .entry) })
-        (record { streak = now (streak .entry); streakPlace = now (inner .entry); pattern = now (pattern .entry); patternPlace = now (outer .entry); hit = now (hit .entry); interval = now (interval .entry); work = now (work .entry); scratch = now (scratch .entry) })) ⌝ }
+    ensures { λ r. ⌜ outcome r (after streak inner pattern outer hit interval work scratch)
+        ≡ encodeOutcome baseSettings (chart kind start delta ratio)
+        (before streak inner pattern outer hit interval work scratch) ⌝ }
 {
     let n = kind.len();
     let short = too_short(n, streak, inner, pattern, outer, hit, interval);
@@ -135,7 +135,8 @@ pub fn encode(
     match grouping_chart::chart::check(kind, start, delta, ratio, beside) {
         Verdict::Refused(number, place) => Encoding::Refused(number, place),
         Verdict::Accepted => {
-            let m = settings::SEARCH_LIMIT;
+            let s = settings::base();
+            let m = s.limit as u16;
             let hits = encode_kinds(kind, m, streak, inner, pattern, outer, hit, interval, work);
             fill::clear_floats(scratch, n);
             Encoding::Done(hits)

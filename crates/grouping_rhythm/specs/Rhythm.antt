@@ -10,10 +10,10 @@ use Rattle.grouping_marks.specs.Marks.{groupCount, groupNumbers}
 use Rattle.grouping_chart.specs.Object.{isNote, noteIdx}
 use Rattle.grouping_chart.specs.Chart.{Chart, size}
 use Rattle.grouping_chart.specs.Refusal.{verdict}
-use Rattle.grouping_chart.specs.Room.{anyShort, shortRefusal}
+use Rattle.grouping_chart.specs.Room.{beside}
+use Rattle.grouping_chart.specs.Lent.{Outcome, outcome, answered, Slice, lent, left}
 use Rattle.grouping_chart.specs.Settings.{Settings}
 use Rattle.grouping_chart.specs.declared.chart.Verdict.{Verdict}
-use Rattle.grouping_chart.specs.declared.chart.Verdict.the-variants.{Accepted, Refused}
 use Rattle.grouping_interval.specs.IntervalGrouping.{intervalMarks}
 use Rattle.grouping_same_rhythm.specs.SameRhythm.{rhythmMarks, groupIntervals}
 use Rattle.grouping_same_rhythm.specs.SamePatterns.{patternNumber}
@@ -28,9 +28,14 @@ pub record Memory : Type 0 where
   pub work : List ℕ
   pub scratch : List Float
 
-pub record Outcome : Type 0 where
-  pub answer : Grouping
-  pub memory : Memory
+abbrev pub before : Slice ℕ → Slice ℕ → Slice ℕ → Slice Float → Memory
+before group pattern work scratch = record { group = lent group; pattern = lent pattern; work = lent work; scratch = lent scratch }
+
+abbrev pub after : Slice ℕ → Slice ℕ → Slice ℕ → Slice Float → Memory
+after group pattern work scratch = record { group = left group; pattern = left pattern; work = left work; scratch = left scratch }
+
+abbrev pub judged : Chart → Memory → Verdict
+judged c m = verdict c (beside (size c) (length (m .group) ∷ length (m .pattern) ∷ []) (length (m .work)) (length (m .scratch)))
 
 -- what is said of each note, object by object: "65535 for a NonHit"
 unfoldable pub perNote : (ℕ → ℕ) → List ℕ → List ℕ
@@ -54,10 +59,6 @@ groupsIn margin kinds deltas = groupCount (rhythmMarks margin kinds deltas)
 unfoldable pub patternGroupsIn : Float → List ℕ → List Float → List Float → ℕ
 patternGroupsIn margin kinds starts deltas = groupCount (intervalMarks margin (groupIntervals margin kinds starts deltas))
 
--- the number of what is refused beside the chart, or 0
-unfoldable pub beside : ℕ → Memory → ℕ
-beside n m = shortRefusal (anyShort n (length (m .group) ∷ length (m .pattern) ∷ [])) n (length (m .work)) (length (m .scratch))
-
 -- the memory after an accepted call
 unfoldable pub filled : Settings → Chart → Memory → Memory
 filled s c m = record {
@@ -67,10 +68,7 @@ filled s c m = record {
   scratch = over (replicate (size c) (ofBits binary64 0)) (m .scratch);
 }
 
--- a refusal leaves all as lent
-unfoldable pub outcomeBy : Verdict → Settings → Chart → Memory → Outcome
-outcomeBy Accepted s c m = record { answer = Done (groupsIn (s .margin) (c .kinds) (c .deltas)) (patternGroupsIn (s .margin) (c .kinds) (c .starts) (c .deltas)); memory = filled s c m }
-outcomeBy (Refused number place) s c m = record { answer = answer.Refused number place; memory = m }
-
-unfoldable pub rhythmOutcome : Settings → Chart → Memory → Outcome
-rhythmOutcome s c m = outcomeBy (verdict c (beside (size c) m)) s c m
+unfoldable pub rhythmOutcome : Settings → Chart → Memory → Outcome Grouping Memory
+rhythmOutcome s c m =
+    answered (judged c m) (outcome (Done (groupsIn (s .margin) (c .kinds) (c .deltas)) (patternGroupsIn (s .margin) (c .kinds) (c .starts) (c .deltas))) (filled s c m))
+    answer.Refused m

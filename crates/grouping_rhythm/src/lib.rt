@@ -4,7 +4,8 @@ ghost use mathlib.Core.List.{[], _∷_};
 ghost use lib.ListN.{length};
 ghost use Rattle.grouping_chart.specs.Room.{anyShort};
 ghost use Rattle.grouping_chart.specs.Settings.{baseSettings};
-ghost use Rattle.grouping_rhythm.specs.Rhythm.{Outcome, rhythmOutcome};
+ghost use Rattle.grouping_chart.specs.Lent.{outcome, chart};
+ghost use Rattle.grouping_rhythm.specs.Rhythm.{before, after, rhythmOutcome};
 ghost use Rattle.grouping_rhythm.specs.Passes.{AnswerRoom, Grouped};
 use crate::tables::Counts;
 use grouping_chart::chart::Verdict;
@@ -64,10 +65,8 @@ pub fn rhythm(
     work: &mut [u16],
     scratch: &mut [f64],
 ) -> Grouping
-    ensures { λ r. ⌜ _≡_ {A = Outcome}
-        (record { answer = r; memory = record { group = now (group .exit); pattern = now (pattern .exit); work = now (work .exit); scratch = now (scratch .exit) } })
-        (rhythmOutcome baseSettings (record { kinds = now (kind .entry); starts = now (start .entry); deltas = now (delta .entry); ratios = now (ratio .entry) })
-        (record { group = now (group .entry); pattern = now (pattern .entry); work = now (work .entry); scratch = now (scratch .entry) })) ⌝ }
+    ensures { λ r. ⌜ outcome r (after group pattern work scratch)
+        ≡ rhythmOutcome baseSettings (chart kind start delta ratio) (before group pattern work scratch) ⌝ }
 {
     let n = kind.len();
     let short = too_short(n, group, pattern);
@@ -75,8 +74,8 @@ pub fn rhythm(
     match grouping_chart::chart::check(kind, start, delta, ratio, beside) {
         Verdict::Refused(number, place) => Grouping::Refused(number, place),
         Verdict::Accepted => {
-            let margin = settings::MARGIN;
-            let k = fill_groups(kind, start, delta, margin, group, pattern, work, scratch);
+            let s = settings::base();
+            let k = fill_groups(kind, start, delta, s.margin, group, pattern, work, scratch);
             Grouping::Done(k.groups, k.patterns)
         }
     }

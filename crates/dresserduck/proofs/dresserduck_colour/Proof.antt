@@ -1,5 +1,6 @@
 -- `dresserduck_colour` meets its contract: the call's own outcome, its answer turned into a record.
-use Rattle.dresserduck.proofs.HostLaws.{colour-for-host}
+use Rattle.dresserduck.specs.Host.{colouredOf}
+use Rattle.dresserduck.proofs.HostLaws.{for-host}
 use borrow.Author.Needs.{needs}
 use Rattle.dresserduck.proofs.dresserduck_colour.Statement.{statement}
 use Rattle.dresserduck.proofs.dresserduck_colour.Tie as tie
@@ -20,7 +21,7 @@ same-length-3 : tie.Need-same-length-3
 same-length-3 c = search needs
 
 returns : tie.Need-returns
-returns c = colour-for-host _ (c .coloured-of .ensures) (c .before .before .before .before .before .before .before .colour .ensures)
+returns c = for-host colouredOf (c .coloured-of .ensures) (c .before .before .before .before .before .before .before .colour .ensures)
 
 pub dresserduck-colour-spec : {M : Type 1} → statement M
 dresserduck-colour-spec =

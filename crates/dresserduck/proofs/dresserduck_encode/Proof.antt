@@ -1,5 +1,6 @@
 -- `dresserduck_encode` meets its contract: the call's own outcome, its answer turned into a record.
-use Rattle.dresserduck.proofs.HostLaws.{encode-for-host}
+use Rattle.dresserduck.specs.Host.{encodedOf}
+use Rattle.dresserduck.proofs.HostLaws.{for-host}
 use borrow.Author.Needs.{needs}
 use Rattle.dresserduck.proofs.dresserduck_encode.Statement.{statement}
 use Rattle.dresserduck.proofs.dresserduck_encode.Tie as tie
@@ -35,7 +36,7 @@ same-length-8 : tie.Need-same-length-8
 same-length-8 c = search needs
 
 returns : tie.Need-returns
-returns c = encode-for-host _ (c .encoded-of .ensures) (c .before .before .before .before .before .before .before .before .before .before .before .before .before .before .before .before .before .encode .ensures)
+returns c = for-host encodedOf (c .encoded-of .ensures) (c .before .before .before .before .before .before .before .before .before .before .before .before .before .before .before .before .before .encode .ensures)
 
 pub dresserduck-encode-spec : {M : Type 1} → statement M
 dresserduck-encode-spec =

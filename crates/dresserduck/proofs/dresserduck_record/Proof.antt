@@ -1,5 +1,6 @@
 -- `dresserduck_record` meets its contract: the call's own outcome, its answer turned into a record.
-use Rattle.dresserduck.proofs.HostLaws.{record-for-host}
+use Rattle.dresserduck.specs.Host.{recordedOf}
+use Rattle.dresserduck.proofs.HostLaws.{for-host}
 use borrow.Author.Needs.{needs}
 use Rattle.dresserduck.proofs.dresserduck_record.Statement.{statement}
 use Rattle.dresserduck.proofs.dresserduck_record.Tie as tie
@@ -17,7 +18,7 @@ same-length-2 : tie.Need-same-length-2
 same-length-2 c = search needs
 
 returns : tie.Need-returns
-returns c = record-for-host _ (c .recorded-of .ensures) (c .before .before .before .before .before .record .ensures)
+returns c = for-host recordedOf (c .recorded-of .ensures) (c .before .before .before .before .before .record .ensures)
 
 pub dresserduck-record-spec : {M : Type 1} → statement M
 dresserduck-record-spec =

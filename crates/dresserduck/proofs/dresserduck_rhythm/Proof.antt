@@ -1,5 +1,6 @@
 -- `dresserduck_rhythm` meets its contract: the call's own outcome, its answer turned into a record.
-use Rattle.dresserduck.proofs.HostLaws.{rhythm-for-host}
+use Rattle.dresserduck.specs.Host.{groupedOf}
+use Rattle.dresserduck.proofs.HostLaws.{for-host}
 use borrow.Author.Needs.{needs}
 use Rattle.dresserduck.proofs.dresserduck_rhythm.Statement.{statement}
 use Rattle.dresserduck.proofs.dresserduck_rhythm.Tie as tie
@@ -23,7 +24,7 @@ same-length-4 : tie.Need-same-length-4
 same-length-4 c = search needs
 
 returns : tie.Need-returns
-returns c = rhythm-for-host _ (c .grouped-of .ensures) (c .before .before .before .before .before .before .before .before .before .rhythm .ensures)
+returns c = for-host groupedOf (c .grouped-of .ensures) (c .before .before .before .before .before .before .before .before .before .rhythm .ensures)
 
 pub dresserduck-rhythm-spec : {M : Type 1} → statement M
 dresserduck-rhythm-spec =

@@ -1,5 +1,6 @@
 -- `dresserduck_stretch` meets its contract: the call's own outcome, its answer turned into a record.
-use Rattle.dresserduck.proofs.HostLaws.{stretch-for-host}
+use Rattle.dresserduck.specs.Host.{stretchedOf}
+use Rattle.dresserduck.proofs.HostLaws.{for-host}
 use borrow.Author.Needs.{needs}
 use Rattle.dresserduck.proofs.dresserduck_stretch.Statement.{statement}
 use Rattle.dresserduck.proofs.dresserduck_stretch.Tie as tie
@@ -20,7 +21,7 @@ same-length-3 : tie.Need-same-length-3
 same-length-3 c = search needs
 
 returns : tie.Need-returns
-returns c = stretch-for-host _ (c .stretched-of .ensures) (c .before .before .before .before .before .before .before .stretch .ensures)
+returns c = for-host stretchedOf (c .stretched-of .ensures) (c .before .before .before .before .before .before .before .stretch .ensures)
 
 pub dresserduck-stretch-spec : {M : Type 1} → statement M
 dresserduck-stretch-spec =

@@ -1,11 +1,14 @@
 -- `colour` meets its contract: the verdict of the definition is the one that the tests gave, and each case leaves its outcome.
-use mathlib.Core.Path.{_≡_}
+use mathlib.Core.Path.{_≡_, ap, _∙_}
+use native.Mathlib.Omega.{arith}
 use Rattle.grouping_chart.specs.Chart.{Chart}
-use Rattle.grouping_chart.specs.Settings.{baseSettings}
+use Rattle.grouping_chart.specs.Settings.{Settings, baseSettings}
 use Rattle.grouping_chart.specs.declared.chart.Verdict.the-variants.{Accepted}
-use Rattle.grouping_chart.proofs.BaseLaws.{base-permitted}
-use Rattle.evaluator_calls.specs.Calls.{Memory}
-use Rattle.evaluator_calls.proofs.CallsLaws.{judged, judged-is, chart-room, filled-is, colour-refused, colour-done}
+use Rattle.grouping_chart.proofs.BaseLaws.{is-permitted}
+use Rattle.grouping_chart.proofs.LentLaws.{answered-refused}
+use Rattle.evaluator_calls.specs.declared.Colouring.the-variants as answer
+use Rattle.evaluator_calls.specs.Calls.{Memory, judged, colourOutcome}
+use Rattle.evaluator_calls.proofs.CallsLaws.{chart-judged, chart-room, filled-is, colour-done}
 use borrow.Author.Needs.{needs}
 use Rattle.evaluator_calls.proofs.colour.Statement.{statement}
 use Rattle.evaluator_calls.proofs.colour.Tie as tie
@@ -21,8 +24,8 @@ memoryOf c = record { value = c .args .value .now; work = c .args .work .now; sc
 abbrev start : tie.After-enum-told → tie.Start
 start c = c .before .before .before .before .before .before .before .before .before .before .before
 
-accepted : (c : tie.After-enum-told) → judged baseSettings (chartOf (start c)) (memoryOf (start c)) ≡ Accepted
-accepted c = judged-is baseSettings (chartOf (start c)) (memoryOf (start c)) _ (c .before .before .before .short-refusal .ensures) (c .before .before .check .ensures) (c .enum-told .given .1)
+accepted : (c : tie.After-enum-told) → judged (chartOf (start c)) (memoryOf (start c)) ≡ Accepted
+accepted c = chart-judged baseSettings (chartOf (start c)) (memoryOf (start c)) (c .before .before .before .short-refusal .ensures) (c .before .before .check .ensures) (c .enum-told .given .1)
 
 short-refusal-requires : tie.Need-short-refusal-requires
 short-refusal-requires c κs = search needs
@@ -36,10 +39,17 @@ enum-known-number c = search needs
 enum-told : tie.Need-enum-told
 enum-told c = search needs
 
+base-requires : tie.Need-base-requires
+base-requires c κs = search needs
+
+cast-m : tie.Need-cast-m
+cast-m c = omega (arith, is-permitted (c .before .base .ensures))
+
 fill-chart-requires : tie.Need-fill-chart-requires
 fill-chart-requires c κs =
-    let t = c .before .before .before in
-    chart-room baseSettings (chartOf (start t)) (memoryOf (start t)) base-permitted (accepted t)
+    let b = c .before .before .before .before in
+    let s = start (b .before) in
+    chart-room (b .base .result) (chartOf s) (memoryOf s) (is-permitted (b .base .ensures)) (accepted (b .before))
 
 same-length : tie.Need-same-length
 same-length c = search needs
@@ -51,15 +61,17 @@ same-length-3 : tie.Need-same-length-3
 same-length-3 c = search needs
 
 returns : tie.Need-returns
+unfolding colourOutcome
 returns c =
     let s = c .before .before .before .before .before .before .before .before .before .before .before .before in
-    colour-refused baseSettings (chartOf s) (memoryOf s) _ _ (judged-is baseSettings (chartOf s) (memoryOf s) _ (c .before .before .before .before .short-refusal .ensures) (c .before .before .before .check .ensures) (c .before .number .given .1))
+    answered-refused _ answer.Refused (memoryOf s) (chart-judged baseSettings (chartOf s) (memoryOf s) (c .before .before .before .before .short-refusal .ensures) (c .before .before .before .check .ensures) (c .before .number .given .1))
 
 returns-2 : tie.Need-returns-2
 returns-2 c =
-    let t = c .before .before .before .before .before .before .before .before .before .before in
-    let s = start t in
-    colour-done baseSettings (chartOf s) (memoryOf s) _ (accepted t) (filled-is baseSettings (chartOf s) (memoryOf s) _ _ _ (c .before .before .before .before .before .before .fill-chart .ensures))
+    let b = c .before .before .before .before .before .before .before .before .before .before .before in
+    let s = start (b .before) in
+    colour-done (b .base .result) (chartOf s) (memoryOf s) _ (accepted (b .before)) (filled-is (b .base .result) (chartOf s) (memoryOf s) _ _ _ (c .before .before .before .before .before .before .fill-chart .ensures))
+    ∙ ap (λ (set : Settings). colourOutcome set (chartOf s) (memoryOf s)) (b .base .ensures)
 
 pub colour-spec : {M : Type 1} → statement M
 colour-spec =
@@ -69,6 +81,8 @@ colour-spec =
     check-requires
     enum-known-number
     enum-told
+    base-requires
+    cast-m
     fill-chart-requires
     returns
     same-length

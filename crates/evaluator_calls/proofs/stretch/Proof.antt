@@ -1,15 +1,17 @@
 -- `stretch` meets its contract: the verdict of the definition is the one that the tests gave, each case leaves its outcome, and the mean of an accepted stretch is small enough for its tenths.
 use mathlib.Core.Path.{_≡_, ap, _∙_}
 use mir.Facts.{toZ-ofZ}
+use native.Mathlib.Omega.{arith}
 use Rattle.numeric.specs.Tenths.{tenthsOf}
-use Rattle.grouping_chart.specs.Chart.{Chart, size}
-use Rattle.grouping_chart.specs.Settings.{baseSettings}
+use Rattle.grouping_chart.specs.Chart.{Chart}
+use Rattle.grouping_chart.specs.Settings.{Settings, baseSettings}
 use Rattle.grouping_chart.specs.declared.chart.Verdict.the-variants.{Accepted}
-use Rattle.grouping_chart.proofs.BaseLaws.{base-permitted}
+use Rattle.grouping_chart.proofs.BaseLaws.{is-permitted}
+use Rattle.grouping_chart.proofs.LentLaws.{answered-refused}
+use Rattle.evaluator_calls.specs.declared.Stretching.the-variants as answer
 use Rattle.evaluator_calls.specs.Stretch.{meanTenths}
-use Rattle.evaluator_calls.specs.Calls.{Memory, stretchVerdict}
-use Rattle.evaluator_calls.specs.Passes.{ChartRoom}
-use Rattle.evaluator_calls.proofs.CallsLaws.{Within, judged, within-bounds, chart-room, filled-is, stretch-is, stretch-refused, stretch-done}
+use Rattle.evaluator_calls.specs.Calls.{Memory, judged, stretchVerdict, stretchOutcome}
+use Rattle.evaluator_calls.proofs.CallsLaws.{Within, within-bounds, chart-room, filled-is, stretch-is, stretch-done}
 use Rattle.evaluator_calls.proofs.StretchLaws.{stretch-room, mean-is, mean-in-range}
 use borrow.Author.Needs.{needs}
 use Rattle.evaluator_calls.proofs.stretch.Statement.{statement}
@@ -26,20 +28,17 @@ memoryOf c = record { value = c .args .value .now; work = c .args .work .now; sc
 abbrev start : tie.After-enum-told → tie.Start
 start c = c .before .before .before .before .before .before .before .before .before .before .before .before
 
-accepted : (c : tie.After-enum-told) → stretchVerdict (judged baseSettings (chartOf (start c)) (memoryOf (start c))) (chartOf (start c) .kinds) (start c .args .a) (start c .args .b) ≡ Accepted
+accepted : (c : tie.After-enum-told) → stretchVerdict (judged (chartOf (start c)) (memoryOf (start c))) (chartOf (start c) .kinds) (start c .args .a) (start c .args .b) ≡ Accepted
 accepted c =
-    stretch-is baseSettings (chartOf (start c)) (memoryOf (start c)) _ _ _ (c .before .before .before .before .short-refusal .ensures) (c .before .before .before .check .ensures) (c .before .before .with-bounds .ensures)
+    stretch-is baseSettings (chartOf (start c)) (memoryOf (start c)) _ _ (c .before .before .before .before .short-refusal .ensures) (c .before .before .before .check .ensures) (c .before .before .with-bounds .ensures)
     (c .enum-told .given .1)
 
-inside : (c : tie.After-enum-told) → Within (judged baseSettings (chartOf (start c)) (memoryOf (start c))) (chartOf (start c) .kinds) (start c .args .a) (start c .args .b)
+inside : (c : tie.After-enum-told) → Within (judged (chartOf (start c)) (memoryOf (start c))) (chartOf (start c) .kinds) (start c .args .a) (start c .args .b)
 inside c = within-bounds _ _ _ _ (accepted c)
 
-room : (c : tie.After-enum-told) → ChartRoom (size (chartOf (start c))) (baseSettings .limit) (start c .args .ratio .now) (start c .args .value .now) (start c .args .work .now) (start c .args .scratch .now)
-room c = chart-room baseSettings (chartOf (start c)) (memoryOf (start c)) base-permitted (inside c .accepted)
-
 -- ---- once the values are filled
-abbrev told : tie.After-fill-chart → tie.After-enum-told
-told c = c .before .before .before .before
+abbrev based : tie.After-fill-chart → tie.After-base
+based c = c .before .before .before .before .before
 
 short-refusal-requires : tie.Need-short-refusal-requires
 short-refusal-requires c κs = search needs
@@ -56,18 +55,29 @@ enum-known-number c = search needs
 enum-told : tie.Need-enum-told
 enum-told c = search needs
 
+base-requires : tie.Need-base-requires
+base-requires c κs = search needs
+
+cast-m : tie.Need-cast-m
+cast-m c = omega (arith, is-permitted (c .before .base .ensures))
+
 fill-chart-requires : tie.Need-fill-chart-requires
-fill-chart-requires c κs = room (c .before .before .before)
+fill-chart-requires c κs =
+    let b = c .before .before .before .before in
+    let s = start (b .before) in
+    chart-room (b .base .result) (chartOf s) (memoryOf s) (is-permitted (b .base .ensures)) (inside (b .before) .accepted)
 
 mean-requires : tie.Need-mean-requires
 mean-requires c κs =
     let f = c .before .before .before .before .before .before .before in
-    stretch-room baseSettings base-permitted (chartOf (start (told f))) (memoryOf (start (told f))) _ _ (inside (told f)) _ _ _ (f .fill-chart .ensures)
+    let b = based f in
+    stretch-room (b .base .result) (is-permitted (b .base .ensures)) (chartOf (start (b .before))) (memoryOf (start (b .before))) _ _ (inside (b .before)) _ _ _ (f .fill-chart .ensures)
 
 tenths-requires : tie.Need-tenths-requires
 tenths-requires c κs =
     let f = c .before .before .before .before .before .before .before .before in
-    mean-in-range baseSettings base-permitted (chartOf (start (told f))) (memoryOf (start (told f))) _ _ (inside (told f)) _ _ _ (f .fill-chart .ensures) _ (c .mean .ensures)
+    let b = based f in
+    mean-in-range (b .base .result) (is-permitted (b .base .ensures)) (chartOf (start (b .before))) (memoryOf (start (b .before))) _ _ (inside (b .before)) _ _ _ (f .fill-chart .ensures) _ (c .mean .ensures)
 
 same-length : tie.Need-same-length
 same-length c = search needs
@@ -79,20 +89,23 @@ same-length-3 : tie.Need-same-length-3
 same-length-3 c = search needs
 
 returns : tie.Need-returns
+unfolding stretchOutcome
 returns c =
     let s = c .before .before .before .before .before .before .before .before .before .before .before .before .before in
-    stretch-refused baseSettings (chartOf s) (memoryOf s) _ _ _ _
-    (stretch-is baseSettings (chartOf s) (memoryOf s) _ _ _ (c .before .before .before .before .before .short-refusal .ensures) (c .before .before .before .before .check .ensures) (c .before .before .before .with-bounds .ensures)
+    answered-refused _ answer.Refused (memoryOf s)
+    (stretch-is baseSettings (chartOf s) (memoryOf s) _ _ (c .before .before .before .before .before .short-refusal .ensures) (c .before .before .before .before .check .ensures) (c .before .before .before .with-bounds .ensures)
     (c .before .number .given .1))
 
 returns-2 : tie.Need-returns-2
 unfolding meanTenths
 returns-2 c =
     let f = c .before .before .before .before .before .before .before .before .before in
-    let s = start (told f) in
-    let mean = mean-is baseSettings base-permitted (chartOf s) (memoryOf s) _ _ (inside (told f)) _ _ _ (f .fill-chart .ensures) _ (c .before .mean .ensures) in
+    let b = based f in
+    let s = start (b .before) in
+    let mean = mean-is (b .base .result) (is-permitted (b .base .ensures)) (chartOf s) (memoryOf s) _ _ (inside (b .before)) _ _ _ (f .fill-chart .ensures) _ (c .before .mean .ensures) in
     let tenths = toZ-ofZ (record { sfits = c .tenths .ok }) ∙ c .tenths .ensures ∙ ap tenthsOf mean in
-    stretch-done baseSettings (chartOf s) (memoryOf s) _ _ _ _ _ (accepted (told f)) mean tenths (filled-is baseSettings (chartOf s) (memoryOf s) _ _ _ (f .fill-chart .ensures))
+    stretch-done (b .base .result) (chartOf s) (memoryOf s) _ _ _ _ _ (accepted (b .before)) mean tenths (filled-is (b .base .result) (chartOf s) (memoryOf s) _ _ _ (f .fill-chart .ensures))
+    ∙ ap (λ (set : Settings). stretchOutcome set (chartOf s) (s .args .a) (s .args .b) (memoryOf s)) (b .base .ensures)
 
 pub stretch-spec : {M : Type 1} → statement M
 stretch-spec =
@@ -103,6 +116,8 @@ stretch-spec =
     with-bounds-requires
     enum-known-number
     enum-told
+    base-requires
+    cast-m
     fill-chart-requires
     mean-requires
     tenths-requires

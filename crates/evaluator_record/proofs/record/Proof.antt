@@ -1,13 +1,13 @@
 -- `record` meets its contract: the verdict of the definition is the one that the tests gave, and each case leaves its outcome.
-use mathlib.Core.Path.{_≡_, refl, sym, _∙_}
+use mathlib.Core.Path.{_≡_, refl, sym, ap, _∙_}
 use mathlib.Core.Bool.{Bool, true, false, not}
 use native.Mathlib.Omega.{arith}
 use Rattle.grouping_chart.specs.Chart.{Chart}
-use Rattle.grouping_chart.specs.Settings.{baseSettings}
+use Rattle.grouping_chart.specs.Settings.{Settings, baseSettings}
 use Rattle.grouping_chart.specs.declared.chart.Verdict.the-variants.{Accepted}
 use Rattle.grouping_rhythm.proofs.TablesLaws.{groups-counted}
-use Rattle.evaluator_record.specs.Calls.{Memory, windowGood}
-use Rattle.evaluator_record.proofs.CallsLaws.{groupsOf, judged, judged-is, lengths-same, group-room, chart-refused, window-refused, group-refused, record-done}
+use Rattle.evaluator_record.specs.Calls.{Memory, judged, windowGood, recordOutcome}
+use Rattle.evaluator_record.proofs.CallsLaws.{groupsOf, chart-judged, lengths-same, group-room, chart-refused, window-refused, group-refused, record-done}
 use borrow.Author.Needs.{needs}
 use Rattle.evaluator_record.proofs.record.Statement.{statement}
 use Rattle.evaluator_record.proofs.record.Tie as tie
@@ -31,20 +31,21 @@ memoryOf c = record { work = c .args .work .now; scratch = c .args .scratch .now
 abbrev start : tie.After-enum-told → tie.Start
 start c = c .before .before .before .before .before .before .before .before .before .before
 
-accepted : (c : tie.After-enum-told) → judged baseSettings (chartOf (start c)) (memoryOf (start c)) ≡ Accepted
-accepted c = judged-is baseSettings (chartOf (start c)) (memoryOf (start c)) _ (c .before .before .before .short-refusal .ensures) (c .before .before .check .ensures) (c .enum-told .given .1)
+accepted : (c : tie.After-enum-told) → judged (chartOf (start c)) (memoryOf (start c)) ≡ Accepted
+accepted c = chart-judged baseSettings (chartOf (start c)) (memoryOf (start c)) (c .before .before .before .short-refusal .ensures) (c .before .before .check .ensures) (c .enum-told .given .1)
 
 -- ---- once the window is known to be good
 window : (c : tie.Else1) → windowGood (start (c .before .before) .args .window) ≡ true
 window c = sym (c .before .window-good .ensures) ∙ not-false _ (c .if1 .left)
 
 -- ---- once the groups are counted
-abbrev told : tie.After-count-groups → tie.After-enum-told
+abbrev told : tie.After-base → tie.After-enum-told
 told c = c .before .before .before
 
-counted : (c : tie.After-count-groups) → c .count-groups .result ≡ groupsOf baseSettings (chartOf (start (told c)))
+counted : (c : tie.After-count-groups) → c .count-groups .result ≡ groupsOf (c .before .base .result) (chartOf (start (told (c .before))))
 counted c =
-    c .count-groups .ensures ∙ sym (groups-counted _ _ _ (lengths-same baseSettings (chartOf (start (told c))) (memoryOf (start (told c))) (accepted (told c))))
+    let t = told (c .before) in
+    c .count-groups .ensures ∙ sym (groups-counted _ _ _ (lengths-same baseSettings (chartOf (start t)) (memoryOf (start t)) (accepted t)))
 
 short-refusal-requires : tie.Need-short-refusal-requires
 short-refusal-requires c κs = search needs
@@ -72,37 +73,44 @@ returns c =
     let t = c .before .before in
     window-refused baseSettings (chartOf (start t)) (memoryOf (start t)) (start t .args .g) (start t .args .window) (accepted t) (sym (c .before .window-good .ensures) ∙ not-true _ (c .if1 .taken))
 
+base-requires : tie.Need-base-requires
+base-requires c κs = search needs
+
 count-groups-requires : tie.Need-count-groups-requires
 count-groups-requires c κs =
-    let t = c .before .before in
+    let t = told c in
     lengths-same baseSettings (chartOf (start t)) (memoryOf (start t)) (accepted t)
 
 returns-2 : tie.Need-returns-2
 returns-2 c =
     let k = c .before in
-    let t = told k in
-    group-refused baseSettings (chartOf (start t)) (memoryOf (start t)) (start t .args .g) (start t .args .window) (accepted t) (window (k .before)) (omega (arith, counted k, c .if2 .taken))
+    let b = k .before in
+    let t = told b in
+    group-refused (b .base .result) (chartOf (start t)) (memoryOf (start t)) (start t .args .g) (start t .args .window) (accepted t) (window (b .before)) (omega (arith, counted k, c .if2 .taken))
+    ∙ ap (λ (set : Settings). recordOutcome set (chartOf (start t)) (start t .args .g) (start t .args .window) (memoryOf (start t))) (b .base .ensures)
 
 make-record-requires : tie.Need-make-record-requires
 make-record-requires c κs =
     let k = c .before .before .before in
-    let t = told k in
-    group-room baseSettings (chartOf (start t)) (memoryOf (start t)) (start t .args .g) (accepted t) (omega (arith, counted k, c .before .before .if2 .left))
+    let t = told (k .before) in
+    group-room (k .before .base .result) (chartOf (start t)) (memoryOf (start t)) (start t .args .g) (accepted t) (omega (arith, counted k, c .before .before .if2 .left))
 
 returns-3 : tie.Need-returns-3
 returns-3 c =
     let v = c .before .before .before in
     let s = v .before .before .before .before .before .before .before .before in
     chart-refused baseSettings (chartOf s) (memoryOf s) (s .args .g) (s .args .window) _ _
-    (judged-is baseSettings (chartOf s) (memoryOf s) _ (v .before .short-refusal .ensures) (v .check .ensures) (c .before .number .given .1))
+    (chart-judged baseSettings (chartOf s) (memoryOf s) (v .before .short-refusal .ensures) (v .check .ensures) (c .before .number .given .1))
 
 returns-4 : tie.Need-returns-4
 returns-4 c =
     let m = c .before .before .before .before in
     let k = m .before .before .before .before in
-    let t = told k in
-    record-done baseSettings (chartOf (start t)) (memoryOf (start t)) (start t .args .g) (start t .args .window) (accepted t) (window (k .before)) (omega (arith, counted k, m .before .before .before .if2 .left)) _ _ _
+    let b = k .before in
+    let t = told b in
+    record-done (b .base .result) (chartOf (start t)) (memoryOf (start t)) (start t .args .g) (start t .args .window) (accepted t) (window (b .before)) (omega (arith, counted k, m .before .before .before .if2 .left)) _ _ _
     (m .make-record .ensures)
+    ∙ ap (λ (set : Settings). recordOutcome set (chartOf (start t)) (start t .args .g) (start t .args .window) (memoryOf (start t))) (b .base .ensures)
 
 pub record-spec : {M : Type 1} → statement M
 record-spec =
@@ -114,6 +122,7 @@ record-spec =
     enum-told
     window-good-requires
     returns
+    base-requires
     count-groups-requires
     returns-2
     make-record-requires

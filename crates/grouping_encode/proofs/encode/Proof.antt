@@ -1,12 +1,14 @@
 -- The verdict of the definition is the one that the tests gave, and each case leaves its outcome.
-use mathlib.Core.Path.{_≡_}
-use Rattle.grouping_chart.specs.Chart.{Chart, size}
-use Rattle.grouping_chart.specs.Refusal.{verdict}
-use Rattle.grouping_chart.specs.Settings.{baseSettings}
+use mathlib.Core.Path.{_≡_, ap, _∙_}
+use native.Mathlib.Omega.{arith}
+use Rattle.grouping_chart.specs.Chart.{Chart}
+use Rattle.grouping_chart.specs.Settings.{Settings}
 use Rattle.grouping_chart.specs.declared.chart.Verdict.the-variants.{Accepted}
-use Rattle.grouping_chart.proofs.BaseLaws.{base-permitted}
-use Rattle.grouping_encode.specs.Encode.{Memory, beside}
-use Rattle.grouping_encode.proofs.EncodeLaws.{judged, refused-outcome, done-outcome, has-room, answer-room, filled-is}
+use Rattle.grouping_chart.proofs.BaseLaws.{is-permitted}
+use Rattle.grouping_chart.proofs.LentLaws.{judged-is, answered-refused}
+use Rattle.grouping_encode.specs.declared.Encoding.the-variants as answer
+use Rattle.grouping_encode.specs.Encode.{Memory, places, judged, encodeOutcome}
+use Rattle.grouping_encode.proofs.EncodeLaws.{done-outcome, has-room, answer-room, filled-is}
 use borrow.Author.Needs.{needs}
 use Rattle.grouping_encode.proofs.encode.Statement.{statement}
 use Rattle.grouping_encode.proofs.encode.Tie as tie
@@ -31,8 +33,8 @@ memoryOf c = record {
 abbrev start : tie.After-enum-told → tie.Start
 start c = c .before .before .before .before .before .before .before .before .before .before .before .before .before .before .before .before .before .before .before .before .before .before .before
 
-accepted : (c : tie.After-enum-told) → verdict (chartOf (start c)) (beside (size (chartOf (start c))) (memoryOf (start c))) ≡ Accepted
-accepted c = judged (chartOf (start c)) (memoryOf (start c)) _ _ (c .before .before .before .before .too-short .ensures) (c .before .before .before .short-refusal .ensures) (c .before .before .check .ensures) (c .enum-told .given .1)
+accepted : (c : tie.After-enum-told) → judged (chartOf (start c)) (memoryOf (start c)) ≡ Accepted
+accepted c = judged-is (chartOf (start c)) (places (memoryOf (start c))) _ _ (c .before .before .before .before .too-short .ensures) (c .before .before .before .short-refusal .ensures) (c .before .before .check .ensures) (c .enum-told .given .1)
 
 too-short-requires : tie.Need-too-short-requires
 too-short-requires c κs = search needs
@@ -49,14 +51,21 @@ enum-known-number c = search needs
 enum-told : tie.Need-enum-told
 enum-told c = search needs
 
+base-requires : tie.Need-base-requires
+base-requires c κs = search needs
+
+cast-m : tie.Need-cast-m
+cast-m c = omega (arith, is-permitted (c .before .base .ensures))
+
 encode-kinds-requires : tie.Need-encode-kinds-requires
 encode-kinds-requires c κs =
-    let t = c .before .before .before .before .before .before .before in
-    answer-room baseSettings (chartOf (start t)) (memoryOf (start t)) base-permitted (accepted t)
+    let b = c .before .before .before .before .before .before .before .before in
+    let s = start (b .before) in
+    answer-room (b .base .result) (chartOf s) (memoryOf s) (is-permitted (b .base .ensures)) (accepted (b .before))
 
 clear-floats-requires : tie.Need-clear-floats-requires
 clear-floats-requires c κs =
-    let t = c .before .before .before .before .before .before .before .before .before .before .before .before .before .before .before .before .before .before .before .before .before .before .before in
+    let t = c .before .before .before .before .before .before .before .before .before .before .before .before .before .before .before .before .before .before .before .before .before .before .before .before .before in
     has-room (chartOf (start t)) (memoryOf (start t)) (accepted t) .scratch
 
 same-length : tie.Need-same-length
@@ -78,9 +87,10 @@ same-length-6 : tie.Need-same-length-6
 same-length-6 c = search needs
 
 returns : tie.Need-returns
+unfolding encodeOutcome
 returns c =
     let s = c .before .before .before .before .before .before .before .before .before .before .before .before .before .before .before .before .before .before .before .before .before .before .before .before in
-    refused-outcome baseSettings (chartOf s) (memoryOf s) _ _ (judged (chartOf s) (memoryOf s) _ _ (c .before .before .before .before .before .too-short .ensures) (c .before .before .before .before .short-refusal .ensures) (c .before .before .before .check .ensures) (c .before .number .given .1))
+    answered-refused _ answer.Refused (memoryOf s) (judged-is (chartOf s) (places (memoryOf s)) _ _ (c .before .before .before .before .before .too-short .ensures) (c .before .before .before .before .short-refusal .ensures) (c .before .before .before .check .ensures) (c .before .number .given .1))
 
 same-length-7 : tie.Need-same-length-7
 same-length-7 c = search needs
@@ -108,10 +118,11 @@ same-length-14 c = search needs
 
 returns-2 : tie.Need-returns-2
 returns-2 c =
-    let t = c .before .before .before .before .before .before .before .before .before .before .before .before .before .before .before .before .before .before .before .before .before .before .before .before .before .before in
-    let s = start t in
+    let b = c .before .before .before .before .before .before .before .before .before .before .before .before .before .before .before .before .before .before .before .before .before .before .before .before .before .before .before in
+    let s = start (b .before) in
     let e = c .before .before .before .before .before .before .before .before .before .before .before .before .before .before .before .before .before .before .encode-kinds .ensures in
-    done-outcome baseSettings (chartOf s) (memoryOf s) _ _ (accepted t) (e .counted) (filled-is baseSettings (chartOf s .kinds) (memoryOf s) _ _ _ _ _ _ _ _ _ e (c .before .before .clear-floats .ensures))
+    done-outcome (b .base .result) (chartOf s) (memoryOf s) _ _ (accepted (b .before)) (e .counted) (filled-is (b .base .result) (chartOf s .kinds) (memoryOf s) _ _ _ _ _ _ _ _ _ e (c .before .before .clear-floats .ensures))
+    ∙ ap (λ (set : Settings). encodeOutcome set (chartOf s) (memoryOf s)) (b .base .ensures)
 
 pub encode-spec : {M : Type 1} → statement M
 encode-spec =
@@ -122,6 +133,8 @@ encode-spec =
     check-requires
     enum-known-number
     enum-told
+    base-requires
+    cast-m
     encode-kinds-requires
     clear-floats-requires
     same-length

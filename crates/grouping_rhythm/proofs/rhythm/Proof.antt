@@ -1,10 +1,12 @@
 -- The verdict of the definition is the one that the tests gave, and each case leaves its outcome.
-use mathlib.Core.Path.{_≡_}
+use mathlib.Core.Path.{_≡_, ap, _∙_}
 use Rattle.grouping_chart.specs.Chart.{Chart}
-use Rattle.grouping_chart.specs.Settings.{baseSettings}
+use Rattle.grouping_chart.specs.Settings.{Settings, baseSettings}
 use Rattle.grouping_chart.specs.declared.chart.Verdict.the-variants.{Accepted}
-use Rattle.grouping_rhythm.specs.Rhythm.{Memory}
-use Rattle.grouping_rhythm.proofs.RhythmLaws.{judged, judged-is, answer-room, rhythm-refused, rhythm-done}
+use Rattle.grouping_chart.proofs.LentLaws.{judged-is, answered-refused}
+use Rattle.grouping_rhythm.specs.declared.Grouping.the-variants as answer
+use Rattle.grouping_rhythm.specs.Rhythm.{Memory, judged, rhythmOutcome}
+use Rattle.grouping_rhythm.proofs.RhythmLaws.{answer-room, rhythm-done}
 use borrow.Author.Needs.{needs}
 use Rattle.grouping_rhythm.proofs.rhythm.Statement.{statement}
 use Rattle.grouping_rhythm.proofs.rhythm.Tie as tie
@@ -20,8 +22,8 @@ memoryOf c = record { group = c .args .group .now; pattern = c .args .pattern .n
 abbrev start : tie.After-enum-told → tie.Start
 start c = c .before .before .before .before .before .before .before .before .before .before .before .before .before .before .before
 
-accepted : (c : tie.After-enum-told) → judged baseSettings (chartOf (start c)) (memoryOf (start c)) ≡ Accepted
-accepted c = judged-is baseSettings (chartOf (start c)) (memoryOf (start c)) _ _ (c .before .before .before .before .too-short .ensures) (c .before .before .before .short-refusal .ensures) (c .before .before .check .ensures) (c .enum-told .given .1)
+accepted : (c : tie.After-enum-told) → judged (chartOf (start c)) (memoryOf (start c)) ≡ Accepted
+accepted c = judged-is (chartOf (start c)) _ _ _ (c .before .before .before .before .too-short .ensures) (c .before .before .before .short-refusal .ensures) (c .before .before .check .ensures) (c .enum-told .given .1)
 
 too-short-requires : tie.Need-too-short-requires
 too-short-requires c κs = search needs
@@ -38,9 +40,12 @@ enum-known-number c = search needs
 enum-told : tie.Need-enum-told
 enum-told c = search needs
 
+base-requires : tie.Need-base-requires
+base-requires c κs = search needs
+
 fill-groups-requires : tie.Need-fill-groups-requires
 fill-groups-requires c κs =
-    let t = c .before .before .before .before in
+    let t = c .before .before .before .before .before in
     answer-room baseSettings (chartOf (start t)) (memoryOf (start t)) (accepted t)
 
 same-length : tie.Need-same-length
@@ -50,9 +55,10 @@ same-length-2 : tie.Need-same-length-2
 same-length-2 c = search needs
 
 returns : tie.Need-returns
+unfolding rhythmOutcome
 returns c =
     let s = c .before .before .before .before .before .before .before .before .before .before .before .before .before .before .before .before in
-    rhythm-refused baseSettings (chartOf s) (memoryOf s) _ _ (judged-is baseSettings (chartOf s) (memoryOf s) _ _ (c .before .before .before .before .before .too-short .ensures) (c .before .before .before .before .short-refusal .ensures) (c .before .before .before .check .ensures) (c .before .number .given .1))
+    answered-refused _ answer.Refused (memoryOf s) (judged-is (chartOf s) _ _ _ (c .before .before .before .before .before .too-short .ensures) (c .before .before .before .before .short-refusal .ensures) (c .before .before .before .check .ensures) (c .before .number .given .1))
 
 same-length-3 : tie.Need-same-length-3
 same-length-3 c = search needs
@@ -68,8 +74,10 @@ same-length-6 c = search needs
 
 returns-2 : tie.Need-returns-2
 returns-2 c =
-    let t = c .before .before .before .before .before .before .before .before .before .before .before .before .before in
-    rhythm-done baseSettings (chartOf (start t)) (memoryOf (start t)) _ _ _ _ _ (accepted t) (c .before .before .before .before .before .before .before .before .fill-groups .ensures)
+    let b = c .before .before .before .before .before .before .before .before .before .before .before .before .before in
+    let s = start (b .before) in
+    rhythm-done (b .base .result) (chartOf s) (memoryOf s) _ _ _ _ _ (accepted (b .before)) (c .before .before .before .before .before .before .before .before .fill-groups .ensures)
+    ∙ ap (λ (set : Settings). rhythmOutcome set (chartOf s) (memoryOf s)) (b .base .ensures)
 
 pub rhythm-spec : {M : Type 1} → statement M
 rhythm-spec =
@@ -80,6 +88,7 @@ rhythm-spec =
     check-requires
     enum-known-number
     enum-told
+    base-requires
     fill-groups-requires
     same-length
     same-length-2
