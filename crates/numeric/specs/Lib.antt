@@ -6,3 +6,5 @@ pub mod RoundTiesEven
 pub mod Tenths
 pub mod Logistic
 pub mod LogisticRule
+pub mod LogisticNearest
+pub mod ExponentialSum
