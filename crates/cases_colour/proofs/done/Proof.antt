@@ -5,12 +5,6 @@ use Rattle.cases_colour.proofs.ColourLaws.{colour-refused}
 use Rattle.cases_colour.proofs.done.Statement.{statement}
 use Rattle.cases_colour.proofs.done.Tie as tie
 
-enum-told : tie.Need-enum-told
-enum-told c = omega arith
-
-enum-told-2 : tie.Need-enum-told-2
-enum-told-2 c = omega arith
-
 returns : tie.Need-returns
 returns c = granted (c .enum-told .given .1)
 
@@ -18,4 +12,4 @@ returns-2 : tie.Need-returns-2
 returns-2 c = colour-refused _ _ _ (c .enum-told2 .given .1)
 
 pub done-spec : {M : Type 1} → statement M
-done-spec = tie.close (tie.spec enum-told enum-told-2 returns returns-2)
+done-spec = tie.close (tie.spec (λ c. omega arith) (λ c. omega arith) returns returns-2)

@@ -10,12 +10,6 @@ returns : tie.Need-returns
 unfolding ColourHolds
 returns c = too-many (c .if1 .taken)
 
-column-size-requires : tie.Need-column-size-requires
-column-size-requires c κs = omega arith
-
-colour-formed-requires : tie.Need-colour-formed-requires
-colour-formed-requires c κs = omega arith
-
 call-holds-requires : tie.Need-call-holds-requires
 call-holds-requires c κs = form-room _ _ _ _ (c .before .before .before .if1 .left) (c .before .before .before .before .before .pre) (c .before .before .column-size .ensures .1) (c .before .colour-formed .ensures .0 (c .if2 .taken))
 
@@ -30,8 +24,8 @@ holds-spec =
     tie.close
     (tie.spec
     returns
-    column-size-requires
-    colour-formed-requires
+    (λ c κs. omega arith)
+    (λ c κs. omega arith)
     call-holds-requires
     returns-2
     returns-3)

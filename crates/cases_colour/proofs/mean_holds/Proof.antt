@@ -5,20 +5,8 @@ use Rattle.cases_colour.proofs.StretchLaws.{mean-told, tenths-differ, m
 use Rattle.cases_colour.proofs.mean_holds.Statement.{statement}
 use Rattle.cases_colour.proofs.mean_holds.Tie as tie
 
-enum-known-answer : tie.Need-enum-known-answer
-enum-known-answer c = search needs
-
-signed-requires : tie.Need-signed-requires
-signed-requires c κs = search needs
-
-bits-requires : tie.Need-bits-requires
-bits-requires c κs = search needs
-
 returns : tie.Need-returns
 returns c = mean-told _ _ _ _ (c .before .before .before .before .before .answer .given .1) (omega (arith, c .before .before .before .before .known-told)) _ (c .before .before .before .signed .ensures) (omega (arith, c .before .before .before .signed)) _ (c .before .before .if1 .taken) (c .before .bits .ensures)
-
-enum-told : tie.Need-enum-told
-enum-told c = search needs
 
 returns-2 : tie.Need-returns-2
 returns-2 c = tenths-differ _ _ _ _ (c .before .before .before .answer .given .1) (omega (arith, c .before .before .known-told)) _ (c .before .signed .ensures) (omega (arith, c .before .signed)) (c .if1 .left)
@@ -30,10 +18,10 @@ pub mean-holds-spec : {M : Type 1} → statement M
 mean-holds-spec =
     tie.close
     (tie.spec
-    enum-known-answer
-    signed-requires
-    bits-requires
+    (λ c. search needs)
+    (λ c κs. search needs)
+    (λ c κs. search needs)
     returns
-    enum-told
+    (λ c. search needs)
     returns-2
     returns-3)

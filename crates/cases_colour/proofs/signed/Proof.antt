@@ -6,17 +6,8 @@ use Rattle.cases_colour.proofs.StretchLaws.{minus-room, signed-low, sig
 use Rattle.cases_colour.proofs.signed.Statement.{statement}
 use Rattle.cases_colour.proofs.signed.Tie as tie
 
-cast-result : tie.Need-cast-result
-cast-result c = search needs
-
 returns : tie.Need-returns
 returns c = signed-low _ (c .if1 .taken)
-
-sub-result : tie.Need-sub-result
-sub-result c = search needs
-
-cast-result-2 : tie.Need-cast-result-2
-cast-result-2 c = search needs
 
 sub-result-2 : tie.Need-sub-result-2
 sub-result-2 c = minus-room (4294967296 - c .before .args .x) (omega arith)
@@ -26,4 +17,4 @@ returns-2 c = signed-high _ (c .if1 .left)
 
 pub signed-spec : {M : Type 1} → statement M
 signed-spec =
-    tie.close (tie.spec cast-result returns sub-result cast-result-2 sub-result-2 returns-2)
+    tie.close (tie.spec (λ c. search needs) returns (λ c. search needs) (λ c. search needs) sub-result-2 returns-2)

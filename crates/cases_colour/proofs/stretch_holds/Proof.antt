@@ -11,21 +11,6 @@ returns : tie.Need-returns
 unfolding StretchHolds
 returns c = too-many (c .if1 .taken)
 
-column-size-requires : tie.Need-column-size-requires
-column-size-requires c κs = omega arith
-
-colour-formed-requires : tie.Need-colour-formed-requires
-colour-formed-requires c κs = omega arith
-
-part-formed-requires : tie.Need-part-formed-requires
-part-formed-requires c κs = omega arith
-
-both-requires : tie.Need-both-requires
-both-requires c κs = omega arith
-
-read-stretch-requires : tie.Need-read-stretch-requires
-read-stretch-requires c κs = omega arith
-
 call-holds-requires : tie.Need-call-holds-requires
 call-holds-requires c κs =
     let f = tells-both _ _ (c .before .before .both .ensures) (c .before .before .before .before .colour-formed .ensures) (c .before .before .before .part-formed .ensures) .0 (c .before .if2 .taken) in
@@ -46,11 +31,11 @@ stretch-holds-spec =
     tie.close
     (tie.spec
     returns
-    column-size-requires
-    colour-formed-requires
-    part-formed-requires
-    both-requires
-    read-stretch-requires
+    (λ c κs. omega arith)
+    (λ c κs. omega arith)
+    (λ c κs. omega arith)
+    (λ c κs. omega arith)
+    (λ c κs. omega arith)
     call-holds-requires
     returns-2
     returns-3)

@@ -4,18 +4,6 @@ use Rattle.cases_encode.proofs.EncodeLaws.{count-told, refused-told}
 use Rattle.cases_encode.proofs.count_holds.Statement.{statement}
 use Rattle.cases_encode.proofs.count_holds.Tie as tie
 
-enum-known-answer : tie.Need-enum-known-answer
-enum-known-answer c = omega arith
-
-pair-at-requires : tie.Need-pair-at-requires
-pair-at-requires c κs = omega arith
-
-cast-result : tie.Need-cast-result
-cast-result c = omega arith
-
-enum-told : tie.Need-enum-told
-enum-told c = omega arith
-
 returns : tie.Need-returns
 returns c = count-told _ _ _ _ (c .before .before .answer .given .1) (c .pair-at .ensures)
 
@@ -24,4 +12,4 @@ returns-2 c = refused-told _ _ _ _ (c .enum-told .given .1)
 
 pub count-holds-spec : {M : Type 1} → statement M
 count-holds-spec =
-    tie.close (tie.spec enum-known-answer pair-at-requires cast-result enum-told returns returns-2)
+    tie.close (tie.spec (λ c. omega arith) (λ c κs. omega arith) (λ c. omega arith) (λ c. omega arith) returns returns-2)

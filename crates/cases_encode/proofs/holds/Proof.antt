@@ -10,24 +10,6 @@ returns : tie.Need-returns
 unfolding EncodeHolds
 returns c = too-many (c .if1 .taken)
 
-column-size-requires : tie.Need-column-size-requires
-column-size-requires c κs = omega arith
-
-mul-formed : tie.Need-mul-formed
-mul-formed c = omega arith
-
-add-formed : tie.Need-add-formed
-add-formed c = omega arith
-
-mul-formed-2 : tie.Need-mul-formed-2
-mul-formed-2 c = omega arith
-
-add-formed-2 : tie.Need-add-formed-2
-add-formed-2 c = omega arith
-
-formed-requires : tie.Need-formed-requires
-formed-requires c κs = omega arith
-
 call-holds-requires : tie.Need-call-holds-requires
 call-holds-requires c κs =
     let f = c .before .formed .ensures .0 (c .if2 .taken) in
@@ -44,12 +26,12 @@ holds-spec =
     tie.close
     (tie.spec
     returns
-    column-size-requires
-    mul-formed
-    add-formed
-    mul-formed-2
-    add-formed-2
-    formed-requires
+    (λ c κs. omega arith)
+    (λ c. omega arith)
+    (λ c. omega arith)
+    (λ c. omega arith)
+    (λ c. omega arith)
+    (λ c κs. omega arith)
     call-holds-requires
     returns-2
     returns-3)

@@ -11,15 +11,6 @@ returns : tie.Need-returns
 unfolding RecordHolds
 returns c = too-many (c .if1 .taken)
 
-rhythm-formed-requires : tie.Need-rhythm-formed-requires
-rhythm-formed-requires c κs = omega arith
-
-part-formed-requires : tie.Need-part-formed-requires
-part-formed-requires c κs = omega arith
-
-both-requires : tie.Need-both-requires
-both-requires c κs = omega arith
-
 call-holds-requires : tie.Need-call-holds-requires
 call-holds-requires c κs =
     let f = tells-both _ _ (c .before .both .ensures) (c .before .before .before .rhythm-formed .ensures) (c .before .before .part-formed .ensures) .0 (c .if2 .taken) in
@@ -38,9 +29,9 @@ holds-spec =
     tie.close
     (tie.spec
     returns
-    rhythm-formed-requires
-    part-formed-requires
-    both-requires
+    (λ c κs. omega arith)
+    (λ c κs. omega arith)
+    (λ c κs. omega arith)
     call-holds-requires
     returns-2
     returns-3)

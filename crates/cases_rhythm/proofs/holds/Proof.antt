@@ -10,9 +10,6 @@ returns : tie.Need-returns
 unfolding RhythmHolds
 returns c = too-many (c .if1 .taken)
 
-rhythm-formed-requires : tie.Need-rhythm-formed-requires
-rhythm-formed-requires c κs = omega arith
-
 call-holds-requires : tie.Need-call-holds-requires
 call-holds-requires c κs = form-room _ _ _ (c .before .before .if1 .left) (c .before .before .before .before .pre) (c .before .rhythm-formed .ensures .0 (c .if2 .taken))
 
@@ -26,4 +23,4 @@ returns-3 c = ill-formed (c .before .rhythm-formed .ensures) (c .if2 .left)
 
 pub holds-spec : {M : Type 1} → statement M
 holds-spec =
-    tie.close (tie.spec returns rhythm-formed-requires call-holds-requires returns-2 returns-3)
+    tie.close (tie.spec returns (λ c κs. omega arith) call-holds-requires returns-2 returns-3)

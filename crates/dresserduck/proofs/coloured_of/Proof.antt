@@ -5,15 +5,6 @@ use borrow.Author.Needs.{needs}
 use Rattle.dresserduck.proofs.coloured_of.Statement.{statement}
 use Rattle.dresserduck.proofs.coloured_of.Tie as tie
 
-enum-told : tie.Need-enum-told
-enum-told c = search needs
-
-enum-known-answer : tie.Need-enum-known-answer
-enum-known-answer c = search needs
-
-cast-t6 : tie.Need-cast-t6
-cast-t6 c = search needs
-
 returns : tie.Need-returns
 unfolding colouredOf
 returns c = ap colouredOf (sym (c .enum-told .given .1))
@@ -23,4 +14,4 @@ unfolding colouredOf
 returns-2 c = ap colouredOf (sym (c .before .answer .given .1))
 
 pub coloured-of-spec : {M : Type 1} → statement M
-coloured-of-spec = tie.close (tie.spec enum-told enum-known-answer cast-t6 returns returns-2)
+coloured-of-spec = tie.close (tie.spec (λ c. search needs) (λ c. search needs) (λ c. search needs) returns returns-2)

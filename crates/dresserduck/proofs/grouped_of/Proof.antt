@@ -5,15 +5,6 @@ use borrow.Author.Needs.{needs}
 use Rattle.dresserduck.proofs.grouped_of.Statement.{statement}
 use Rattle.dresserduck.proofs.grouped_of.Tie as tie
 
-enum-known-answer : tie.Need-enum-known-answer
-enum-known-answer c = search needs
-
-enum-known-answer-2 : tie.Need-enum-known-answer-2
-enum-known-answer-2 c = search needs
-
-cast-t10 : tie.Need-cast-t10
-cast-t10 c = search needs
-
 returns : tie.Need-returns
 unfolding groupedOf
 returns c = ap groupedOf (sym (c .before .answer .given .1))
@@ -24,4 +15,4 @@ returns-2 c = ap groupedOf (sym (c .before .answer2 .given .1))
 
 pub grouped-of-spec : {M : Type 1} → statement M
 grouped-of-spec =
-    tie.close (tie.spec enum-known-answer enum-known-answer-2 cast-t10 returns returns-2)
+    tie.close (tie.spec (λ c. search needs) (λ c. search needs) (λ c. search needs) returns returns-2)

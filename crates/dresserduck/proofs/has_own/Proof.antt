@@ -5,12 +5,6 @@ use borrow.Author.Needs.{needs}
 use Rattle.dresserduck.proofs.has_own.Statement.{statement}
 use Rattle.dresserduck.proofs.has_own.Tie as tie
 
-enum-told : tie.Need-enum-told
-enum-told c = search needs
-
-enum-told-2 : tie.Need-enum-told-2
-enum-told-2 c = search needs
-
 returns : tie.Need-returns
 unfolding hasOwn
 returns c = ap hasOwn (sym (c .enum-told .given .1))
@@ -20,4 +14,4 @@ unfolding hasOwn
 returns-2 c = ap hasOwn (sym (c .enum-told2 .given .1))
 
 pub has-own-spec : {M : Type 1} → statement M
-has-own-spec = tie.close (tie.spec enum-told enum-told-2 returns returns-2)
+has-own-spec = tie.close (tie.spec (λ c. search needs) (λ c. search needs) returns returns-2)

@@ -5,15 +5,6 @@ use borrow.Author.Needs.{needs}
 use Rattle.dresserduck.proofs.own_bits.Statement.{statement}
 use Rattle.dresserduck.proofs.own_bits.Tie as tie
 
-enum-told : tie.Need-enum-told
-enum-told c = search needs
-
-enum-known-own : tie.Need-enum-known-own
-enum-known-own c = search needs
-
-bits-requires : tie.Need-bits-requires
-bits-requires c κs = search needs
-
 returns : tie.Need-returns
 unfolding ownBits
 returns c = ap ownBits (sym (c .enum-told .given .1))
@@ -23,4 +14,4 @@ unfolding ownBits
 returns-2 c = c .bits .ensures ∙ ap ownBits (sym (c .before .before .own .given .1))
 
 pub own-bits-spec : {M : Type 1} → statement M
-own-bits-spec = tie.close (tie.spec enum-told enum-known-own bits-requires returns returns-2)
+own-bits-spec = tie.close (tie.spec (λ c. search needs) (λ c. search needs) (λ c κs. search needs) returns returns-2)

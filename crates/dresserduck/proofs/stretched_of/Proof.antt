@@ -12,15 +12,6 @@ use Rattle.dresserduck.proofs.stretched_of.Tie as tie
 done-with : (mean : Float) {x y : ℤ} → x ≡ y → _≡_ {A = Stretched} (record { refusal = 0; place = 0; mean = mean; tenths = x }) (record { refusal = 0; place = 0; mean = mean; tenths = y })
 done-with mean e t = record { refusal = 0; place = 0; mean = mean; tenths = e t }
 
-enum-known-answer : tie.Need-enum-known-answer
-enum-known-answer c = search needs
-
-enum-known-answer-2 : tie.Need-enum-known-answer-2
-enum-known-answer-2 c = search needs
-
-cast-t8 : tie.Need-cast-t8
-cast-t8 c = search needs
-
 returns : tie.Need-returns
 unfolding stretchedOf
 returns c =
@@ -32,4 +23,4 @@ returns-2 c = ap stretchedOf (sym (c .before .answer2 .given .1))
 
 pub stretched-of-spec : {M : Type 1} → statement M
 stretched-of-spec =
-    tie.close (tie.spec enum-known-answer enum-known-answer-2 cast-t8 returns returns-2)
+    tie.close (tie.spec (λ c. search needs) (λ c. search needs) (λ c. search needs) returns returns-2)

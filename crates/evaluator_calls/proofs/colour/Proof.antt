@@ -27,21 +27,6 @@ start c = c .before .before .before .before .before .before .before .before .bef
 accepted : (c : tie.After-enum-told) → judged (chartOf (start c)) (memoryOf (start c)) ≡ Accepted
 accepted c = chart-judged baseSettings (chartOf (start c)) (memoryOf (start c)) (c .before .before .before .short-refusal .ensures) (c .before .before .check .ensures) (c .enum-told .given .1)
 
-short-refusal-requires : tie.Need-short-refusal-requires
-short-refusal-requires c κs = search needs
-
-check-requires : tie.Need-check-requires
-check-requires c κs = search needs
-
-enum-known-number : tie.Need-enum-known-number
-enum-known-number c = search needs
-
-enum-told : tie.Need-enum-told
-enum-told c = search needs
-
-base-requires : tie.Need-base-requires
-base-requires c κs = search needs
-
 cast-m : tie.Need-cast-m
 cast-m c = omega (arith, is-permitted (c .before .base .ensures))
 
@@ -50,15 +35,6 @@ fill-chart-requires c κs =
     let b = c .before .before .before .before in
     let s = start (b .before) in
     chart-room (b .base .result) (chartOf s) (memoryOf s) (is-permitted (b .base .ensures)) (accepted (b .before))
-
-same-length : tie.Need-same-length
-same-length c = search needs
-
-same-length-2 : tie.Need-same-length-2
-same-length-2 c = search needs
-
-same-length-3 : tie.Need-same-length-3
-same-length-3 c = search needs
 
 returns : tie.Need-returns
 unfolding colourOutcome
@@ -77,15 +53,15 @@ pub colour-spec : {M : Type 1} → statement M
 colour-spec =
     tie.close
     (tie.spec
-    short-refusal-requires
-    check-requires
-    enum-known-number
-    enum-told
-    base-requires
+    (λ c κs. search needs)
+    (λ c κs. search needs)
+    (λ c. search needs)
+    (λ c. search needs)
+    (λ c κs. search needs)
     cast-m
     fill-chart-requires
     returns
-    same-length
-    same-length-2
-    same-length-3
+    (λ c. search needs)
+    (λ c. search needs)
+    (λ c. search needs)
     returns-2)

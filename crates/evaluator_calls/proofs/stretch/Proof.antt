@@ -40,24 +40,6 @@ inside c = within-bounds _ _ _ _ (accepted c)
 abbrev based : tie.After-fill-chart → tie.After-base
 based c = c .before .before .before .before .before
 
-short-refusal-requires : tie.Need-short-refusal-requires
-short-refusal-requires c κs = search needs
-
-check-requires : tie.Need-check-requires
-check-requires c κs = search needs
-
-with-bounds-requires : tie.Need-with-bounds-requires
-with-bounds-requires c κs = search needs
-
-enum-known-number : tie.Need-enum-known-number
-enum-known-number c = search needs
-
-enum-told : tie.Need-enum-told
-enum-told c = search needs
-
-base-requires : tie.Need-base-requires
-base-requires c κs = search needs
-
 cast-m : tie.Need-cast-m
 cast-m c = omega (arith, is-permitted (c .before .base .ensures))
 
@@ -78,15 +60,6 @@ tenths-requires c κs =
     let f = c .before .before .before .before .before .before .before .before in
     let b = based f in
     mean-in-range (b .base .result) (is-permitted (b .base .ensures)) (chartOf (start (b .before))) (memoryOf (start (b .before))) _ _ (inside (b .before)) _ _ _ (f .fill-chart .ensures) _ (c .mean .ensures)
-
-same-length : tie.Need-same-length
-same-length c = search needs
-
-same-length-2 : tie.Need-same-length-2
-same-length-2 c = search needs
-
-same-length-3 : tie.Need-same-length-3
-same-length-3 c = search needs
 
 returns : tie.Need-returns
 unfolding stretchOutcome
@@ -111,18 +84,18 @@ pub stretch-spec : {M : Type 1} → statement M
 stretch-spec =
     tie.close
     (tie.spec
-    short-refusal-requires
-    check-requires
-    with-bounds-requires
-    enum-known-number
-    enum-told
-    base-requires
+    (λ c κs. search needs)
+    (λ c κs. search needs)
+    (λ c κs. search needs)
+    (λ c. search needs)
+    (λ c. search needs)
+    (λ c κs. search needs)
     cast-m
     fill-chart-requires
     mean-requires
     tenths-requires
     returns
-    same-length
-    same-length-2
-    same-length-3
+    (λ c. search needs)
+    (λ c. search needs)
+    (λ c. search needs)
     returns-2)

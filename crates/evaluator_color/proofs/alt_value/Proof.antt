@@ -6,12 +6,9 @@ use Rattle.evaluator_color.specs.Color.{altValue}
 use Rattle.evaluator_color.proofs.alt_value.Statement.{statement}
 use Rattle.evaluator_color.proofs.alt_value.Tie as tie
 
-logistic-requires : tie.Need-logistic-requires
-logistic-requires c κs = search needs
-
 returns : tie.Need-returns
 unfolding altValue
 returns c = ap (λ (t : Float). mul binary64 t (c .before .before .args .hit)) (c .logistic .ensures)
 
 pub alt-value-spec : {M : Type 1} → statement M
-alt-value-spec = tie.close (tie.spec logistic-requires returns)
+alt-value-spec = tie.close (tie.spec (λ c κs. search needs) returns)

@@ -7,12 +7,9 @@ use Rattle.evaluator_color.specs.Color.{hitValue}
 use Rattle.evaluator_color.proofs.hit_value.Statement.{statement}
 use Rattle.evaluator_color.proofs.hit_value.Tie as tie
 
-logistic-requires : tie.Need-logistic-requires
-logistic-requires c κs = search needs
-
 returns : tie.Need-returns
 unfolding hitValue ofBits
 returns c = ap (λ (t : Float). mul binary64 two (sub binary64 one t)) (c .logistic .ensures)
 
 pub hit-value-spec : {M : Type 1} → statement M
-hit-value-spec = tie.close (tie.spec logistic-requires returns)
+hit-value-spec = tie.close (tie.spec (λ c κs. search needs) returns)

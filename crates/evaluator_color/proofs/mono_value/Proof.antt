@@ -7,12 +7,9 @@ use Rattle.evaluator_color.specs.Color.{monoValue}
 use Rattle.evaluator_color.proofs.mono_value.Statement.{statement}
 use Rattle.evaluator_color.proofs.mono_value.Tie as tie
 
-logistic-requires : tie.Need-logistic-requires
-logistic-requires c κs = search needs
-
 returns : tie.Need-returns
 unfolding monoValue ofBits
 returns c = ap (λ (t : Float). mul binary64 (mul binary64 t (c .before .before .args .alt)) half) (c .logistic .ensures)
 
 pub mono-value-spec : {M : Type 1} → statement M
-mono-value-spec = tie.close (tie.spec logistic-requires returns)
+mono-value-spec = tie.close (tie.spec (λ c κs. search needs) returns)

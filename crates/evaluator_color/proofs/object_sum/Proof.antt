@@ -14,24 +14,6 @@ summed : (o : Looked) {hit alt mono with-mono with-alt r : Float}
 unfolding objectSum
 summed o h a m s p t = cc
 
-hit-value-requires : tie.Need-hit-value-requires
-hit-value-requires c κs = search needs
-
-alt-value-requires : tie.Need-alt-value-requires
-alt-value-requires c κs = search needs
-
-mono-value-requires : tie.Need-mono-value-requires
-mono-value-requires c κs = search needs
-
-add-if-requires : tie.Need-add-if-requires
-add-if-requires c κs = search needs
-
-add-if-requires-2 : tie.Need-add-if-requires-2
-add-if-requires-2 c κs = search needs
-
-add-if-requires-3 : tie.Need-add-if-requires-3
-add-if-requires-3 c κs = search needs
-
 returns : tie.Need-returns
 unfolding ofBits
 returns c =
@@ -43,10 +25,10 @@ pub object-sum-spec : {M : Type 1} → statement M
 object-sum-spec =
     tie.close
     (tie.spec
-    hit-value-requires
-    alt-value-requires
-    mono-value-requires
-    add-if-requires
-    add-if-requires-2
-    add-if-requires-3
+    (λ c κs. search needs)
+    (λ c κs. search needs)
+    (λ c κs. search needs)
+    (λ c κs. search needs)
+    (λ c κs. search needs)
+    (λ c κs. search needs)
     returns)

@@ -14,12 +14,6 @@ returns c =
     let start = c .before in
     tested (start .args .tolerance) (start .args .idx) (start .args .c) (start .args .p) true _ _ (lt-ltb _ _ (c .if1 .taken)) refl refl
 
-near-requires : tie.Need-near-requires
-near-requires c κs = search needs
-
-lower-requires : tie.Need-lower-requires
-lower-requires c κs = search needs
-
 returns-2 : tie.Need-returns-2
 unfolding ofBits
 returns-2 c =
@@ -35,9 +29,6 @@ returns-3 c =
     tested (start .args .tolerance) (start .args .idx) (start .args .c) (start .args .p) false false true
     (le-ltb _ _ (c .before .before .before .if1 .left)) (sym (c .before .before .near .ensures) ∙ c .before .if2 .left) (lt-ltb _ _ (c .if3 .taken))
 
-lower-requires-2 : tie.Need-lower-requires-2
-lower-requires-2 c κs = search needs
-
 returns-4 : tie.Need-returns-4
 unfolding ofBits
 returns-4 c =
@@ -49,4 +40,4 @@ returns-4 c =
 pub ratio-penalty-spec : {M : Type 1} → statement M
 ratio-penalty-spec =
     tie.close
-    (tie.spec returns near-requires lower-requires returns-2 returns-3 lower-requires-2 returns-4)
+    (tie.spec returns (λ c κs. search needs) (λ c κs. search needs) returns-2 returns-3 (λ c κs. search needs) returns-4)

@@ -47,34 +47,10 @@ counted c =
     let t = told (c .before) in
     c .count-groups .ensures ∙ sym (groups-counted _ _ _ (lengths-same baseSettings (chartOf (start t)) (memoryOf (start t)) (accepted t)))
 
-short-refusal-requires : tie.Need-short-refusal-requires
-short-refusal-requires c κs = search needs
-
-check-requires : tie.Need-check-requires
-check-requires c κs = search needs
-
-enum-known-number : tie.Need-enum-known-number
-enum-known-number c = search needs
-
-enum-told : tie.Need-enum-told
-enum-told c = search needs
-
-window-good-requires : tie.Need-window-good-requires
-window-good-requires c κs = search needs
-
-same-length : tie.Need-same-length
-same-length c = search needs
-
-same-length-2 : tie.Need-same-length-2
-same-length-2 c = search needs
-
 returns : tie.Need-returns
 returns c =
     let t = c .before .before in
     window-refused baseSettings (chartOf (start t)) (memoryOf (start t)) (start t .args .g) (start t .args .window) (accepted t) (sym (c .before .window-good .ensures) ∙ not-true _ (c .if1 .taken))
-
-base-requires : tie.Need-base-requires
-base-requires c κs = search needs
 
 count-groups-requires : tie.Need-count-groups-requires
 count-groups-requires c κs =
@@ -116,17 +92,17 @@ pub record-spec : {M : Type 1} → statement M
 record-spec =
     tie.close
     (tie.spec
-    short-refusal-requires
-    check-requires
-    enum-known-number
-    enum-told
-    window-good-requires
+    (λ c κs. search needs)
+    (λ c κs. search needs)
+    (λ c. search needs)
+    (λ c. search needs)
+    (λ c κs. search needs)
     returns
-    base-requires
+    (λ c κs. search needs)
     count-groups-requires
     returns-2
     make-record-requires
     returns-3
-    same-length
-    same-length-2
+    (λ c. search needs)
+    (λ c. search needs)
     returns-4)

@@ -5,12 +5,9 @@ use Rattle.evaluator_record.specs.Calls.{windowGood}
 use Rattle.evaluator_record.proofs.window_good.Statement.{statement}
 use Rattle.evaluator_record.proofs.window_good.Tie as tie
 
-value-within-requires : tie.Need-value-within-requires
-value-within-requires c κs = search needs
-
 returns : tie.Need-returns
 unfolding windowGood ofBits
 returns c = c .value-within .ensures
 
 pub window-good-spec : {M : Type 1} → statement M
-window-good-spec = tie.close (tie.spec value-within-requires returns)
+window-good-spec = tie.close (tie.spec (λ c κs. search needs) returns)

@@ -5,12 +5,9 @@ use Rattle.evaluator_rhythm.specs.RepeatedInterval.{durationPenalty}
 use Rattle.evaluator_rhythm.proofs.duration_penalty.Statement.{statement}
 use Rattle.evaluator_rhythm.proofs.duration_penalty.Tie as tie
 
-larger-of-requires : tie.Need-larger-of-requires
-larger-of-requires c κs = search needs
-
 returns : tie.Need-returns
 unfolding durationPenalty ofBits
 returns c = c .larger-of .ensures
 
 pub duration-penalty-spec : {M : Type 1} → statement M
-duration-penalty-spec = tie.close (tie.spec larger-of-requires returns)
+duration-penalty-spec = tie.close (tie.spec (λ c κs. search needs) returns)

@@ -5,12 +5,9 @@ use Rattle.evaluator_rhythm.specs.RepeatedInterval.{similar}
 use Rattle.evaluator_rhythm.proofs.is_similar.Statement.{statement}
 use Rattle.evaluator_rhythm.proofs.is_similar.Tie as tie
 
-near-requires : tie.Need-near-requires
-near-requires c κs = search needs
-
 returns : tie.Need-returns
 unfolding similar ofBits
 returns c = c .near .ensures
 
 pub is-similar-spec : {M : Type 1} → statement M
-is-similar-spec = tie.close (tie.spec near-requires returns)
+is-similar-spec = tie.close (tie.spec (λ c κs. search needs) returns)

@@ -18,18 +18,6 @@ multiplied : (threshold : Float) (owns : Recent) (notes : ℕ) (duration window 
 unfolding repeatedIntervalPenalty
 multiplied threshold owns notes duration window l s w d = cc
 
-walk-requires : tie.Need-walk-requires
-walk-requires c κs = search needs
-
-short-penalty-requires : tie.Need-short-penalty-requires
-short-penalty-requires c κs = search needs
-
-smaller-of-requires : tie.Need-smaller-of-requires
-smaller-of-requires c κs = search needs
-
-duration-penalty-requires : tie.Need-duration-penalty-requires
-duration-penalty-requires c κs = search needs
-
 returns : tie.Need-returns
 returns c =
     let long = c .before .before .before in
@@ -41,8 +29,8 @@ pub repeated-interval-penalty-spec : {M : Type 1} → statement M
 repeated-interval-penalty-spec =
     tie.close
     (tie.spec
-    walk-requires
-    short-penalty-requires
-    smaller-of-requires
-    duration-penalty-requires
+    (λ c κs. search needs)
+    (λ c κs. search needs)
+    (λ c κs. search needs)
+    (λ c κs. search needs)
     returns)

@@ -9,9 +9,6 @@ use Rattle.evaluator_rhythm.specs.RepeatedInterval.{walkPenalty, newestF
 use Rattle.evaluator_rhythm.proofs.short_penalty.Statement.{statement}
 use Rattle.evaluator_rhythm.proofs.short_penalty.Tie as tie
 
-walk-requires : tie.Need-walk-requires
-walk-requires c κs = search needs
-
 returns : tie.Need-returns
 returns c =
     let start = c .before .before in
@@ -25,4 +22,4 @@ returns-2 c =
     sym (ap (λ (b : Bool). cond b (walkPenalty (start .args .threshold) 4 (newestFirst (start .args .owns))) one) (le-ltb (start .args .notes) 6 (c .if1 .left)))
 
 pub short-penalty-spec : {M : Type 1} → statement M
-short-penalty-spec = tie.close (tie.spec walk-requires returns returns-2)
+short-penalty-spec = tie.close (tie.spec (λ c κs. search needs) returns returns-2)

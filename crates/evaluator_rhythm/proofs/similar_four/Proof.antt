@@ -6,16 +6,10 @@ use Rattle.evaluator_rhythm.proofs.PairLaws.{four-tested}
 use Rattle.evaluator_rhythm.proofs.similar_four.Statement.{statement}
 use Rattle.evaluator_rhythm.proofs.similar_four.Tie as tie
 
-is-similar-requires : tie.Need-is-similar-requires
-is-similar-requires c κs = search needs
-
 returns : tie.Need-returns
 returns c =
     let x = c .before .before .args in
     four-tested (x .threshold) (x .a) (x .b) (x .c) (x .d) true _ _ _ (sym (c .before .is-similar .ensures) ∙ c .if1 .taken) refl refl refl
-
-is-similar-requires-2 : tie.Need-is-similar-requires-2
-is-similar-requires-2 c κs = search needs
 
 returns-2 : tie.Need-returns-2
 returns-2 c =
@@ -23,9 +17,6 @@ returns-2 c =
     let x = first .before .before .args in
     four-tested (x .threshold) (x .a) (x .b) (x .c) (x .d) false true _ _
     (sym (first .before .is-similar .ensures) ∙ first .if1 .left) (sym (c .before .is-similar2 .ensures) ∙ c .if2 .taken) refl refl
-
-is-similar-requires-3 : tie.Need-is-similar-requires-3
-is-similar-requires-3 c κs = search needs
 
 returns-3 : tie.Need-returns-3
 returns-3 c =
@@ -35,9 +26,6 @@ returns-3 c =
     four-tested (x .threshold) (x .a) (x .b) (x .c) (x .d) false false true _
     (sym (first .before .is-similar .ensures) ∙ first .if1 .left) (sym (second .before .is-similar2 .ensures) ∙ second .if2 .left)
     (sym (c .before .is-similar3 .ensures) ∙ c .if3 .taken) refl
-
-similar-three-requires : tie.Need-similar-three-requires
-similar-three-requires c κs = search needs
 
 returns-4 : tie.Need-returns-4
 returns-4 c =
@@ -52,4 +40,4 @@ returns-4 c =
 pub similar-four-spec : {M : Type 1} → statement M
 similar-four-spec =
     tie.close
-    (tie.spec is-similar-requires returns is-similar-requires-2 returns-2 is-similar-requires-3 returns-3 similar-three-requires returns-4)
+    (tie.spec (λ c κs. search needs) returns (λ c κs. search needs) returns-2 (λ c κs. search needs) returns-3 (λ c κs. search needs) returns-4)

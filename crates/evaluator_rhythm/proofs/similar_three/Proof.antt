@@ -6,16 +6,10 @@ use Rattle.evaluator_rhythm.proofs.PairLaws.{three-tested}
 use Rattle.evaluator_rhythm.proofs.similar_three.Statement.{statement}
 use Rattle.evaluator_rhythm.proofs.similar_three.Tie as tie
 
-is-similar-requires : tie.Need-is-similar-requires
-is-similar-requires c κs = search needs
-
 returns : tie.Need-returns
 returns c =
     let x = c .before .before .args in
     three-tested (x .threshold) (x .a) (x .b) (x .c) true _ _ (sym (c .before .is-similar .ensures) ∙ c .if1 .taken) refl refl
-
-is-similar-requires-2 : tie.Need-is-similar-requires-2
-is-similar-requires-2 c κs = search needs
 
 returns-2 : tie.Need-returns-2
 returns-2 c =
@@ -23,9 +17,6 @@ returns-2 c =
     let x = first .before .before .args in
     three-tested (x .threshold) (x .a) (x .b) (x .c) false true _
     (sym (first .before .is-similar .ensures) ∙ first .if1 .left) (sym (c .before .is-similar2 .ensures) ∙ c .if2 .taken) refl
-
-is-similar-requires-3 : tie.Need-is-similar-requires-3
-is-similar-requires-3 c κs = search needs
 
 returns-3 : tie.Need-returns-3
 returns-3 c =
@@ -38,4 +29,4 @@ returns-3 c =
 pub similar-three-spec : {M : Type 1} → statement M
 similar-three-spec =
     tie.close
-    (tie.spec is-similar-requires returns is-similar-requires-2 returns-2 is-similar-requires-3 returns-3)
+    (tie.spec (λ c κs. search needs) returns (λ c κs. search needs) returns-2 (λ c κs. search needs) returns-3)

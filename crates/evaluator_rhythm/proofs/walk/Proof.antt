@@ -14,23 +14,11 @@ use Rattle.evaluator_rhythm.proofs.walk.Tie as tie
 known : (threshold r : Float) (owns : Recent) (k n : ℕ) → k ≡ n → r ≡ walkPenalty threshold n (newestFirst owns) → r ≡ walkPenalty threshold k (newestFirst owns)
 known threshold r owns k n e = subst (λ (j : ℕ). r ≡ walkPenalty threshold j (newestFirst owns)) (sym e)
 
-enum-known-newest : tie.Need-enum-known-newest
-enum-known-newest c = search needs
-
-enum-told : tie.Need-enum-told
-enum-told c = search needs
-
 returns : tie.Need-returns
 unfolding newestFirst ofBits
 returns c =
     let s = c .before .before in
     walk-absent (s .args .threshold) (s .args .k) 0 (newestFirst (s .args .owns)) (omega (arith, s .pre)) (c .enum-told .given .1)
-
-enum-known-second : tie.Need-enum-known-second
-enum-known-second c = search needs
-
-enum-told-2 : tie.Need-enum-told-2
-enum-told-2 c = search needs
 
 returns-2 : tie.Need-returns-2
 unfolding newestFirst ofBits
@@ -38,23 +26,11 @@ returns-2 c =
     let s = c .before .before .before .before .before in
     walk-absent (s .args .threshold) (s .args .k) 1 (newestFirst (s .args .owns)) (omega (arith, s .pre)) (c .enum-told2 .given .1)
 
-enum-known-third : tie.Need-enum-known-third
-enum-known-third c = search needs
-
-enum-told-3 : tie.Need-enum-told-3
-enum-told-3 c = search needs
-
 returns-3 : tie.Need-returns-3
 unfolding newestFirst ofBits
 returns-3 c =
     let s = c .before .before .before .before .before .before .before .before in
     walk-absent (s .args .threshold) (s .args .k) 2 (newestFirst (s .args .owns)) (omega (arith, s .pre)) (c .enum-told3 .given .1)
-
-similar-three-requires : tie.Need-similar-three-requires
-similar-three-requires c κs = search needs
-
-penalty-if-requires : tie.Need-penalty-if-requires
-penalty-if-requires c κs = search needs
 
 returns-4 : tie.Need-returns-4
 unfolding newestFirst
@@ -68,23 +44,11 @@ returns-4 c =
     ∙ walk-existing (x .threshold) 3 (newestFirst (x .owns))
     (next (newest .newest .given .1) (next (second .second .given .1) (next (third .third .given .1) none))) refl (c .before .similar-three .ensures))
 
-enum-known-fourth : tie.Need-enum-known-fourth
-enum-known-fourth c = search needs
-
-enum-told-4 : tie.Need-enum-told-4
-enum-told-4 c = search needs
-
 returns-5 : tie.Need-returns-5
 unfolding newestFirst ofBits
 returns-5 c =
     let s = c .before .before .before .before .before .before .before .before .before .before .before .before in
     walk-absent (s .args .threshold) (s .args .k) 3 (newestFirst (s .args .owns)) (omega (arith, s .pre, c .before .before .if1 .left)) (c .enum-told4 .given .1)
-
-similar-four-requires : tie.Need-similar-four-requires
-similar-four-requires c κs = search needs
-
-penalty-if-requires-2 : tie.Need-penalty-if-requires-2
-penalty-if-requires-2 c κs = search needs
 
 returns-6 : tie.Need-returns-6
 unfolding newestFirst
@@ -104,21 +68,21 @@ pub walk-spec : {M : Type 1} → statement M
 walk-spec =
     tie.close
     (tie.spec
-    enum-known-newest
-    enum-told
+    (λ c. search needs)
+    (λ c. search needs)
     returns
-    enum-known-second
-    enum-told-2
+    (λ c. search needs)
+    (λ c. search needs)
     returns-2
-    enum-known-third
-    enum-told-3
+    (λ c. search needs)
+    (λ c. search needs)
     returns-3
-    similar-three-requires
-    penalty-if-requires
+    (λ c κs. search needs)
+    (λ c κs. search needs)
     returns-4
-    enum-known-fourth
-    enum-told-4
+    (λ c. search needs)
+    (λ c. search needs)
     returns-5
-    similar-four-requires
-    penalty-if-requires-2
+    (λ c κs. search needs)
+    (λ c κs. search needs)
     returns-6)

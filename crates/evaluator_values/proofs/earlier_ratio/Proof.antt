@@ -8,19 +8,10 @@ use borrow.Author.Needs.{needs}
 use Rattle.evaluator_values.proofs.earlier_ratio.Statement.{statement}
 use Rattle.evaluator_values.proofs.earlier_ratio.Tie as tie
 
-shared-slice-read-result : tie.Need-shared-slice-read-result
-shared-slice-read-result c = search needs
-
 returns : tie.Need-returns
 returns c =
     let z : 0 ≡ c .before .before .args .i - 2 = omega arith in
     ap (λ (k : ℕ). getD (c .before .before .args .ratio .now) k nan) z
-
-mul-result : tie.Need-mul-result
-mul-result c = search needs
-
-shared-slice-read-result-2 : tie.Need-shared-slice-read-result-2
-shared-slice-read-result-2 c = search needs
 
 returns-2 : tie.Need-returns-2
 returns-2 c = refl
@@ -28,4 +19,4 @@ returns-2 c = refl
 pub earlier-ratio-spec : {M : Type 1} → statement M
 earlier-ratio-spec =
     tie.close
-    (tie.spec shared-slice-read-result returns mul-result shared-slice-read-result-2 returns-2)
+    (tie.spec (λ c. search needs) returns (λ c. search needs) (λ c. search needs) returns-2)

@@ -31,9 +31,6 @@ slice-write-value c = omega (arith, c .before .before .before .before .before .b
 add-i : tie.Need-add-i Inv-loop μ-loop
 add-i c = omega (arith, c .before .before .before .before .before .before .before .before .pre .0 .tabled .regions)
 
-loop-less : tie.Need-loop-less Inv-loop μ-loop
-loop-less c = omega arith
-
 loop-again : tie.Need-loop-again Inv-loop μ-loop
 loop-again c = fill-turn-front nan (c .before .before .loop .inv) (c .before .loop-test .taken) (c .value-at .ensures ∙ sym (value-of _ _ _ _ _ (c .before .loop-test .taken)))
 
@@ -54,7 +51,7 @@ fill-values-spec =
     mul-value
     slice-write-value
     add-i
-    loop-less
+    (λ c. omega arith)
     loop-again
     same-length
     returns)

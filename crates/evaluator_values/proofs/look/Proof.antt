@@ -8,12 +8,6 @@ use borrow.Author.Needs.{needs}
 use Rattle.evaluator_values.proofs.look.Statement.{statement}
 use Rattle.evaluator_values.proofs.look.Tie as tie
 
-numbers-at-requires : tie.Need-numbers-at-requires
-numbers-at-requires c κs = search needs
-
-mul-interval : tie.Need-mul-interval
-mul-interval c = search needs
-
 add-interval : tie.Need-add-interval
 add-interval c = omega (arith, c .numbers-at .ensures, c .before .before .before .pre)
 
@@ -26,9 +20,6 @@ shared-slice-read-interval c = omega (arith, c .before .numbers-at .ensures, c .
 cast-interval : tie.Need-cast-interval
 cast-interval c = omega (arith, c .shared-slice-known3 .given (7 * length (c .before .before .before .before .args .kind .now) + c .before .numbers-at .result .hit))
 
-mul-outer : tie.Need-mul-outer
-mul-outer c = search needs
-
 add-outer : tie.Need-add-outer
 add-outer c = omega (arith, c .before .numbers-at .ensures, c .before .before .before .before .pre)
 
@@ -40,9 +31,6 @@ shared-slice-read-outer c = omega (arith, c .before .before .numbers-at .ensures
 
 cast-outer : tie.Need-cast-outer
 cast-outer c = omega (arith, c .shared-slice-known4 .given (2 * length (c .before .before .before .before .before .args .kind .now) + c .before .before .numbers-at .result .pattern))
-
-mul-inner : tie.Need-mul-inner
-mul-inner c = search needs
 
 add-inner : tie.Need-add-inner
 add-inner c = omega (arith, c .before .before .numbers-at .ensures, c .before .before .before .before .before .pre)
@@ -68,12 +56,6 @@ returns c =
       hit = start-first _ _ (c .if1 .taken);
     }
 
-sub-numbers-at : tie.Need-sub-numbers-at
-sub-numbers-at c = search needs
-
-numbers-at-requires-2 : tie.Need-numbers-at-requires-2
-numbers-at-requires-2 c κs = search needs
-
 returns-2 : tie.Need-returns-2
 returns-2 c =
     let a = c .before .before .before .before .before .before .before .before .numbers-at .ensures in
@@ -91,23 +73,23 @@ pub look-spec : {M : Type 1} → statement M
 look-spec =
     tie.close
     (tie.spec
-    numbers-at-requires
-    mul-interval
+    (λ c κs. search needs)
+    (λ c. search needs)
     add-interval
     mul-interval-2
     shared-slice-read-interval
     cast-interval
-    mul-outer
+    (λ c. search needs)
     add-outer
     mul-outer-2
     shared-slice-read-outer
     cast-outer
-    mul-inner
+    (λ c. search needs)
     add-inner
     mul-inner-2
     shared-slice-read-inner
     cast-inner
     returns
-    sub-numbers-at
-    numbers-at-requires-2
+    (λ c. search needs)
+    (λ c κs. search needs)
     returns-2)

@@ -7,17 +7,8 @@ use borrow.Author.Needs.{needs}
 use Rattle.evaluator_values.proofs.numbers_at.Statement.{statement}
 use Rattle.evaluator_values.proofs.numbers_at.Tie as tie
 
-mul-streak : tie.Need-mul-streak
-mul-streak c = search needs
-
-shared-slice-read-streak : tie.Need-shared-slice-read-streak
-shared-slice-read-streak c = search needs
-
 cast-streak : tie.Need-cast-streak
 cast-streak c = omega (arith, c .shared-slice-known .given (c .before .args .i))
-
-mul-pattern : tie.Need-mul-pattern
-mul-pattern c = search needs
 
 add-pattern : tie.Need-add-pattern
 add-pattern c = omega (arith, streak-in (c .before .pre), c .before .pre)
@@ -50,10 +41,10 @@ pub numbers-at-spec : {M : Type 1} → statement M
 numbers-at-spec =
     tie.close
     (tie.spec
-    mul-streak
-    shared-slice-read-streak
+    (λ c. search needs)
+    (λ c. search needs)
     cast-streak
-    mul-pattern
+    (λ c. search needs)
     add-pattern
     mul-pattern-2
     shared-slice-read-pattern

@@ -9,24 +9,6 @@ use borrow.Author.Needs.{needs}
 use Rattle.evaluator_values.proofs.value_at.Statement.{statement}
 use Rattle.evaluator_values.proofs.value_at.Tie as tie
 
-look-requires : tie.Need-look-requires
-look-requires c κs = search needs
-
-object-sum-requires : tie.Need-object-sum-requires
-object-sum-requires c κs = search needs
-
-mul-c : tie.Need-mul-c
-mul-c c = search needs
-
-shared-slice-read-c : tie.Need-shared-slice-read-c
-shared-slice-read-c c = search needs
-
-earlier-ratio-requires : tie.Need-earlier-ratio-requires
-earlier-ratio-requires c κs = search needs
-
-ratio-penalty-requires : tie.Need-ratio-penalty-requires
-ratio-penalty-requires c κs = search needs
-
 returns : tie.Need-returns
 unfolding colourAt
 returns c =
@@ -38,10 +20,10 @@ pub value-at-spec : {M : Type 1} → statement M
 value-at-spec =
     tie.close
     (tie.spec
-    look-requires
-    object-sum-requires
-    mul-c
-    shared-slice-read-c
-    earlier-ratio-requires
-    ratio-penalty-requires
+    (λ c κs. search needs)
+    (λ c κs. search needs)
+    (λ c. search needs)
+    (λ c. search needs)
+    (λ c κs. search needs)
+    (λ c κs. search needs)
     returns)

@@ -36,24 +36,6 @@ start c = c .before .before .before .before .before .before .before .before .bef
 accepted : (c : tie.After-enum-told) → judged (chartOf (start c)) (memoryOf (start c)) ≡ Accepted
 accepted c = judged-is (chartOf (start c)) (places (memoryOf (start c))) _ _ (c .before .before .before .before .too-short .ensures) (c .before .before .before .short-refusal .ensures) (c .before .before .check .ensures) (c .enum-told .given .1)
 
-too-short-requires : tie.Need-too-short-requires
-too-short-requires c κs = search needs
-
-short-refusal-requires : tie.Need-short-refusal-requires
-short-refusal-requires c κs = search needs
-
-check-requires : tie.Need-check-requires
-check-requires c κs = search needs
-
-enum-known-number : tie.Need-enum-known-number
-enum-known-number c = search needs
-
-enum-told : tie.Need-enum-told
-enum-told c = search needs
-
-base-requires : tie.Need-base-requires
-base-requires c κs = search needs
-
 cast-m : tie.Need-cast-m
 cast-m c = omega (arith, is-permitted (c .before .base .ensures))
 
@@ -68,53 +50,11 @@ clear-floats-requires c κs =
     let t = c .before .before .before .before .before .before .before .before .before .before .before .before .before .before .before .before .before .before .before .before .before .before .before .before .before in
     has-room (chartOf (start t)) (memoryOf (start t)) (accepted t) .scratch
 
-same-length : tie.Need-same-length
-same-length c = search needs
-
-same-length-2 : tie.Need-same-length-2
-same-length-2 c = search needs
-
-same-length-3 : tie.Need-same-length-3
-same-length-3 c = search needs
-
-same-length-4 : tie.Need-same-length-4
-same-length-4 c = search needs
-
-same-length-5 : tie.Need-same-length-5
-same-length-5 c = search needs
-
-same-length-6 : tie.Need-same-length-6
-same-length-6 c = search needs
-
 returns : tie.Need-returns
 unfolding encodeOutcome
 returns c =
     let s = c .before .before .before .before .before .before .before .before .before .before .before .before .before .before .before .before .before .before .before .before .before .before .before .before in
     answered-refused _ answer.Refused (memoryOf s) (judged-is (chartOf s) (places (memoryOf s)) _ _ (c .before .before .before .before .before .too-short .ensures) (c .before .before .before .before .short-refusal .ensures) (c .before .before .before .check .ensures) (c .before .number .given .1))
-
-same-length-7 : tie.Need-same-length-7
-same-length-7 c = search needs
-
-same-length-8 : tie.Need-same-length-8
-same-length-8 c = search needs
-
-same-length-9 : tie.Need-same-length-9
-same-length-9 c = search needs
-
-same-length-10 : tie.Need-same-length-10
-same-length-10 c = search needs
-
-same-length-11 : tie.Need-same-length-11
-same-length-11 c = search needs
-
-same-length-12 : tie.Need-same-length-12
-same-length-12 c = search needs
-
-same-length-13 : tie.Need-same-length-13
-same-length-13 c = search needs
-
-same-length-14 : tie.Need-same-length-14
-same-length-14 c = search needs
 
 returns-2 : tie.Need-returns-2
 returns-2 c =
@@ -128,28 +68,28 @@ pub encode-spec : {M : Type 1} → statement M
 encode-spec =
     tie.close
     (tie.spec
-    too-short-requires
-    short-refusal-requires
-    check-requires
-    enum-known-number
-    enum-told
-    base-requires
+    (λ c κs. search needs)
+    (λ c κs. search needs)
+    (λ c κs. search needs)
+    (λ c. search needs)
+    (λ c. search needs)
+    (λ c κs. search needs)
     cast-m
     encode-kinds-requires
     clear-floats-requires
-    same-length
-    same-length-2
-    same-length-3
-    same-length-4
-    same-length-5
-    same-length-6
+    (λ c. search needs)
+    (λ c. search needs)
+    (λ c. search needs)
+    (λ c. search needs)
+    (λ c. search needs)
+    (λ c. search needs)
     returns
-    same-length-7
-    same-length-8
-    same-length-9
-    same-length-10
-    same-length-11
-    same-length-12
-    same-length-13
-    same-length-14
+    (λ c. search needs)
+    (λ c. search needs)
+    (λ c. search needs)
+    (λ c. search needs)
+    (λ c. search needs)
+    (λ c. search needs)
+    (λ c. search needs)
+    (λ c. search needs)
     returns-2)

@@ -5,9 +5,6 @@ use borrow.Author.Needs.{needs}
 use Rattle.grouping_encode.proofs.encode_kinds.Statement.{statement}
 use Rattle.grouping_encode.proofs.encode_kinds.Tie as tie
 
-encode-colors-requires : tie.Need-encode-colors-requires
-encode-colors-requires c κs = search needs
-
 spread-patterns-requires : tie.Need-spread-patterns-requires
 spread-patterns-requires c κs = patterns-room _ _ _ _ _ (c .before .before .before .before .before .before .encode-colors .ensures .tables) _ _ _ _ _ _ (c .before .before .before .before .before .before .before .before .before .before .before .before .before .before .before .before .pre)
 
@@ -20,27 +17,6 @@ mul-clear c = omega (arith, c .before .before .before .before .before .before .b
 clear-requires : tie.Need-clear-requires
 clear-requires c κs = omega (arith, c .before .before .before .before .before .before .before .before .before .before .before .before .before .before .before .before .before .before .before .before .before .before .before .before .before .before .before .before .before .before .before .before .before .before .before .before .pre, c .before .before .before .before .before .before .before .before .before .before .before .before .before .before .before .before .before .before .before .before .before .before .before .before .before .before .encode-colors .ensures .tables .outside)
 
-same-length : tie.Need-same-length
-same-length c = search needs
-
-same-length-2 : tie.Need-same-length-2
-same-length-2 c = search needs
-
-same-length-3 : tie.Need-same-length-3
-same-length-3 c = search needs
-
-same-length-4 : tie.Need-same-length-4
-same-length-4 c = search needs
-
-same-length-5 : tie.Need-same-length-5
-same-length-5 c = search needs
-
-same-length-6 : tie.Need-same-length-6
-same-length-6 c = search needs
-
-same-length-7 : tie.Need-same-length-7
-same-length-7 c = search needs
-
 returns : tie.Need-returns
 returns c = encoded _ _ _ _ _ (c .before .before .before .before .before .before .before .before .before .before .before .before .before .before .before .before .before .before .before .before .before .before .before .before .before .before .before .before .before .encode-colors .ensures .tables) _ _ _ _ _ _ (c .before .before .before .before .before .before .before .before .before .before .before .before .before .before .before .before .before .before .before .before .before .before .spread-patterns .ensures) _ _ _ _ _ _ _ (c .before .before .before .before .before .before .before .before .before .before .spread-hits .ensures) (c .before .before .clear .ensures)
 
@@ -48,16 +24,16 @@ pub encode-kinds-spec : {M : Type 1} → statement M
 encode-kinds-spec =
     tie.close
     (tie.spec
-    encode-colors-requires
+    (λ c κs. search needs)
     spread-patterns-requires
     spread-hits-requires
     mul-clear
     clear-requires
-    same-length
-    same-length-2
-    same-length-3
-    same-length-4
-    same-length-5
-    same-length-6
-    same-length-7
+    (λ c. search needs)
+    (λ c. search needs)
+    (λ c. search needs)
+    (λ c. search needs)
+    (λ c. search needs)
+    (λ c. search needs)
+    (λ c. search needs)
     returns)

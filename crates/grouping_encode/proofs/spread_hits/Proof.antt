@@ -12,27 +12,6 @@ use borrow.Author.Needs.{needs}
 use Rattle.grouping_encode.proofs.spread_hits.Statement.{statement}
 use Rattle.grouping_encode.proofs.spread_hits.Tie as tie
 
-mul-gather : tie.Need-mul-gather
-mul-gather c = search needs
-
-mul-gather-2 : tie.Need-mul-gather-2
-mul-gather-2 c = search needs
-
-add-gather : tie.Need-add-gather
-add-gather c = search needs
-
-mul-gather-3 : tie.Need-mul-gather-3
-mul-gather-3 c = search needs
-
-sub-gather : tie.Need-sub-gather
-sub-gather c = search needs
-
-part-gather-start : tie.Need-part-gather-start
-part-gather-start c = search needs
-
-part-gather-end : tie.Need-part-gather-end
-part-gather-end c = search needs
-
 slice-aggregate-gather : tie.Need-slice-aggregate-gather
 slice-aggregate-gather c = sym (length-take-le _ _ (omega arith))
 
@@ -45,21 +24,6 @@ gather-requires c κs =
     let pattern = st .args .pattern .now in
     (simp length-take (omega arith), within-table (2 * n) p n work (take n pattern) (take n pattern) refl (length-take-le n pattern (omega (arith, st .pre))) (omega (arith, st .pre)) (st .pre .in-patterns))
 
-add-gather-2 : tie.Need-add-gather-2
-add-gather-2 c = search needs
-
-mul-gather-4 : tie.Need-mul-gather-4
-mul-gather-4 c = search needs
-
-sub-gather-2 : tie.Need-sub-gather-2
-sub-gather-2 c = search needs
-
-part-gather-start-2 : tie.Need-part-gather-start-2
-part-gather-start-2 c = search needs
-
-part-gather-end-2 : tie.Need-part-gather-end-2
-part-gather-end-2 c = search needs
-
 slice-aggregate-gather-2 : tie.Need-slice-aggregate-gather-2
 slice-aggregate-gather-2 c = sym (length-take-le _ _ (omega arith))
 
@@ -71,30 +35,6 @@ gather-requires-2 c κs =
     let work = st .args .work .now in
     let pattern = st .args .pattern .now in
     (simp length-take (omega arith), within-table (n) p n work (take n pattern) (take n pattern) refl (length-take-le n pattern (omega (arith, st .pre))) (omega (arith, st .pre)) (st .pre .in-patterns))
-
-mul-gather-bytes : tie.Need-mul-gather-bytes
-mul-gather-bytes c = search needs
-
-mul-gather-bytes-2 : tie.Need-mul-gather-bytes-2
-mul-gather-bytes-2 c = search needs
-
-add-gather-bytes : tie.Need-add-gather-bytes
-add-gather-bytes c = search needs
-
-mul-gather-bytes-3 : tie.Need-mul-gather-bytes-3
-mul-gather-bytes-3 c = search needs
-
-sub-gather-bytes : tie.Need-sub-gather-bytes
-sub-gather-bytes c = search needs
-
-part-gather-bytes-start : tie.Need-part-gather-bytes-start
-part-gather-bytes-start c = search needs
-
-part-gather-bytes-end : tie.Need-part-gather-bytes-end
-part-gather-bytes-end c = search needs
-
-slice-reshare-prefix-gather-bytes : tie.Need-slice-reshare-prefix-gather-bytes
-slice-reshare-prefix-gather-bytes c = search needs
 
 slice-aggregate-gather-bytes : tie.Need-slice-aggregate-gather-bytes
 slice-aggregate-gather-bytes c = sym (length-take-le _ _ (omega arith))
@@ -117,15 +57,6 @@ gather-bytes-requires c κs =
       ),
     )
 
-same-length : tie.Need-same-length
-same-length c = search needs
-
-same-length-2 : tie.Need-same-length-2
-same-length-2 c = search needs
-
-same-length-3 : tie.Need-same-length-3
-same-length-3 c = search needs
-
 returns : tie.Need-returns
 returns c =
     let st = c .before .before .before .before .before .before .before .before .before .before .before .before .before .before .before .before .before .before .before .before .before .before .before in
@@ -147,33 +78,33 @@ pub spread-hits-spec : {M : Type 1} → statement M
 spread-hits-spec =
     tie.close
     (tie.spec
-    mul-gather
-    mul-gather-2
-    add-gather
-    mul-gather-3
-    sub-gather
-    part-gather-start
-    part-gather-end
+    (λ c. search needs)
+    (λ c. search needs)
+    (λ c. search needs)
+    (λ c. search needs)
+    (λ c. search needs)
+    (λ c. search needs)
+    (λ c. search needs)
     slice-aggregate-gather
     gather-requires
-    add-gather-2
-    mul-gather-4
-    sub-gather-2
-    part-gather-start-2
-    part-gather-end-2
+    (λ c. search needs)
+    (λ c. search needs)
+    (λ c. search needs)
+    (λ c. search needs)
+    (λ c. search needs)
     slice-aggregate-gather-2
     gather-requires-2
-    mul-gather-bytes
-    mul-gather-bytes-2
-    add-gather-bytes
-    mul-gather-bytes-3
-    sub-gather-bytes
-    part-gather-bytes-start
-    part-gather-bytes-end
-    slice-reshare-prefix-gather-bytes
+    (λ c. search needs)
+    (λ c. search needs)
+    (λ c. search needs)
+    (λ c. search needs)
+    (λ c. search needs)
+    (λ c. search needs)
+    (λ c. search needs)
+    (λ c. search needs)
     slice-aggregate-gather-bytes
     gather-bytes-requires
-    same-length
-    same-length-2
-    same-length-3
+    (λ c. search needs)
+    (λ c. search needs)
+    (λ c. search needs)
     returns)

@@ -22,30 +22,6 @@ slice-aggregate-copy c = sym (length-take-le _ _ (omega arith))
 copy-requires : tie.Need-copy-requires
 copy-requires c κs = simp length-take (omega arith)
 
-mul-gather : tie.Need-mul-gather
-mul-gather c = search needs
-
-mul-gather-2 : tie.Need-mul-gather-2
-mul-gather-2 c = search needs
-
-add-gather : tie.Need-add-gather
-add-gather c = search needs
-
-mul-gather-3 : tie.Need-mul-gather-3
-mul-gather-3 c = search needs
-
-sub-gather : tie.Need-sub-gather
-sub-gather c = search needs
-
-part-gather-start : tie.Need-part-gather-start
-part-gather-start c = search needs
-
-part-gather-end : tie.Need-part-gather-end
-part-gather-end c = search needs
-
-slice-reshare-prefix-gather : tie.Need-slice-reshare-prefix-gather
-slice-reshare-prefix-gather c = search needs
-
 slice-aggregate-gather : tie.Need-slice-aggregate-gather
 slice-aggregate-gather c = sym (length-take-le _ _ (omega arith))
 
@@ -59,30 +35,6 @@ gather-requires c κs =
       within-table (4 * n) s n work _ (part 0 n work) (streak-front n work _ _ (omega (arith, st .pre)) (c .before .before .before .before .before .copy .ensures)) (length-part 0 n work (omega (arith, st .pre))) (omega (arith, st .pre)) (st .pre .in-table),
     )
 
-mul-gather-4 : tie.Need-mul-gather-4
-mul-gather-4 c = search needs
-
-mul-gather-5 : tie.Need-mul-gather-5
-mul-gather-5 c = search needs
-
-add-gather-2 : tie.Need-add-gather-2
-add-gather-2 c = search needs
-
-mul-gather-6 : tie.Need-mul-gather-6
-mul-gather-6 c = search needs
-
-sub-gather-2 : tie.Need-sub-gather-2
-sub-gather-2 c = search needs
-
-part-gather-start-2 : tie.Need-part-gather-start-2
-part-gather-start-2 c = search needs
-
-part-gather-end-2 : tie.Need-part-gather-end-2
-part-gather-end-2 c = search needs
-
-slice-reshare-prefix-gather-2 : tie.Need-slice-reshare-prefix-gather-2
-slice-reshare-prefix-gather-2 c = search needs
-
 slice-aggregate-gather-2 : tie.Need-slice-aggregate-gather-2
 slice-aggregate-gather-2 c = sym (length-take-le _ _ (omega arith))
 
@@ -95,15 +47,6 @@ gather-requires-2 c κs =
       simp length-take (omega arith),
       within-table (3 * n) s n work _ (part 0 n work) (streak-front n work _ _ (omega (arith, st .pre)) (c .before .before .before .before .before .before .before .before .before .before .before .copy .ensures)) (length-part 0 n work (omega (arith, st .pre))) (omega (arith, st .pre)) (st .pre .in-table),
     )
-
-same-length : tie.Need-same-length
-same-length c = search needs
-
-same-length-2 : tie.Need-same-length-2
-same-length-2 c = search needs
-
-same-length-3 : tie.Need-same-length-3
-same-length-3 c = search needs
 
 returns : tie.Need-returns
 returns c =
@@ -124,27 +67,27 @@ spread-patterns-spec =
     (tie.spec
     slice-aggregate-copy
     copy-requires
-    mul-gather
-    mul-gather-2
-    add-gather
-    mul-gather-3
-    sub-gather
-    part-gather-start
-    part-gather-end
-    slice-reshare-prefix-gather
+    (λ c. search needs)
+    (λ c. search needs)
+    (λ c. search needs)
+    (λ c. search needs)
+    (λ c. search needs)
+    (λ c. search needs)
+    (λ c. search needs)
+    (λ c. search needs)
     slice-aggregate-gather
     gather-requires
-    mul-gather-4
-    mul-gather-5
-    add-gather-2
-    mul-gather-6
-    sub-gather-2
-    part-gather-start-2
-    part-gather-end-2
-    slice-reshare-prefix-gather-2
+    (λ c. search needs)
+    (λ c. search needs)
+    (λ c. search needs)
+    (λ c. search needs)
+    (λ c. search needs)
+    (λ c. search needs)
+    (λ c. search needs)
+    (λ c. search needs)
     slice-aggregate-gather-2
     gather-requires-2
-    same-length
-    same-length-2
-    same-length-3
+    (λ c. search needs)
+    (λ c. search needs)
+    (λ c. search needs)
     returns)

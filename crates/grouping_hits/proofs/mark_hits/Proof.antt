@@ -17,36 +17,6 @@ abbrev μ-loop : tie.MeasureT-loop
 loop-holds : tie.Need-loop-holds Inv-loop μ-loop
 loop-holds c = start-part stageAfter opensHit 0 _ _ _ _ (c .before .pre)
 
-add-coupled : tie.Need-add-coupled Inv-loop μ-loop
-add-coupled c = omega arith
-
-mul-coupled : tie.Need-mul-coupled Inv-loop μ-loop
-mul-coupled c = omega arith
-
-slice-read-coupled : tie.Need-slice-read-coupled Inv-loop μ-loop
-slice-read-coupled c = omega arith
-
-opens-hit-requires : tie.Need-opens-hit-requires Inv-loop μ-loop
-opens-hit-requires c κs = search needs
-
-add-w : tie.Need-add-w Inv-loop μ-loop
-add-w c = omega arith
-
-mul-w : tie.Need-mul-w Inv-loop μ-loop
-mul-w c = omega arith
-
-slice-write-w : tie.Need-slice-write-w Inv-loop μ-loop
-slice-write-w c = omega arith
-
-stage-after-requires : tie.Need-stage-after-requires Inv-loop μ-loop
-stage-after-requires c κs = search needs
-
-add-i : tie.Need-add-i Inv-loop μ-loop
-add-i c = omega arith
-
-loop-less : tie.Need-loop-less Inv-loop μ-loop
-loop-less c = omega arith
-
 loop-again : tie.Need-loop-again Inv-loop μ-loop
 loop-again c = turn-part (c .before .before .before .before .loop .inv) (c .before .before .before .before .before .before .pre) (omega arith) (c .before .opens-hit .ensures) (c .stage-after .ensures)
 
@@ -64,16 +34,16 @@ mark-hits-spec =
     Inv-loop
     μ-loop
     loop-holds
-    add-coupled
-    mul-coupled
-    slice-read-coupled
-    opens-hit-requires
-    add-w
-    mul-w
-    slice-write-w
-    stage-after-requires
-    add-i
-    loop-less
+    (λ c. omega arith)
+    (λ c. omega arith)
+    (λ c. omega arith)
+    (λ c κs. search needs)
+    (λ c. omega arith)
+    (λ c. omega arith)
+    (λ c. omega arith)
+    (λ c κs. search needs)
+    (λ c. omega arith)
+    (λ c. omega arith)
     loop-again
     same-length
     returns)

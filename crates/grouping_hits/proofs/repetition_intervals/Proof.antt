@@ -11,33 +11,18 @@ Inv-loop w₀ sizes firsts seconds m limit to k₀ w k = Searched limit (part si
 abbrev μ-loop : tie.MeasureT-loop
 μ-loop w₀ sizes firsts seconds m limit to k₀ w k = k
 
-add-store-all : tie.Need-add-store-all Inv-loop μ-loop
-add-store-all c = omega arith
-
-store-all-requires : tie.Need-store-all-requires Inv-loop μ-loop
-store-all-requires c κs = omega arith
-
 loop-holds : tie.Need-loop-holds Inv-loop μ-loop
 loop-holds c = search-start _ (c .before .before .before .before .before .pre .0) (c .before .before .store-all .ensures) _ _ _ (omega arith)
-
-sub-k : tie.Need-sub-k Inv-loop μ-loop
-sub-k c = omega arith
 
 take-matches-requires : tie.Need-take-matches-requires Inv-loop μ-loop
 take-matches-requires c κs =
     let l = c .before .before in
     still-apart (emptied-apart _ (l .before .before .before .before .before .before .pre .0) (l .before .before .before .store-all .ensures)) (l .loop .inv)
 
-loop-less : tie.Need-loop-less Inv-loop μ-loop
-loop-less c = omega arith
-
 loop-again : tie.Need-loop-again Inv-loop μ-loop
 loop-again c =
     let l = c .before .before .before .before .before in
     search-turn (emptied-apart _ (l .before .before .before .before .before .before .pre .0) (l .before .before .before .store-all .ensures)) (l .loop .inv) (omega arith) (omega arith) (c .before .before .take-matches .ensures)
-
-same-length : tie.Need-same-length Inv-loop μ-loop
-same-length c = omega arith
 
 returns : tie.Need-returns Inv-loop μ-loop
 returns c =
@@ -50,12 +35,12 @@ repetition-intervals-spec =
     (tie.spec
     Inv-loop
     μ-loop
-    add-store-all
-    store-all-requires
+    (λ c. omega arith)
+    (λ c κs. omega arith)
     loop-holds
-    sub-k
+    (λ c. omega arith)
     take-matches-requires
-    loop-less
+    (λ c. omega arith)
     loop-again
-    same-length
+    (λ c. omega arith)
     returns)

@@ -22,41 +22,8 @@ returns c = fill-end (seconds-start (c .before .before .pre)) (omega arith)
 loop-holds : tie.Need-loop-holds Inv-loop μ-loop
 loop-holds c = (seconds-start (c .before .before .pre), omega arith)
 
-add-loop : tie.Need-add-loop Inv-loop μ-loop
-add-loop c = omega arith
-
-second-at-requires : tie.Need-second-at-requires Inv-loop μ-loop
-second-at-requires c κs = search needs
-
-add-w : tie.Need-add-w Inv-loop μ-loop
-add-w c = omega arith
-
-mul-w : tie.Need-mul-w Inv-loop μ-loop
-mul-w c = omega arith
-
-slice-write-w : tie.Need-slice-write-w Inv-loop μ-loop
-slice-write-w c = omega arith
-
-add-i : tie.Need-add-i Inv-loop μ-loop
-add-i c = omega arith
-
-loop-less : tie.Need-loop-less Inv-loop μ-loop
-loop-less c = omega arith
-
 loop-again : tie.Need-loop-again Inv-loop μ-loop
 loop-again c = (seconds-turn (c .before .before .before .before .before .before .pre) (c .before .before .before .loop .inv .0) (omega arith) (c .second-at .ensures), omega arith)
-
-second-at-requires-2 : tie.Need-second-at-requires-2 Inv-loop μ-loop
-second-at-requires-2 c κs = omega arith
-
-add-w-2 : tie.Need-add-w-2 Inv-loop μ-loop
-add-w-2 c = omega arith
-
-mul-w-2 : tie.Need-mul-w-2 Inv-loop μ-loop
-mul-w-2 c = omega arith
-
-slice-write-w-2 : tie.Need-slice-write-w-2 Inv-loop μ-loop
-slice-write-w-2 c = omega arith
 
 same-length : tie.Need-same-length Inv-loop μ-loop
 same-length c = simp length-set (c .before .before .before .loop .inv .0 .long)
@@ -72,17 +39,17 @@ second-lengths-spec =
     μ-loop
     returns
     loop-holds
-    add-loop
-    second-at-requires
-    add-w
-    mul-w
-    slice-write-w
-    add-i
-    loop-less
+    (λ c. omega arith)
+    (λ c κs. search needs)
+    (λ c. omega arith)
+    (λ c. omega arith)
+    (λ c. omega arith)
+    (λ c. omega arith)
+    (λ c. omega arith)
     loop-again
-    second-at-requires-2
-    add-w-2
-    mul-w-2
-    slice-write-w-2
+    (λ c κs. omega arith)
+    (λ c. omega arith)
+    (λ c. omega arith)
+    (λ c. omega arith)
     same-length
     returns-2)

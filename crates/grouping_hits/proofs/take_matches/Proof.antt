@@ -21,39 +21,6 @@ returns c = taken-none _ (c .before .before .pre) (omega arith)
 loop-holds : tie.Need-loop-holds Inv-loop μ-loop
 loop-holds c = (taken-from _ (c .before .before .pre) _ (omega arith) (omega arith), omega arith)
 
-add-other : tie.Need-add-other Inv-loop μ-loop
-add-other c = omega arith
-
-mul-other : tie.Need-mul-other Inv-loop μ-loop
-mul-other c = omega arith
-
-slice-read-other : tie.Need-slice-read-other Inv-loop μ-loop
-slice-read-other c = omega arith
-
-sub-hits-match : tie.Need-sub-hits-match Inv-loop μ-loop
-sub-hits-match c = omega arith
-
-hits-match-requires : tie.Need-hits-match-requires Inv-loop μ-loop
-hits-match-requires c κs = search needs
-
-nearer-requires : tie.Need-nearer-requires Inv-loop μ-loop
-nearer-requires c κs = search needs
-
-add-w : tie.Need-add-w Inv-loop μ-loop
-add-w c = omega arith
-
-mul-w : tie.Need-mul-w Inv-loop μ-loop
-mul-w c = omega arith
-
-slice-write-w : tie.Need-slice-write-w Inv-loop μ-loop
-slice-write-w c = omega arith
-
-add-h : tie.Need-add-h Inv-loop μ-loop
-add-h c = omega arith
-
-loop-less : tie.Need-loop-less Inv-loop μ-loop
-loop-less c = omega arith
-
 loop-again : tie.Need-loop-again Inv-loop μ-loop
 loop-again c =
     let l = c .before .before .before .before .before in
@@ -73,17 +40,17 @@ take-matches-spec =
     μ-loop
     returns
     loop-holds
-    add-other
-    mul-other
-    slice-read-other
-    sub-hits-match
-    hits-match-requires
-    nearer-requires
-    add-w
-    mul-w
-    slice-write-w
-    add-h
-    loop-less
+    (λ c. omega arith)
+    (λ c. omega arith)
+    (λ c. omega arith)
+    (λ c. omega arith)
+    (λ c κs. search needs)
+    (λ c κs. search needs)
+    (λ c. omega arith)
+    (λ c. omega arith)
+    (λ c. omega arith)
+    (λ c. omega arith)
+    (λ c. omega arith)
     loop-again
     same-length
     returns-2)

@@ -15,27 +15,6 @@ returns-2 c =
     let s = c .before .before .before in
     sym (end-few (s .args .margin) (s .args .values .now) (s .args .i) (c .before .if1 .left) (s .pre) (omega arith))
 
-mul-near : tie.Need-mul-near
-mul-near c = search needs
-
-shared-slice-read-near : tie.Need-shared-slice-read-near
-shared-slice-read-near c = search needs
-
-sub-near : tie.Need-sub-near
-sub-near c = search needs
-
-mul-near-2 : tie.Need-mul-near-2
-mul-near-2 c = search needs
-
-shared-slice-read-near-2 : tie.Need-shared-slice-read-near-2
-shared-slice-read-near-2 c = search needs
-
-near-requires : tie.Need-near-requires
-near-requires c κs = search needs
-
-add-result : tie.Need-add-result
-add-result c = search needs
-
 returns-3 : tie.Need-returns-3
 returns-3 c =
     let at-if1 = c .before .before .before .before .before in
@@ -56,12 +35,12 @@ last-end-spec =
     (tie.spec
     returns
     returns-2
-    mul-near
-    shared-slice-read-near
-    sub-near
-    mul-near-2
-    shared-slice-read-near-2
-    near-requires
-    add-result
+    (λ c. search needs)
+    (λ c. search needs)
+    (λ c. search needs)
+    (λ c. search needs)
+    (λ c. search needs)
+    (λ c κs. search needs)
+    (λ c. search needs)
     returns-3
     returns-4)

@@ -17,68 +17,17 @@ abbrev μ-loop : tie.MeasureT-loop
 returns : tie.Need-returns Inv-loop μ-loop
 returns c = firsts-none _ _ _ _ _ (c .before .before .before .pre) (c .if1 .taken)
 
-shared-slice-read-first : tie.Need-shared-slice-read-first Inv-loop μ-loop
-shared-slice-read-first c = omega arith
-
 cast-first : tie.Need-cast-first Inv-loop μ-loop
 cast-first c = omega (arith, c .shared-slice-known2 .given 0)
 
 loop-holds : tie.Need-loop-holds Inv-loop μ-loop
 loop-holds c = firsts-start _ _ _ _ _ _ (c .before .before .before .before .pre) refl refl (c .before .if1 .left)
 
-add-w : tie.Need-add-w Inv-loop μ-loop
-add-w c = omega arith
-
-mul-w : tie.Need-mul-w Inv-loop μ-loop
-mul-w c = omega arith
-
-slice-write-w : tie.Need-slice-write-w Inv-loop μ-loop
-slice-write-w c = omega arith
-
-add-mark : tie.Need-add-mark Inv-loop μ-loop
-add-mark c = omega arith
-
-mul-mark : tie.Need-mul-mark Inv-loop μ-loop
-mul-mark c = omega arith
-
-slice-read-mark : tie.Need-slice-read-mark Inv-loop μ-loop
-slice-read-mark c = omega arith
-
-shared-slice-read-item : tie.Need-shared-slice-read-item Inv-loop μ-loop
-shared-slice-read-item c = omega arith
-
 cast-item : tie.Need-cast-item Inv-loop μ-loop
 cast-item c = omega (arith, c .shared-slice-known3 .given (c .before .before .before .loop .i))
 
-first-after-requires : tie.Need-first-after-requires Inv-loop μ-loop
-first-after-requires c κs = search needs
-
-opens-requires : tie.Need-opens-requires Inv-loop μ-loop
-opens-requires c κs = search needs
-
-cast-j : tie.Need-cast-j Inv-loop μ-loop
-cast-j c = omega arith
-
-add-j : tie.Need-add-j Inv-loop μ-loop
-add-j c = omega arith
-
-add-i : tie.Need-add-i Inv-loop μ-loop
-add-i c = omega arith
-
-loop-less : tie.Need-loop-less Inv-loop μ-loop
-loop-less c = omega arith
-
 loop-again : tie.Need-loop-again Inv-loop μ-loop
 loop-again c = firsts-turn (c .before .before .before .before .before .loop .inv) _ _ _ (c .before .before .before .before .loop-test .taken) refl (c .before .first-after .ensures) (c .opens .ensures .0)
-
-add-w-2 : tie.Need-add-w-2 Inv-loop μ-loop
-add-w-2 c = omega arith
-
-mul-w-2 : tie.Need-mul-w-2 Inv-loop μ-loop
-mul-w-2 c = omega arith
-
-slice-write-w-2 : tie.Need-slice-write-w-2 Inv-loop μ-loop
-slice-write-w-2 c = omega arith
 
 same-length : tie.Need-same-length Inv-loop μ-loop
 same-length c = simp length-set (c .before .loop .inv .long)
@@ -93,26 +42,26 @@ group-firsts-of-spec =
     Inv-loop
     μ-loop
     returns
-    shared-slice-read-first
+    (λ c. omega arith)
     cast-first
     loop-holds
-    add-w
-    mul-w
-    slice-write-w
-    add-mark
-    mul-mark
-    slice-read-mark
-    shared-slice-read-item
+    (λ c. omega arith)
+    (λ c. omega arith)
+    (λ c. omega arith)
+    (λ c. omega arith)
+    (λ c. omega arith)
+    (λ c. omega arith)
+    (λ c. omega arith)
     cast-item
-    first-after-requires
-    opens-requires
-    cast-j
-    add-j
-    add-i
-    loop-less
+    (λ c κs. search needs)
+    (λ c κs. search needs)
+    (λ c. omega arith)
+    (λ c. omega arith)
+    (λ c. omega arith)
+    (λ c. omega arith)
     loop-again
-    add-w-2
-    mul-w-2
-    slice-write-w-2
+    (λ c. omega arith)
+    (λ c. omega arith)
+    (λ c. omega arith)
     same-length
     returns-2)

@@ -19,50 +19,8 @@ returns c = numbers-none _ _ _ _ (c .before .before .pre) (c .if1 .taken)
 loop-holds : tie.Need-loop-holds Inv-loop μ-loop
 loop-holds c = numbers-start _ _ _ _ (c .before .before .pre) (c .if1 .left)
 
-add-loop : tie.Need-add-loop Inv-loop μ-loop
-add-loop c = omega arith
-
-add-w : tie.Need-add-w Inv-loop μ-loop
-add-w c = omega arith
-
-mul-w : tie.Need-mul-w Inv-loop μ-loop
-mul-w c = omega arith
-
-slice-write-w : tie.Need-slice-write-w Inv-loop μ-loop
-slice-write-w c = omega arith
-
-add-i : tie.Need-add-i Inv-loop μ-loop
-add-i c = omega arith
-
-add-mark : tie.Need-add-mark Inv-loop μ-loop
-add-mark c = omega arith
-
-mul-mark : tie.Need-mul-mark Inv-loop μ-loop
-mul-mark c = omega arith
-
-slice-read-mark : tie.Need-slice-read-mark Inv-loop μ-loop
-slice-read-mark c = omega arith
-
-opens-requires : tie.Need-opens-requires Inv-loop μ-loop
-opens-requires c κs = search needs
-
-add-count : tie.Need-add-count Inv-loop μ-loop
-add-count c = omega arith
-
-loop-less : tie.Need-loop-less Inv-loop μ-loop
-loop-less c = omega arith
-
 loop-again : tie.Need-loop-again Inv-loop μ-loop
 loop-again c = numbers-turn (c .before .before .before .loop .inv) _ (c .before .before .loop-test .taken) (c .opens .ensures .0) (c .opens .ensures .1)
-
-add-w-2 : tie.Need-add-w-2 Inv-loop μ-loop
-add-w-2 c = omega arith
-
-mul-w-2 : tie.Need-mul-w-2 Inv-loop μ-loop
-mul-w-2 c = omega arith
-
-slice-write-w-2 : tie.Need-slice-write-w-2 Inv-loop μ-loop
-slice-write-w-2 c = omega arith
 
 same-length : tie.Need-same-length Inv-loop μ-loop
 same-length c = simp length-set (c .before .loop .inv .long)
@@ -78,20 +36,20 @@ group-numbers-spec =
     μ-loop
     returns
     loop-holds
-    add-loop
-    add-w
-    mul-w
-    slice-write-w
-    add-i
-    add-mark
-    mul-mark
-    slice-read-mark
-    opens-requires
-    add-count
-    loop-less
+    (λ c. omega arith)
+    (λ c. omega arith)
+    (λ c. omega arith)
+    (λ c. omega arith)
+    (λ c. omega arith)
+    (λ c. omega arith)
+    (λ c. omega arith)
+    (λ c. omega arith)
+    (λ c κs. search needs)
+    (λ c. omega arith)
+    (λ c. omega arith)
     loop-again
-    add-w-2
-    mul-w-2
-    slice-write-w-2
+    (λ c. omega arith)
+    (λ c. omega arith)
+    (λ c. omega arith)
     same-length
     returns-2)

@@ -20,37 +20,10 @@ abbrev μ-loop : tie.MeasureT-loop
 loop-holds : tie.Need-loop-holds Inv-loop μ-loop
 loop-holds c = (start-part _ _ 0 _ _ _ _ (c .before .pre), omega arith)
 
-add-mark : tie.Need-add-mark Inv-loop μ-loop
-add-mark c = omega arith
-
-mul-mark : tie.Need-mul-mark Inv-loop μ-loop
-mul-mark c = omega arith
-
-slice-read-mark : tie.Need-slice-read-mark Inv-loop μ-loop
-slice-read-mark c = omega arith
-
-place-at-requires : tie.Need-place-at-requires Inv-loop μ-loop
-place-at-requires c κs = search needs
-
-add-w : tie.Need-add-w Inv-loop μ-loop
-add-w c = omega arith
-
-mul-w : tie.Need-mul-w Inv-loop μ-loop
-mul-w c = omega arith
-
-slice-write-w : tie.Need-slice-write-w Inv-loop μ-loop
-slice-write-w c = omega arith
-
 add-p : tie.Need-add-p Inv-loop μ-loop
 add-p c =
     let l = c .before .before .before in
     omega (arith, place-le (l .loop .p) (getD (l .loop .w) (l .before .before .args .from + l .loop .i) 0))
-
-add-i : tie.Need-add-i Inv-loop μ-loop
-add-i c = omega arith
-
-loop-less : tie.Need-loop-less Inv-loop μ-loop
-loop-less c = omega arith
 
 loop-again : tie.Need-loop-again Inv-loop μ-loop
 loop-again c =
@@ -73,16 +46,16 @@ group-places-spec =
     Inv-loop
     μ-loop
     loop-holds
-    add-mark
-    mul-mark
-    slice-read-mark
-    place-at-requires
-    add-w
-    mul-w
-    slice-write-w
+    (λ c. omega arith)
+    (λ c. omega arith)
+    (λ c. omega arith)
+    (λ c κs. search needs)
+    (λ c. omega arith)
+    (λ c. omega arith)
+    (λ c. omega arith)
     add-p
-    add-i
-    loop-less
+    (λ c. omega arith)
+    (λ c. omega arith)
     loop-again
     same-length
     returns)

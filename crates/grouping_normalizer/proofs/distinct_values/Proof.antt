@@ -29,60 +29,15 @@ loop-holds c =
     let k = s .before .before in
     thinning-start _ _ refl (c .if1 .left) (slice-numbers (k .before .pre) (k .slice-known .given)) (s .sort .ensures)
 
-mul-is-alike : tie.Need-mul-is-alike Inv-loop μ-loop
-mul-is-alike c = omega arith
-
-slice-read-is-alike : tie.Need-slice-read-is-alike Inv-loop μ-loop
-slice-read-is-alike c = omega arith
-
-mul-is-alike-2 : tie.Need-mul-is-alike-2 Inv-loop μ-loop
-mul-is-alike-2 c = omega arith
-
-slice-read-is-alike-2 : tie.Need-slice-read-is-alike-2 Inv-loop μ-loop
-slice-read-is-alike-2 c = omega arith
-
-is-alike-requires : tie.Need-is-alike-requires Inv-loop μ-loop
-is-alike-requires c κs = search needs
-
-add-i : tie.Need-add-i Inv-loop μ-loop
-add-i c = omega arith
-
-loop-less : tie.Need-loop-less Inv-loop μ-loop
-loop-less c = omega arith
-
 loop-again : tie.Need-loop-again Inv-loop μ-loop
 loop-again c =
     let l = c .before .before .before .before in
     thinning-skip (l .before .loop .inv) (l .loop-test .taken) (sym (c .before .is-alike .ensures) ∙ c .if2 .taken)
 
-add-k : tie.Need-add-k Inv-loop μ-loop
-add-k c = omega arith
-
-mul-values : tie.Need-mul-values Inv-loop μ-loop
-mul-values c = omega arith
-
-slice-read-values : tie.Need-slice-read-values Inv-loop μ-loop
-slice-read-values c = omega arith
-
-mul-values-2 : tie.Need-mul-values-2 Inv-loop μ-loop
-mul-values-2 c = omega arith
-
-slice-write-values : tie.Need-slice-write-values Inv-loop μ-loop
-slice-write-values c = omega arith
-
-add-i-2 : tie.Need-add-i-2 Inv-loop μ-loop
-add-i-2 c = omega arith
-
-loop-less-2 : tie.Need-loop-less-2 Inv-loop μ-loop
-loop-less-2 c = omega arith
-
 loop-again-2 : tie.Need-loop-again-2 Inv-loop μ-loop
 loop-again-2 c =
     let l = c .before .before .before .before .before in
     thinning-keep (l .before .loop .inv) (l .loop-test .taken) (sym (c .before .before .is-alike .ensures) ∙ c .before .if2 .left)
-
-add-result : tie.Need-add-result Inv-loop μ-loop
-add-result c = omega arith
 
 same-length-2 : tie.Need-same-length-2 Inv-loop μ-loop
 same-length-2 c = thinning-long (c .before .loop .inv) _ (c .before .before .before .before .before .sort .ensures)
@@ -100,22 +55,22 @@ distinct-values-spec =
     same-length
     returns
     loop-holds
-    mul-is-alike
-    slice-read-is-alike
-    mul-is-alike-2
-    slice-read-is-alike-2
-    is-alike-requires
-    add-i
-    loop-less
+    (λ c. omega arith)
+    (λ c. omega arith)
+    (λ c. omega arith)
+    (λ c. omega arith)
+    (λ c κs. search needs)
+    (λ c. omega arith)
+    (λ c. omega arith)
     loop-again
-    add-k
-    mul-values
-    slice-read-values
-    mul-values-2
-    slice-write-values
-    add-i-2
-    loop-less-2
+    (λ c. omega arith)
+    (λ c. omega arith)
+    (λ c. omega arith)
+    (λ c. omega arith)
+    (λ c. omega arith)
+    (λ c. omega arith)
+    (λ c. omega arith)
     loop-again-2
-    add-result
+    (λ c. omega arith)
     same-length-2
     returns-2)

@@ -5,12 +5,6 @@ use borrow.Author.Needs.{needs}
 use Rattle.grouping_normalizer.proofs.is_alike.Statement.{statement}
 use Rattle.grouping_normalizer.proofs.is_alike.Tie as tie
 
-total-order-requires : tie.Need-total-order-requires
-total-order-requires c κs = search needs
-
-total-order-requires-2 : tie.Need-total-order-requires-2
-total-order-requires-2 c κs = search needs
-
 returns : tie.Need-returns
 returns c = alike-on _ _ _ (sym (c .before .before .total-order .ensures) ∙ c .before .if1 .taken) (c .total-order2 .ensures)
 
@@ -18,4 +12,4 @@ returns-2 : tie.Need-returns-2
 returns-2 c = alike-off _ _ (sym (c .before .total-order .ensures) ∙ c .if1 .left)
 
 pub is-alike-spec : {M : Type 1} → statement M
-is-alike-spec = tie.close (tie.spec total-order-requires total-order-requires-2 returns returns-2)
+is-alike-spec = tie.close (tie.spec (λ c κs. search needs) (λ c κs. search needs) returns returns-2)

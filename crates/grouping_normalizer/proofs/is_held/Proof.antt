@@ -17,25 +17,10 @@ abbrev μ-loop : tie.MeasureT-loop
 loop-holds : tie.Need-loop-holds Inv-loop μ-loop
 loop-holds c = record { upto = omega arith; same = refl }
 
-mul-is-alike : tie.Need-mul-is-alike Inv-loop μ-loop
-mul-is-alike c = omega arith
-
-shared-slice-read-is-alike : tie.Need-shared-slice-read-is-alike Inv-loop μ-loop
-shared-slice-read-is-alike c = omega arith
-
-is-alike-requires : tie.Need-is-alike-requires Inv-loop μ-loop
-is-alike-requires c κs = search needs
-
 returns : tie.Need-returns Inv-loop μ-loop
 returns c =
     let l = c .before .before .before in
     seeking-found (l .before .loop .inv) (l .loop-test .taken) (sym (c .before .is-alike .ensures) ∙ c .if1 .taken)
-
-add-i : tie.Need-add-i Inv-loop μ-loop
-add-i c = omega arith
-
-loop-less : tie.Need-loop-less Inv-loop μ-loop
-loop-less c = omega arith
 
 loop-again : tie.Need-loop-again Inv-loop μ-loop
 loop-again c =
@@ -52,11 +37,11 @@ is-held-spec =
     Inv-loop
     μ-loop
     loop-holds
-    mul-is-alike
-    shared-slice-read-is-alike
-    is-alike-requires
+    (λ c. omega arith)
+    (λ c. omega arith)
+    (λ c κs. search needs)
     returns
-    add-i
-    loop-less
+    (λ c. omega arith)
+    (λ c. omega arith)
     loop-again
     returns-2)

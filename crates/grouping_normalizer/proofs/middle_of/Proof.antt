@@ -20,33 +20,6 @@ loop-holds c = record { upto = omega arith; same = refl }
 set-end-requires : tie.Need-set-end-requires Inv-loop μ-loop
 set-end-requires c κs = c .loop-test .taken
 
-mul-is-held : tie.Need-mul-is-held Inv-loop μ-loop
-mul-is-held c = omega arith
-
-sub-is-held : tie.Need-sub-is-held Inv-loop μ-loop
-sub-is-held c = omega arith
-
-part-is-held-start : tie.Need-part-is-held-start Inv-loop μ-loop
-part-is-held-start c = omega arith
-
-part-is-held-end : tie.Need-part-is-held-end Inv-loop μ-loop
-part-is-held-end c = omega arith
-
-is-held-requires : tie.Need-is-held-requires Inv-loop μ-loop
-is-held-requires c κs = search needs
-
-mul-middle-value : tie.Need-mul-middle-value Inv-loop μ-loop
-mul-middle-value c = omega arith
-
-sub-middle-value : tie.Need-sub-middle-value Inv-loop μ-loop
-sub-middle-value c = omega arith
-
-part-middle-value-start : tie.Need-part-middle-value-start Inv-loop μ-loop
-part-middle-value-start c = omega arith
-
-part-middle-value-end : tie.Need-part-middle-value-end Inv-loop μ-loop
-part-middle-value-end c = omega arith
-
 middle-value-requires : tie.Need-middle-value-requires Inv-loop μ-loop
 middle-value-requires c κs =
     let k = c .before .before .before .before in
@@ -57,9 +30,6 @@ returns c =
     let k = c .before .before .before .before .before in
     c .middle-value .ensures
     ∙ looking-found (k .before .before .loop .inv) (k .before .loop-test .taken) (k .set-end .ensures) _ (c .before .before .before .is-held .ensures) (c .before .before .if1 .taken)
-
-loop-less : tie.Need-loop-less Inv-loop μ-loop
-loop-less c = omega arith
 
 loop-again : tie.Need-loop-again Inv-loop μ-loop
 loop-again c =
@@ -77,17 +47,17 @@ middle-of-spec =
     μ-loop
     loop-holds
     set-end-requires
-    mul-is-held
-    sub-is-held
-    part-is-held-start
-    part-is-held-end
-    is-held-requires
-    mul-middle-value
-    sub-middle-value
-    part-middle-value-start
-    part-middle-value-end
+    (λ c. omega arith)
+    (λ c. omega arith)
+    (λ c. omega arith)
+    (λ c. omega arith)
+    (λ c κs. search needs)
+    (λ c. omega arith)
+    (λ c. omega arith)
+    (λ c. omega arith)
+    (λ c. omega arith)
     middle-value-requires
     returns
-    loop-less
+    (λ c. omega arith)
     loop-again
     returns-2)

@@ -6,20 +6,11 @@ use borrow.Author.Needs.{needs}
 use Rattle.grouping_normalizer.proofs.normal_of.Statement.{statement}
 use Rattle.grouping_normalizer.proofs.normal_of.Tie as tie
 
-distinct-values-requires : tie.Need-distinct-values-requires
-distinct-values-requires c κs = search needs
-
 slice-reshare-prefix-middle-of : tie.Need-slice-reshare-prefix-middle-of
 slice-reshare-prefix-middle-of c = distinct-few (c .before .before .distinct-values .ensures)
 
 slice-aggregate-middle-of : tie.Need-slice-aggregate-middle-of
 slice-aggregate-middle-of c = sym (length-take-le _ _ (distinct-few (c .before .before .before .distinct-values .ensures)))
-
-middle-of-requires : tie.Need-middle-of-requires
-middle-of-requires c κs = search needs
-
-same-length : tie.Need-same-length
-same-length c = search needs
 
 returns : tie.Need-returns
 returns c = normal (c .before .before .before .before .distinct-values .ensures) _ _ _ (c .middle-of .ensures)
@@ -28,9 +19,9 @@ pub normal-of-spec : {M : Type 1} → statement M
 normal-of-spec =
     tie.close
     (tie.spec
-    distinct-values-requires
+    (λ c κs. search needs)
     slice-reshare-prefix-middle-of
     slice-aggregate-middle-of
-    middle-of-requires
-    same-length
+    (λ c κs. search needs)
+    (λ c. search needs)
     returns)

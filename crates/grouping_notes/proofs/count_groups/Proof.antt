@@ -20,38 +20,14 @@ loop-holds : tie.Need-loop-holds Inv-loop μ-loop
 unfolding counting₀ ofBits
 loop-holds c = counts-start _ _ _ (c .before .before .pre)
 
-shared-slice-read-is-note : tie.Need-shared-slice-read-is-note Inv-loop μ-loop
-shared-slice-read-is-note c = omega arith
-
-is-note-requires : tie.Need-is-note-requires Inv-loop μ-loop
-is-note-requires c κs = search needs
-
-mul-count-note : tie.Need-mul-count-note Inv-loop μ-loop
-mul-count-note c = omega arith
-
-shared-slice-read-count-note : tie.Need-shared-slice-read-count-note Inv-loop μ-loop
-shared-slice-read-count-note c = omega arith
-
 count-note-requires : tie.Need-count-note-requires Inv-loop μ-loop
 count-note-requires c κs = record { few = omega arith; groups-le = omega arith }
-
-add-i : tie.Need-add-i Inv-loop μ-loop
-add-i c = omega arith
-
-loop-less : tie.Need-loop-less Inv-loop μ-loop
-loop-less c = omega arith
 
 loop-again : tie.Need-loop-again Inv-loop μ-loop
 loop-again c =
     let at-note = c .before .before .before in
     counts-note (at-note .before .before .before .loop .inv) _ (at-note .before .before .loop-test .taken) (sym (at-note .is-note .ensures) ∙ c .before .before .if1 .taken)
     (c .count-note .ensures)
-
-add-i-2 : tie.Need-add-i-2 Inv-loop μ-loop
-add-i-2 c = omega arith
-
-loop-less-2 : tie.Need-loop-less-2 Inv-loop μ-loop
-loop-less-2 c = omega arith
 
 loop-again-2 : tie.Need-loop-again-2 Inv-loop μ-loop
 loop-again-2 c =
@@ -71,16 +47,16 @@ count-groups-spec =
     Inv-loop
     μ-loop
     loop-holds
-    shared-slice-read-is-note
-    is-note-requires
-    mul-count-note
-    shared-slice-read-count-note
+    (λ c. omega arith)
+    (λ c κs. search needs)
+    (λ c. omega arith)
+    (λ c. omega arith)
     count-note-requires
-    add-i
-    loop-less
+    (λ c. omega arith)
+    (λ c. omega arith)
     loop-again
-    add-i-2
-    loop-less-2
+    (λ c. omega arith)
+    (λ c. omega arith)
     loop-again-2
     groups-counted-requires
     returns)

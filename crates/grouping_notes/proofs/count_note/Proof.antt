@@ -9,12 +9,6 @@ use Rattle.grouping_notes.proofs.count_note.Tie as tie
 returns : tie.Need-returns
 returns c = counted-first _ _ _ (c .if1 .taken)
 
-near-requires : tie.Need-near-requires
-near-requires c κs = search needs
-
-add-t6 : tie.Need-add-t6
-add-t6 c = omega arith
-
 returns-2 : tie.Need-returns-2
 returns-2 c =
     let at-near = c .before .before in
@@ -31,12 +25,6 @@ count-change-requires c κs =
       apart = sym (at-near .near .ensures) ∙ c .if3 .left;
     }
 
-returns-3 : tie.Need-returns-3
-returns-3 c = search needs
-
-add-t7 : tie.Need-add-t7
-add-t7 c = omega arith
-
 returns-4 : tie.Need-returns-4
 returns-4 c = counted-next _ _ _ (c .before .before .if1 .left) (c .before .if2 .left)
 
@@ -45,10 +33,10 @@ count-note-spec =
     tie.close
     (tie.spec
     returns
-    near-requires
-    add-t6
+    (λ c κs. search needs)
+    (λ c. omega arith)
     returns-2
     count-change-requires
-    returns-3
-    add-t7
+    (λ c. search needs)
+    (λ c. omega arith)
     returns-4)

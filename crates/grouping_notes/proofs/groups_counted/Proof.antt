@@ -7,22 +7,13 @@ use Rattle.grouping_notes.proofs.CountLaws.{ended-open, ended-few, ende
 use Rattle.grouping_notes.proofs.groups_counted.Statement.{statement}
 use Rattle.grouping_notes.proofs.groups_counted.Tie as tie
 
-add-result : tie.Need-add-result
-add-result c = omega arith
-
 returns : tie.Need-returns
 returns c = ended-few _ _ (c .before .before .before .if1 .taken) (c .before .if2 .taken)
-
-near-requires : tie.Need-near-requires
-near-requires c κs = search needs
 
 returns-2 : tie.Need-returns-2
 returns-2 c =
     let at-near = c .before in
     ended-many _ _ true (at-near .before .before .before .if1 .taken) (at-near .before .if2 .left) (sym (at-near .near .ensures) ∙ c .if3 .taken)
-
-add-result-2 : tie.Need-add-result-2
-add-result-2 c = omega arith
 
 returns-3 : tie.Need-returns-3
 returns-3 c =
@@ -35,4 +26,4 @@ returns-4 c = ended-open _ _ (c .if1 .left)
 pub groups-counted-spec : {M : Type 1} → statement M
 groups-counted-spec =
     tie.close
-    (tie.spec add-result returns near-requires returns-2 add-result-2 returns-3 returns-4)
+    (tie.spec (λ c. omega arith) returns (λ c κs. search needs) returns-2 (λ c. omega arith) returns-3 returns-4)

@@ -4,35 +4,14 @@ use native.Mathlib.Omega.{arith}
 use Rattle.grouping_preprocessor.proofs.find_hit_marks.Statement.{statement}
 use Rattle.grouping_preprocessor.proofs.find_hit_marks.Tie as tie
 
-mul-mark-coupled : tie.Need-mul-mark-coupled
-mul-mark-coupled c = omega arith
-
-mul-mark-coupled-2 : tie.Need-mul-mark-coupled-2
-mul-mark-coupled-2 c = omega arith
-
-mul-mark-coupled-3 : tie.Need-mul-mark-coupled-3
-mul-mark-coupled-3 c = omega arith
-
 mark-coupled-requires : tie.Need-mark-coupled-requires
 mark-coupled-requires c κs = record { first = apart-before (omega arith) (omega arith); second = apart-before (omega arith) (omega arith); third = apart-before (omega arith) (omega arith) }
-
-mul-mark-hits : tie.Need-mul-mark-hits
-mul-mark-hits c = omega arith
 
 mark-hits-requires : tie.Need-mark-hits-requires
 mark-hits-requires c κs = room-behind (omega arith) (omega arith) (omega arith)
 
-mul-second-lengths : tie.Need-mul-second-lengths
-mul-second-lengths c = omega arith
-
-mul-second-lengths-2 : tie.Need-mul-second-lengths-2
-mul-second-lengths-2 c = omega arith
-
 second-lengths-requires : tie.Need-second-lengths-requires
 second-lengths-requires c κs = record { first = apart-before (omega arith) (omega arith); second = apart-after (omega arith) (omega arith) }
-
-same-length : tie.Need-same-length
-same-length c = omega arith
 
 returns : tie.Need-returns
 returns c = hit-marks-made _ _ _ _ _ _ (c .before .before .before .before .before .before .before .before .before .before .before .before .before .pre .0) (c .before .before .before .before .before .before .before .before .before .before .before .before .before .pre .1) (c .before .before .before .before .before .before .before .before .before .before .mark-coupled .ensures) (c .before .before .before .before .before .before .mark-hits .ensures) (c .before .before .second-lengths .ensures)
@@ -41,14 +20,14 @@ pub find-hit-marks-spec : {M : Type 1} → statement M
 find-hit-marks-spec =
     tie.close
     (tie.spec
-    mul-mark-coupled
-    mul-mark-coupled-2
-    mul-mark-coupled-3
+    (λ c. omega arith)
+    (λ c. omega arith)
+    (λ c. omega arith)
     mark-coupled-requires
-    mul-mark-hits
+    (λ c. omega arith)
     mark-hits-requires
-    mul-second-lengths
-    mul-second-lengths-2
+    (λ c. omega arith)
+    (λ c. omega arith)
     second-lengths-requires
-    same-length
+    (λ c. omega arith)
     returns)

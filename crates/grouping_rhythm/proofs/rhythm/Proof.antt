@@ -25,52 +25,16 @@ start c = c .before .before .before .before .before .before .before .before .bef
 accepted : (c : tie.After-enum-told) → judged (chartOf (start c)) (memoryOf (start c)) ≡ Accepted
 accepted c = judged-is (chartOf (start c)) _ _ _ (c .before .before .before .before .too-short .ensures) (c .before .before .before .short-refusal .ensures) (c .before .before .check .ensures) (c .enum-told .given .1)
 
-too-short-requires : tie.Need-too-short-requires
-too-short-requires c κs = search needs
-
-short-refusal-requires : tie.Need-short-refusal-requires
-short-refusal-requires c κs = search needs
-
-check-requires : tie.Need-check-requires
-check-requires c κs = search needs
-
-enum-known-number : tie.Need-enum-known-number
-enum-known-number c = search needs
-
-enum-told : tie.Need-enum-told
-enum-told c = search needs
-
-base-requires : tie.Need-base-requires
-base-requires c κs = search needs
-
 fill-groups-requires : tie.Need-fill-groups-requires
 fill-groups-requires c κs =
     let t = c .before .before .before .before .before in
     answer-room baseSettings (chartOf (start t)) (memoryOf (start t)) (accepted t)
-
-same-length : tie.Need-same-length
-same-length c = search needs
-
-same-length-2 : tie.Need-same-length-2
-same-length-2 c = search needs
 
 returns : tie.Need-returns
 unfolding rhythmOutcome
 returns c =
     let s = c .before .before .before .before .before .before .before .before .before .before .before .before .before .before .before .before in
     answered-refused _ answer.Refused (memoryOf s) (judged-is (chartOf s) _ _ _ (c .before .before .before .before .before .too-short .ensures) (c .before .before .before .before .short-refusal .ensures) (c .before .before .before .check .ensures) (c .before .number .given .1))
-
-same-length-3 : tie.Need-same-length-3
-same-length-3 c = search needs
-
-same-length-4 : tie.Need-same-length-4
-same-length-4 c = search needs
-
-same-length-5 : tie.Need-same-length-5
-same-length-5 c = search needs
-
-same-length-6 : tie.Need-same-length-6
-same-length-6 c = search needs
 
 returns-2 : tie.Need-returns-2
 returns-2 c =
@@ -83,18 +47,18 @@ pub rhythm-spec : {M : Type 1} → statement M
 rhythm-spec =
     tie.close
     (tie.spec
-    too-short-requires
-    short-refusal-requires
-    check-requires
-    enum-known-number
-    enum-told
-    base-requires
+    (λ c κs. search needs)
+    (λ c κs. search needs)
+    (λ c κs. search needs)
+    (λ c. search needs)
+    (λ c. search needs)
+    (λ c κs. search needs)
     fill-groups-requires
-    same-length
-    same-length-2
+    (λ c. search needs)
+    (λ c. search needs)
     returns
-    same-length-3
-    same-length-4
-    same-length-5
-    same-length-6
+    (λ c. search needs)
+    (λ c. search needs)
+    (λ c. search needs)
+    (λ c. search needs)
     returns-2)

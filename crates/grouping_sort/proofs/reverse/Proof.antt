@@ -15,20 +15,8 @@ abbrev μ-loop : tie.MeasureT-loop
 loop-holds : tie.Need-loop-holds Inv-loop μ-loop
 loop-holds c = turning-start _ _ refl
 
-sub-swap : tie.Need-sub-swap Inv-loop μ-loop
-sub-swap c = omega arith
-
-sub-swap-2 : tie.Need-sub-swap-2 Inv-loop μ-loop
-sub-swap-2 c = omega arith
-
 swap-requires : tie.Need-swap-requires Inv-loop μ-loop
 swap-requires c κs = turning-two (c .before .before .loop .inv) (c .before .loop-test .taken)
-
-add-i : tie.Need-add-i Inv-loop μ-loop
-add-i c = omega arith
-
-loop-less : tie.Need-loop-less Inv-loop μ-loop
-loop-less c = omega arith
 
 loop-again : tie.Need-loop-again Inv-loop μ-loop
 loop-again c =
@@ -48,11 +36,11 @@ reverse-spec =
     Inv-loop
     μ-loop
     loop-holds
-    sub-swap
-    sub-swap-2
+    (λ c. omega arith)
+    (λ c. omega arith)
     swap-requires
-    add-i
-    loop-less
+    (λ c. omega arith)
+    (λ c. omega arith)
     loop-again
     same-length
     returns)

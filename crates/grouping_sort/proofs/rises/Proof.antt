@@ -20,38 +20,11 @@ abbrev μ-loop : tie.MeasureT-loop
 loop-holds : tie.Need-loop-holds Inv-loop μ-loop
 loop-holds c = record { upto = omega arith; same = refl }
 
-add-loop : tie.Need-add-loop Inv-loop μ-loop
-add-loop c = omega arith
-
-mul-total-order : tie.Need-mul-total-order Inv-loop μ-loop
-mul-total-order c = omega arith
-
-shared-slice-read-total-order : tie.Need-shared-slice-read-total-order Inv-loop μ-loop
-shared-slice-read-total-order c = omega arith
-
-add-total-order : tie.Need-add-total-order Inv-loop μ-loop
-add-total-order c = omega arith
-
-mul-total-order-2 : tie.Need-mul-total-order-2 Inv-loop μ-loop
-mul-total-order-2 c = omega arith
-
-shared-slice-read-total-order-2 : tie.Need-shared-slice-read-total-order-2 Inv-loop μ-loop
-shared-slice-read-total-order-2 c = omega arith
-
-total-order-requires : tie.Need-total-order-requires Inv-loop μ-loop
-total-order-requires c κs = search needs
-
 returns : tie.Need-returns Inv-loop μ-loop
 unfolding rising
 returns c =
     let l = c .before .before .before .before in
     testing-fails (l .before .loop .inv) (l .loop-test .taken) (sym (c .before .total-order .ensures) ∙ not-true _ (c .if1 .taken))
-
-add-i : tie.Need-add-i Inv-loop μ-loop
-add-i c = omega arith
-
-loop-less : tie.Need-loop-less Inv-loop μ-loop
-loop-less c = omega arith
 
 loop-again : tie.Need-loop-again Inv-loop μ-loop
 loop-again c =
@@ -69,15 +42,15 @@ rises-spec =
     Inv-loop
     μ-loop
     loop-holds
-    add-loop
-    mul-total-order
-    shared-slice-read-total-order
-    add-total-order
-    mul-total-order-2
-    shared-slice-read-total-order-2
-    total-order-requires
+    (λ c. omega arith)
+    (λ c. omega arith)
+    (λ c. omega arith)
+    (λ c. omega arith)
+    (λ c. omega arith)
+    (λ c. omega arith)
+    (λ c κs. search needs)
     returns
-    add-i
-    loop-less
+    (λ c. omega arith)
+    (λ c. omega arith)
     loop-again
     returns-2)

@@ -6,15 +6,6 @@ use borrow.Author.Needs.{needs}
 use Rattle.grouping_sort.proofs.sort.Statement.{statement}
 use Rattle.grouping_sort.proofs.sort.Tie as tie
 
-turn-if-falling-requires : tie.Need-turn-if-falling-requires
-turn-if-falling-requires c κs = search needs
-
-rises-requires : tie.Need-rises-requires
-rises-requires c κs = search needs
-
-same-length : tie.Need-same-length
-same-length c = search needs
-
 returns : tie.Need-returns
 returns c =
     let s = c .before .before .before .before .before .before .before in
@@ -25,9 +16,6 @@ heap-sort-requires c κs =
     let s = c .before .before .before .before .before .before .before .before in
     all-finite (turned-numbers (slice-numbers (s .before .pre) (s .slice-known .given)) (c .before .before .before .before .before .before .turn-if-falling .ensures))
 
-same-length-2 : tie.Need-same-length-2
-same-length-2 c = search needs
-
 returns-2 : tie.Need-returns-2
 returns-2 c =
     let s = c .before .before .before .before .before .before .before .before .before .before .before in
@@ -37,10 +25,10 @@ pub sort-spec : {M : Type 1} → statement M
 sort-spec =
     tie.close
     (tie.spec
-    turn-if-falling-requires
-    rises-requires
-    same-length
+    (λ c κs. search needs)
+    (λ c κs. search needs)
+    (λ c. search needs)
     returns
     heap-sort-requires
-    same-length-2
+    (λ c. search needs)
     returns-2)

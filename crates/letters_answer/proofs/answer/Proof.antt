@@ -8,26 +8,8 @@ use borrow.Author.Needs.{needs}
 use Rattle.letters_answer.proofs.answer.Statement.{statement}
 use Rattle.letters_answer.proofs.answer.Tie as tie
 
-slice-aggregate-read-letters : tie.Need-slice-aggregate-read-letters
-slice-aggregate-read-letters c = search needs
-
-read-letters-requires : tie.Need-read-letters-requires
-read-letters-requires c κs = search needs
-
-enum-told : tie.Need-enum-told
-enum-told c = search needs
-
-write-long-requires : tie.Need-write-long-requires
-write-long-requires c κs = search needs
-
-enum-known-place : tie.Need-enum-known-place
-enum-known-place c = search needs
-
 write-bad-requires : tie.Need-write-bad-requires
 write-bad-requires c κs = omega (arith, read-bad-at (c .before .before .before .before .before .read-letters .ensures) _ (c .before .before .place .given .1))
-
-enum-known-n : tie.Need-enum-known-n
-enum-known-n c = search needs
 
 array-share-prefix-kinds : tie.Need-array-share-prefix-kinds
 array-share-prefix-kinds c = omega (arith, read-all (c .before .before .before .before .read-letters .ensures) _ (c .before .n .given .1))
@@ -51,13 +33,13 @@ pub answer-spec : {M : Type 1} → statement M
 answer-spec =
     tie.close
     (tie.spec
-    slice-aggregate-read-letters
-    read-letters-requires
-    enum-told
-    write-long-requires
-    enum-known-place
+    (λ c. search needs)
+    (λ c κs. search needs)
+    (λ c. search needs)
+    (λ c κs. search needs)
+    (λ c. search needs)
     write-bad-requires
-    enum-known-n
+    (λ c. search needs)
     array-share-prefix-kinds
     slice-aggregate-answer-letters
     answer-letters-requires

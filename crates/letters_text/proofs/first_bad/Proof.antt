@@ -15,18 +15,6 @@ abbrev μ-loop : tie.MeasureT-loop
 loop-holds : tie.Need-loop-holds Inv-loop μ-loop
 loop-holds c = bad-start _
 
-shared-slice-read-b : tie.Need-shared-slice-read-b Inv-loop μ-loop
-shared-slice-read-b c = omega arith
-
-is-letter-requires : tie.Need-is-letter-requires Inv-loop μ-loop
-is-letter-requires c κs = tt
-
-add-place : tie.Need-add-place Inv-loop μ-loop
-add-place c = omega arith
-
-loop-less : tie.Need-loop-less Inv-loop μ-loop
-loop-less c = omega arith
-
 loop-again : tie.Need-loop-again Inv-loop μ-loop
 loop-again c =
     bad-later
@@ -51,10 +39,10 @@ first-bad-spec =
     Inv-loop
     μ-loop
     loop-holds
-    shared-slice-read-b
-    is-letter-requires
-    add-place
-    loop-less
+    (λ c. omega arith)
+    (λ c κs. tt)
+    (λ c. omega arith)
+    (λ c. omega arith)
     loop-again
     returns
     returns-2)

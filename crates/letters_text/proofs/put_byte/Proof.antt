@@ -5,12 +5,6 @@ use Rattle.letters_text.proofs.WroteLaws.{wrote-byte}
 use Rattle.letters_text.proofs.put_byte.Statement.{statement}
 use Rattle.letters_text.proofs.put_byte.Tie as tie
 
-slice-write-out : tie.Need-slice-write-out
-slice-write-out c = omega arith
-
-add-result : tie.Need-add-result
-add-result c = omega arith
-
 same-length : tie.Need-same-length
 same-length c = simp length-set
 
@@ -18,4 +12,4 @@ returns : tie.Need-returns
 returns c = wrote-byte _ _ _ (c .pre)
 
 pub put-byte-spec : {M : Type 1} → statement M
-put-byte-spec = tie.close (tie.spec slice-write-out add-result same-length returns)
+put-byte-spec = tie.close (tie.spec (λ c. omega arith) (λ c. omega arith) same-length returns)

@@ -10,22 +10,10 @@ use Rattle.letters_text.proofs.put_digit.Tie as tie
 returns : tie.Need-returns
 returns c = digit-skipped _ _ _ _ (c .if1 .taken)
 
-div-put-byte : tie.Need-div-put-byte
-div-put-byte c = omega arith
-
-add-put-byte : tie.Need-add-put-byte
-add-put-byte c = omega arith
-
-cast-put-byte : tie.Need-cast-put-byte
-cast-put-byte c = omega arith
-
 put-byte-requires : tie.Need-put-byte-requires
 put-byte-requires c κs =
     omega
     (arith, ap length (digit-some (c .before .before .before .args .n) (c .before .before .before .args .worth) (c .before .if1 .left)))
-
-same-length : tie.Need-same-length
-same-length c = omega arith
 
 returns-2 : tie.Need-returns-2
 returns-2 c = wrote-same (digit-some _ _ (c .before .before .before .before .if1 .left)) (c .before .before .put-byte .ensures)
@@ -35,9 +23,9 @@ put-digit-spec =
     tie.close
     (tie.spec
     returns
-    div-put-byte
-    add-put-byte
-    cast-put-byte
+    (λ c. omega arith)
+    (λ c. omega arith)
+    (λ c. omega arith)
     put-byte-requires
-    same-length
+    (λ c. omega arith)
     returns-2)

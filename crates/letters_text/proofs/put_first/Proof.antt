@@ -9,14 +9,8 @@ use Rattle.letters_text.proofs.put_first.Tie as tie
 put-head-requires : tie.Need-put-head-requires
 put-head-requires c κs = omega (arith, first-length (c .before .before .args .o))
 
-letter-of-requires : tie.Need-letter-of-requires
-letter-of-requires c κs = tt
-
 put-byte-requires : tie.Need-put-byte-requires
 put-byte-requires c κs = omega (arith, first-length (c .before .before .before .before .before .before .before .args .o))
-
-same-length : tie.Need-same-length
-same-length c = omega arith
 
 returns : tie.Need-returns
 unfolding firstLetter
@@ -28,4 +22,4 @@ returns c =
 
 pub put-first-spec : {M : Type 1} → statement M
 put-first-spec =
-    tie.close (tie.spec put-head-requires letter-of-requires put-byte-requires same-length returns)
+    tie.close (tie.spec put-head-requires (λ c κs. tt) put-byte-requires (λ c. omega arith) returns)

@@ -6,17 +6,11 @@ use Rattle.letters_text.proofs.LinesLaws.{head-length}
 use Rattle.letters_text.proofs.put_head.Statement.{statement}
 use Rattle.letters_text.proofs.put_head.Tie as tie
 
-cast-put-number : tie.Need-cast-put-number
-cast-put-number c = omega arith
-
 put-number-requires : tie.Need-put-number-requires
 put-number-requires c κs = omega (arith, head-length (c .before .before .before .args .o))
 
 put-byte-requires : tie.Need-put-byte-requires
 put-byte-requires c κs = omega (arith, head-length (c .before .before .before .before .before .before .before .args .o))
-
-same-length : tie.Need-same-length
-same-length c = omega arith
 
 returns : tie.Need-returns
 unfolding lineHead
@@ -24,4 +18,4 @@ returns c = wrote-more (c .before .before .before .before .before .before .put-n
 
 pub put-head-spec : {M : Type 1} → statement M
 put-head-spec =
-    tie.close (tie.spec cast-put-number put-number-requires put-byte-requires same-length returns)
+    tie.close (tie.spec (λ c. omega arith) put-number-requires put-byte-requires (λ c. omega arith) returns)

@@ -9,16 +9,10 @@ use Rattle.letters_text.proofs.put_next.Tie as tie
 put-parting-requires : tie.Need-put-parting-requires
 put-parting-requires c κs = omega (arith, next-length (c .before .before .args .p) (c .before .before .args .o))
 
-letter-of-requires : tie.Need-letter-of-requires
-letter-of-requires c κs = tt
-
 put-byte-requires : tie.Need-put-byte-requires
 put-byte-requires c κs =
     omega
     (arith, next-length (c .before .before .before .before .before .before .before .args .p) (c .before .before .before .before .before .before .before .args .o))
-
-same-length : tie.Need-same-length
-same-length c = omega arith
 
 returns : tie.Need-returns
 unfolding nextLetter
@@ -31,4 +25,4 @@ returns c =
 pub put-next-spec : {M : Type 1} → statement M
 put-next-spec =
     tie.close
-    (tie.spec put-parting-requires letter-of-requires put-byte-requires same-length returns)
+    (tie.spec put-parting-requires (λ c κs. tt) put-byte-requires (λ c. omega arith) returns)

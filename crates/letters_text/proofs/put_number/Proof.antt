@@ -15,19 +15,10 @@ put-digit-requires-2 c κs = omega (arith, decimal-length (c .before .before .be
 put-digit-requires-3 : tie.Need-put-digit-requires-3
 put-digit-requires-3 c κs = omega (arith, decimal-length (c .before .before .before .before .before .before .before .before .before .before .args .n))
 
-add-put-byte : tie.Need-add-put-byte
-add-put-byte c = omega arith
-
-cast-put-byte : tie.Need-cast-put-byte
-cast-put-byte c = omega arith
-
 put-byte-requires : tie.Need-put-byte-requires
 put-byte-requires c κs =
     omega
     (arith, decimal-length (c .before .before .before .before .before .before .before .before .before .before .before .before .before .before .args .n))
-
-same-length : tie.Need-same-length
-same-length c = omega arith
 
 returns : tie.Need-returns
 unfolding decimal
@@ -45,8 +36,8 @@ put-number-spec =
     put-digit-requires
     put-digit-requires-2
     put-digit-requires-3
-    add-put-byte
-    cast-put-byte
+    (λ c. omega arith)
+    (λ c. omega arith)
     put-byte-requires
-    same-length
+    (λ c. omega arith)
     returns)

@@ -17,9 +17,6 @@ put-head-requires c κs =
     let a = c .before .before .before .before .before .before .before .before .before .args in
     omega (arith, ap length (parting-line (a .p) (a .o) (c .before .before .before .before .before .if1 .taken)))
 
-same-length : tie.Need-same-length
-same-length c = omega arith
-
 returns : tie.Need-returns
 returns c =
     wrote-same
@@ -31,9 +28,6 @@ put-byte-requires-2 c κs =
     let a = c .before .before .before .before .before .before .before .before .args in
     omega (arith, ap length (parting-bar (a .p) (a .o) (c .before .before .before .before .if1 .left) (c .before .if2 .taken)))
 
-same-length-2 : tie.Need-same-length-2
-same-length-2 c = omega arith
-
 returns-2 : tie.Need-returns-2
 returns-2 c =
     wrote-same
@@ -44,9 +38,6 @@ put-byte-requires-3 : tie.Need-put-byte-requires-3
 put-byte-requires-3 c κs =
     let a = c .before .before .before .before .before .before .before .before .before .before .before .args in
     omega (arith, ap length (parting-comma (a .p) (a .o) (c .before .before .before .before .before .before .before .if1 .left) (c .before .before .before .before .if2 .left) (c .before .if3 .taken)))
-
-same-length-3 : tie.Need-same-length-3
-same-length-3 c = omega arith
 
 returns-3 : tie.Need-returns-3
 returns-3 c =
@@ -68,12 +59,12 @@ put-parting-spec =
     (tie.spec
     put-byte-requires
     put-head-requires
-    same-length
+    (λ c. omega arith)
     returns
     put-byte-requires-2
-    same-length-2
+    (λ c. omega arith)
     returns-2
     put-byte-requires-3
-    same-length-3
+    (λ c. omega arith)
     returns-3
     returns-4)

@@ -7,17 +7,8 @@ use Rattle.letters_text.proofs.read_text.Tie as tie
 returns : tie.Need-returns
 returns c = text-long _ _ (c .if1 .taken)
 
-first-bad-requires : tie.Need-first-bad-requires
-first-bad-requires c κs = tt
-
 returns-2 : tie.Need-returns-2
 returns-2 c = text-bad _ _ _ (c .before .before .if1 .left) (c .before .first-bad .ensures) (c .if2 .taken)
-
-fill-kinds-requires : tie.Need-fill-kinds-requires
-fill-kinds-requires c κs = omega arith
-
-same-length : tie.Need-same-length
-same-length c = omega arith
 
 returns-3 : tie.Need-returns-3
 returns-3 c =
@@ -30,4 +21,4 @@ returns-3 c =
 pub read-text-spec : {M : Type 1} → statement M
 read-text-spec =
     tie.close
-    (tie.spec returns first-bad-requires returns-2 fill-kinds-requires same-length returns-3)
+    (tie.spec returns (λ c κs. tt) returns-2 (λ c κs. omega arith) (λ c. omega arith) returns-3)

@@ -7,15 +7,6 @@ use Rattle.letters_text.proofs.trimmed_length.Tie as tie
 returns : tie.Need-returns
 returns c = trimmed-none _ (c .if1 .taken)
 
-sub-last : tie.Need-sub-last
-sub-last c = omega arith
-
-shared-slice-read-last : tie.Need-shared-slice-read-last
-shared-slice-read-last c = omega arith
-
-sub-result : tie.Need-sub-result
-sub-result c = omega arith
-
 returns-2 : tie.Need-returns-2
 returns-2 c = trimmed-feed _ (c .if2 .taken)
 
@@ -24,4 +15,4 @@ returns-3 c = trimmed-whole _ (c .if2 .left)
 
 pub trimmed-length-spec : {M : Type 1} → statement M
 trimmed-length-spec =
-    tie.close (tie.spec returns sub-last shared-slice-read-last sub-result returns-2 returns-3)
+    tie.close (tie.spec returns (λ c. omega arith) (λ c. omega arith) (λ c. omega arith) returns-2 returns-3)

@@ -6,12 +6,6 @@ use Rattle.letters_text.proofs.DecimalLaws.{decimal-four}
 use Rattle.letters_text.proofs.write_bad.Statement.{statement}
 use Rattle.letters_text.proofs.write_bad.Tie as tie
 
-slice-aggregate-put-word : tie.Need-slice-aggregate-put-word
-slice-aggregate-put-word c = omega arith
-
-put-word-requires : tie.Need-put-word-requires
-put-word-requires c κs = omega arith
-
 put-number-requires : tie.Need-put-number-requires
 put-number-requires c κs = omega (arith, decimal-four (c .before .before .before .before .before .before .before .args .place))
 
@@ -19,9 +13,6 @@ put-byte-requires : tie.Need-put-byte-requires
 put-byte-requires c κs =
     omega
     (arith, decimal-four (c .before .before .before .before .before .before .before .before .before .before .before .args .place))
-
-same-length : tie.Need-same-length
-same-length c = omega arith
 
 returns : tie.Need-returns
 unfolding badLine
@@ -35,9 +26,9 @@ pub write-bad-spec : {M : Type 1} → statement M
 write-bad-spec =
     tie.close
     (tie.spec
-    slice-aggregate-put-word
-    put-word-requires
+    (λ c. omega arith)
+    (λ c κs. omega arith)
     put-number-requires
     put-byte-requires
-    same-length
+    (λ c. omega arith)
     returns)

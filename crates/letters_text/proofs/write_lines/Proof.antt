@@ -45,9 +45,6 @@ add-i c =
     omega
     (arith, c .before .before .before .before .before .before .before .before .before .before .before .before .before .before .before .before .before .before .before .good .0)
 
-loop-less : tie.Need-loop-less Inv-loop μ-loop
-loop-less c = omega arith
-
 loop-again : tie.Need-loop-again Inv-loop μ-loop
 loop-again c =
     lines-turn
@@ -58,9 +55,6 @@ loop-again c =
 
 put-byte-requires : tie.Need-put-byte-requires Inv-loop μ-loop
 put-byte-requires c κs = last-room (c .before .before .loop .inv) (c .before .loop-test .left)
-
-same-length : tie.Need-same-length Inv-loop μ-loop
-same-length c = omega arith
 
 returns-2 : tie.Need-returns-2 Inv-loop μ-loop
 returns-2 c =
@@ -84,8 +78,8 @@ write-lines-spec =
     object-at-requires-2
     put-next-requires
     add-i
-    loop-less
+    (λ c. omega arith)
     loop-again
     put-byte-requires
-    same-length
+    (λ c. omega arith)
     returns-2)

@@ -7,14 +7,8 @@ use Rattle.replay_cases.proofs.follows.Tie as tie
 returns : tie.Need-returns
 returns c = own-follows _ _ (c .if1 .taken)
 
-both-requires : tie.Need-both-requires
-both-requires c κs = omega arith
-
 returns-2 : tie.Need-returns-2
 returns-2 c = stretch-follows _ _ (c .before .before .before .if1 .left) (c .before .both .ensures) (c .if2 .taken)
-
-both-requires-2 : tie.Need-both-requires-2
-both-requires-2 c κs = omega arith
 
 returns-3 : tie.Need-returns-3
 returns-3 c = record-follows _ _ (c .before .before .before .before .before .before .if1 .left) (c .before .before .before .before .both .ensures) (c .before .both2 .ensures) (c .before .before .before .if2 .left) (c .if3 .taken)
@@ -24,4 +18,4 @@ returns-4 c = none-follows _ _ (c .before .before .before .before .before .befor
 
 pub follows-spec : {M : Type 1} → statement M
 follows-spec =
-    tie.close (tie.spec returns both-requires returns-2 both-requires-2 returns-3 returns-4)
+    tie.close (tie.spec returns (λ c κs. omega arith) returns-2 (λ c κs. omega arith) returns-3 returns-4)

@@ -15,9 +15,6 @@ counted : (n : ℕ) → n ≤ 16384 → T (inFloat binary64 (pos n))
 unfolding inFloat
 counted n h = le→leb n (2 ^ 53) (le-trans h (lit≤ tt))
 
-sum-requires : tie.Need-sum-requires
-sum-requires c κs = search needs
-
 int-to-float-result : tie.Need-int-to-float-result
 int-to-float-result c = counted _ (c .before .before .before .pre)
 
@@ -26,4 +23,4 @@ unfolding averageOf
 returns c = ap (λ (z : Float). div binary64 z (ofInt binary64 (pos (length (c .before .before .before .args .values .now))))) (c .before .sum .ensures)
 
 pub average-spec : {M : Type 1} → statement M
-average-spec = tie.close (tie.spec sum-requires int-to-float-result returns)
+average-spec = tie.close (tie.spec (λ c κs. search needs) int-to-float-result returns)

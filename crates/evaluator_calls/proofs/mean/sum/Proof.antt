@@ -32,18 +32,6 @@ loop-holds : tie.Need-loop-holds Inv-loop μ-loop
 unfolding ofBits
 loop-holds c = (omega arith, refl)
 
-mul-sum : tie.Need-mul-sum Inv-loop μ-loop
-mul-sum c = search needs
-
-shared-slice-read-sum : tie.Need-shared-slice-read-sum Inv-loop μ-loop
-shared-slice-read-sum c = omega arith
-
-add-i : tie.Need-add-i Inv-loop μ-loop
-add-i c = search needs
-
-loop-less : tie.Need-loop-less Inv-loop μ-loop
-loop-less c = omega arith
-
 loop-again : tie.Need-loop-again Inv-loop μ-loop
 loop-again c = (omega arith, step _ _ _ (c .before .loop-test .taken) ∙ c .before .before .loop .inv .1)
 
@@ -57,9 +45,9 @@ sum-spec =
     Inv-loop
     μ-loop
     loop-holds
-    mul-sum
-    shared-slice-read-sum
-    add-i
-    loop-less
+    (λ c. search needs)
+    (λ c. omega arith)
+    (λ c. search needs)
+    (λ c. omega arith)
     loop-again
     returns)

@@ -25,15 +25,6 @@ module _ (v : Verdict) (kinds : List ℕ) (a b n : ℕ) (e : v ≡ Accepted) (f 
   stretch-refused : (n ≡ 0 → ⊥) → refused n ≡ stretchVerdict v kinds a b
   stretch-refused h = sym (rw (ne-eqb n 0 h)) ∙ stretch-refusal v kinds a b n e f
 
-enum-known-verdict : tie.Need-enum-known-verdict
-enum-known-verdict c = search needs
-
-enum-told : tie.Need-enum-told
-enum-told c = search needs
-
-stretch-refusal-requires : tie.Need-stretch-refusal-requires
-stretch-refusal-requires c κs = search needs
-
 returns : tie.Need-returns
 returns c = accepted _ _ _ _ _ (c .before .before .enum-told .given .1) (c .before .stretch-refusal .ensures) (c .if1 .taken)
 
@@ -46,4 +37,4 @@ returns-3 c = stretch-refused _ _ _ _ _ (c .before .before .enum-told .given .1)
 pub with-bounds-spec : {M : Type 1} → statement M
 with-bounds-spec =
     tie.close
-    (tie.spec enum-known-verdict enum-told stretch-refusal-requires returns returns-2 returns-3)
+    (tie.spec (λ c. search needs) (λ c. search needs) (λ c κs. search needs) returns returns-2 returns-3)

@@ -13,22 +13,10 @@ start c = c .before .before .before .before .before .before .before .before
 abbrev place : tie.After-fill-intervals → tie.After-locate
 place c = c .before .before .before .before .before .before .before .before .before
 
-locate-requires : tie.Need-locate-requires
-locate-requires c κs = search needs
-
 add-fill-intervals : tie.Need-add-fill-intervals
 add-fill-intervals c =
     let l = c .before .before .before .before .before in
     omega (arith, groups-small (start l .pre) (l .locate .ensures))
-
-mul-fill-intervals : tie.Need-mul-fill-intervals
-mul-fill-intervals c = search needs
-
-sub-fill-intervals : tie.Need-sub-fill-intervals
-sub-fill-intervals c = search needs
-
-part-fill-intervals-start : tie.Need-part-fill-intervals-start
-part-fill-intervals-start c = search needs
 
 part-fill-intervals-end : tie.Need-part-fill-intervals-end
 part-fill-intervals-end c =
@@ -69,12 +57,6 @@ pattern-at-requires c κs =
     let l = place f in
     omega (arith, group-below (start l .pre) (l .locate .ensures), intervals-counted (start l .pre) (l .locate .ensures) (f .fill-intervals .ensures))
 
-same-length : tie.Need-same-length
-same-length c = search needs
-
-same-length-2 : tie.Need-same-length-2
-same-length-2 c = search needs
-
 returns : tie.Need-returns
 returns c =
     let f = c .before .before .before .before .before in
@@ -85,11 +67,11 @@ pub find-spec : {M : Type 1} → statement M
 find-spec =
     tie.close
     (tie.spec
-    locate-requires
+    (λ c κs. search needs)
     add-fill-intervals
-    mul-fill-intervals
-    sub-fill-intervals
-    part-fill-intervals-start
+    (λ c. search needs)
+    (λ c. search needs)
+    (λ c. search needs)
     part-fill-intervals-end
     fill-intervals-requires
     mul-interval
@@ -97,6 +79,6 @@ find-spec =
     slice-reshare-prefix-pattern-at
     slice-aggregate-pattern-at
     pattern-at-requires
-    same-length
-    same-length-2
+    (λ c. search needs)
+    (λ c. search needs)
     returns)

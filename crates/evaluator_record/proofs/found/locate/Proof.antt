@@ -27,9 +27,6 @@ reading c =
 last : (c : tie.After-reach) → c .reach .result .end - 1 < c .reach .result .end
 last c = omega (arith, reading c .from)
 
-list-notes-requires : tie.Need-list-notes-requires
-list-notes-requires c κs = search needs
-
 slice-reshare-prefix-list-firsts : tie.Need-slice-reshare-prefix-list-firsts
 slice-reshare-prefix-list-firsts c =
     let l = c .before .before .before .before in
@@ -75,9 +72,6 @@ cast-first c =
     let r = c .before .before .before .before in
     omega (arith, reading r .small _ (reading r .from))
 
-sub-last : tie.Need-sub-last
-sub-last c = search needs
-
 mul-last : tie.Need-mul-last
 mul-last c =
     let r = c .before .before .before .before in
@@ -92,9 +86,6 @@ cast-last : tie.Need-cast-last
 cast-last c =
     let r = c .before .before .before .before .before in
     omega (arith, reading r .small _ (last r))
-
-sub-notes : tie.Need-sub-notes
-sub-notes c = search needs
 
 mul-duration : tie.Need-mul-duration
 mul-duration c =
@@ -116,12 +107,6 @@ shared-slice-read-duration-2 c =
     let r = c .before .before .before .before .before .before .before in
     reading r .started _ (reading r .from)
 
-same-length : tie.Need-same-length
-same-length c = search needs
-
-same-length-2 : tie.Need-same-length-2
-same-length-2 c = search needs
-
 returns : tie.Need-returns
 returns c =
     let r = c .before .before .before .before .before .before .before in
@@ -133,7 +118,7 @@ pub locate-spec : {M : Type 1} → statement M
 locate-spec =
     tie.close
     (tie.spec
-    list-notes-requires
+    (λ c κs. search needs)
     slice-reshare-prefix-list-firsts
     slice-aggregate-list-firsts
     list-firsts-requires
@@ -143,15 +128,15 @@ locate-spec =
     mul-first
     slice-read-first
     cast-first
-    sub-last
+    (λ c. search needs)
     mul-last
     slice-read-last
     cast-last
-    sub-notes
+    (λ c. search needs)
     mul-duration
     shared-slice-read-duration
     mul-duration-2
     shared-slice-read-duration-2
-    same-length
-    same-length-2
+    (λ c. search needs)
+    (λ c. search needs)
     returns)

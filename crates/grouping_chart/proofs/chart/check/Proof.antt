@@ -8,9 +8,6 @@ use Rattle.grouping_chart.proofs.chart.check.Tie as tie
 returns : tie.Need-returns
 returns c = sym (verdict-1 _ _ (c .if1 .taken))
 
-lengths-even-requires : tie.Need-lengths-even-requires
-lengths-even-requires c κs = tt
-
 returns-2 : tie.Need-returns-2
 returns-2 c =
     let even-true = sym (c .before .before .lengths-even .ensures) ∙ c .before .if2 .taken in
@@ -30,4 +27,4 @@ returns-4 c = sym (verdict-2 _ _ (c .before .before .if1 .left) (sym (c .before 
 pub check-spec : {M : Type 1} → statement M
 check-spec =
     tie.close
-    (tie.spec returns lengths-even-requires returns-2 check-objects-requires returns-3 returns-4)
+    (tie.spec returns (λ c κs. tt) returns-2 check-objects-requires returns-3 returns-4)

@@ -24,41 +24,11 @@ abbrev μ-loop : tie.MeasureT-loop
 loop-holds : tie.Need-loop-holds Inv-loop μ-loop
 loop-holds c = record { within = omega arith; same = refl }
 
-shared-slice-read-object-refusal : tie.Need-shared-slice-read-object-refusal Inv-loop μ-loop
-shared-slice-read-object-refusal c = omega arith
-
-mul-object-refusal : tie.Need-mul-object-refusal Inv-loop μ-loop
-mul-object-refusal c = omega arith
-
-shared-slice-read-object-refusal-2 : tie.Need-shared-slice-read-object-refusal-2 Inv-loop μ-loop
-shared-slice-read-object-refusal-2 c = omega arith
-
-mul-object-refusal-2 : tie.Need-mul-object-refusal-2 Inv-loop μ-loop
-mul-object-refusal-2 c = omega arith
-
-shared-slice-read-object-refusal-3 : tie.Need-shared-slice-read-object-refusal-3 Inv-loop μ-loop
-shared-slice-read-object-refusal-3 c = omega arith
-
-mul-object-refusal-3 : tie.Need-mul-object-refusal-3 Inv-loop μ-loop
-mul-object-refusal-3 c = omega arith
-
-shared-slice-read-object-refusal-4 : tie.Need-shared-slice-read-object-refusal-4 Inv-loop μ-loop
-shared-slice-read-object-refusal-4 c = omega arith
-
-object-refusal-requires : tie.Need-object-refusal-requires Inv-loop μ-loop
-object-refusal-requires c κs = tt
-
 returns : tie.Need-returns Inv-loop μ-loop
 returns c =
     let at-loop = c .before .before .before .before .before .before .before .before in
     first-here _ _ _ _ (at-loop .loop .at .0) _ (at-loop .before .before .before .before .before .pre) _ (omega arith) (c .before .object-refusal .ensures) (c .if2 .taken)
     ∙ at-loop .loop .inv .same
-
-add-t8 : tie.Need-add-t8 Inv-loop μ-loop
-add-t8 c = omega arith
-
-loop-less : tie.Need-loop-less Inv-loop μ-loop
-loop-less c = omega arith
 
 loop-again : tie.Need-loop-again Inv-loop μ-loop
 loop-again c =
@@ -79,16 +49,16 @@ first-refused-spec =
     Inv-loop
     μ-loop
     loop-holds
-    shared-slice-read-object-refusal
-    mul-object-refusal
-    shared-slice-read-object-refusal-2
-    mul-object-refusal-2
-    shared-slice-read-object-refusal-3
-    mul-object-refusal-3
-    shared-slice-read-object-refusal-4
-    object-refusal-requires
+    (λ c. omega arith)
+    (λ c. omega arith)
+    (λ c. omega arith)
+    (λ c. omega arith)
+    (λ c. omega arith)
+    (λ c. omega arith)
+    (λ c. omega arith)
+    (λ c κs. tt)
     returns
-    add-t8
-    loop-less
+    (λ c. omega arith)
+    (λ c. omega arith)
     loop-again
     returns-2)

@@ -5,9 +5,6 @@ use Rattle.grouping_chart.proofs.RefusalLaws.{refusal-kind, refusal-4}
 use Rattle.grouping_chart.proofs.chart.object_refusal.Statement.{statement}
 use Rattle.grouping_chart.proofs.chart.object_refusal.Tie as tie
 
-times-refusal-requires : tie.Need-times-refusal-requires
-times-refusal-requires c κs = tt
-
 returns : tie.Need-returns
 returns c = c .times-refusal .ensures ∙ refusal-kind _ _ _ (c .before .before .args .kind) (omega arith)
 
@@ -15,4 +12,4 @@ returns-2 : tie.Need-returns-2
 returns-2 c = refusal-4 _ _ _ (c .before .args .kind) (omega arith)
 
 pub object-refusal-spec : {M : Type 1} → statement M
-object-refusal-spec = tie.close (tie.spec times-refusal-requires returns returns-2)
+object-refusal-spec = tie.close (tie.spec (λ c κs. tt) returns returns-2)

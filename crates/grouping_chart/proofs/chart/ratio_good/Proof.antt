@@ -5,12 +5,9 @@ use Rattle.grouping_chart.specs.Refusal.{ratioGood}
 use Rattle.grouping_chart.proofs.chart.ratio_good.Statement.{statement}
 use Rattle.grouping_chart.proofs.chart.ratio_good.Tie as tie
 
-value-within-requires : tie.Need-value-within-requires
-value-within-requires c κs = search needs
-
 returns : tie.Need-returns
 unfolding ratioGood ofBits
 returns c = c .value-within .ensures
 
 pub ratio-good-spec : {M : Type 1} → statement M
-ratio-good-spec = tie.close (tie.spec value-within-requires returns)
+ratio-good-spec = tie.close (tie.spec (λ c κs. search needs) returns)

@@ -5,12 +5,9 @@ use Rattle.grouping_chart.specs.Refusal.{timeGood}
 use Rattle.grouping_chart.proofs.chart.time_good.Statement.{statement}
 use Rattle.grouping_chart.proofs.chart.time_good.Tie as tie
 
-value-within-requires : tie.Need-value-within-requires
-value-within-requires c κs = search needs
-
 returns : tie.Need-returns
 unfolding timeGood ofBits neg
 returns c = c .value-within .ensures
 
 pub time-good-spec : {M : Type 1} → statement M
-time-good-spec = tie.close (tie.spec value-within-requires returns)
+time-good-spec = tie.close (tie.spec (λ c κs. search needs) returns)

@@ -4,15 +4,6 @@ use Rattle.grouping_chart.proofs.RefusalLaws.{refusal-0, refusal-7, ref
 use Rattle.grouping_chart.proofs.chart.times_refusal.Statement.{statement}
 use Rattle.grouping_chart.proofs.chart.times_refusal.Tie as tie
 
-time-good-requires : tie.Need-time-good-requires
-time-good-requires c κs = tt
-
-time-good-requires-2 : tie.Need-time-good-requires-2
-time-good-requires-2 c κs = tt
-
-ratio-good-requires : tie.Need-ratio-good-requires
-ratio-good-requires c κs = tt
-
 returns : tie.Need-returns
 returns c =
     let at-delta = c .before .before in
@@ -37,9 +28,9 @@ pub times-refusal-spec : {M : Type 1} → statement M
 times-refusal-spec =
     tie.close
     (tie.spec
-    time-good-requires
-    time-good-requires-2
-    ratio-good-requires
+    (λ c κs. tt)
+    (λ c κs. tt)
+    (λ c κs. tt)
     returns
     returns-2
     returns-3

@@ -6,18 +6,6 @@ use borrow.Author.Needs.{needs}
 use Rattle.grouping_chart.proofs.good.all_good.Statement.{statement}
 use Rattle.grouping_chart.proofs.good.all_good.Tie as tie
 
-kinds-good-requires : tie.Need-kinds-good-requires
-kinds-good-requires c κs = search needs
-
-all-within-requires : tie.Need-all-within-requires
-all-within-requires c κs = search needs
-
-all-within-requires-2 : tie.Need-all-within-requires-2
-all-within-requires-2 c κs = search needs
-
-all-within-requires-3 : tie.Need-all-within-requires-3
-all-within-requires-3 c κs = search needs
-
 returns : tie.Need-returns
 unfolding allGood ofBits neg
 returns c = λ t. c .before .before .before .kinds-good .ensures t && (c .before .before .all-within .ensures t && (c .before .all-within2 .ensures t && c .all-within3 .ensures t))
@@ -26,8 +14,8 @@ pub all-good-spec : {M : Type 1} → statement M
 all-good-spec =
     tie.close
     (tie.spec
-    kinds-good-requires
-    all-within-requires
-    all-within-requires-2
-    all-within-requires-3
+    (λ c κs. search needs)
+    (λ c κs. search needs)
+    (λ c κs. search needs)
+    (λ c κs. search needs)
     returns)

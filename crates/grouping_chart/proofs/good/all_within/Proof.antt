@@ -16,18 +16,6 @@ abbrev μ-loop : tie.MeasureT-loop
 loop-holds : tie.Need-loop-holds Inv-loop μ-loop
 loop-holds c = tested-none _ _
 
-mul-x : tie.Need-mul-x Inv-loop μ-loop
-mul-x c = omega arith
-
-shared-slice-read-x : tie.Need-shared-slice-read-x Inv-loop μ-loop
-shared-slice-read-x c = omega arith
-
-add-i : tie.Need-add-i Inv-loop μ-loop
-add-i c = omega arith
-
-loop-less : tie.Need-loop-less Inv-loop μ-loop
-loop-less c = omega arith
-
 loop-again : tie.Need-loop-again Inv-loop μ-loop
 loop-again c = tested-next _ (c .before .before .loop .inv) (omega arith) (within-both _ _ _)
 
@@ -41,9 +29,9 @@ all-within-spec =
     Inv-loop
     μ-loop
     loop-holds
-    mul-x
-    shared-slice-read-x
-    add-i
-    loop-less
+    (λ c. omega arith)
+    (λ c. omega arith)
+    (λ c. omega arith)
+    (λ c. omega arith)
     loop-again
     returns)

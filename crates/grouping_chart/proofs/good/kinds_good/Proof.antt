@@ -17,15 +17,6 @@ abbrev μ-loop : tie.MeasureT-loop
 loop-holds : tie.Need-loop-holds Inv-loop μ-loop
 loop-holds c = tested-none _ _
 
-shared-slice-read-here : tie.Need-shared-slice-read-here Inv-loop μ-loop
-shared-slice-read-here c = omega arith
-
-add-i : tie.Need-add-i Inv-loop μ-loop
-add-i c = omega arith
-
-loop-less : tie.Need-loop-less Inv-loop μ-loop
-loop-less c = omega arith
-
 loop-again : tie.Need-loop-again Inv-loop μ-loop
 loop-again c = tested-next 0 (c .before .before .loop .inv) (omega arith) refl
 
@@ -35,4 +26,4 @@ returns c = tested-all (c .before .loop .inv) (omega arith)
 pub kinds-good-spec : {M : Type 1} → statement M
 kinds-good-spec =
     tie.close
-    (tie.spec Inv-loop μ-loop loop-holds shared-slice-read-here add-i loop-less loop-again returns)
+    (tie.spec Inv-loop μ-loop loop-holds (λ c. omega arith) (λ c. omega arith) (λ c. omega arith) loop-again returns)

@@ -4,12 +4,6 @@ use native.Mathlib.Omega.{arith}
 use Rattle.grouping_chart.proofs.object.note_after.Statement.{statement}
 use Rattle.grouping_chart.proofs.object.note_after.Tie as tie
 
-is-note-requires : tie.Need-is-note-requires
-is-note-requires c κs = tt
-
-add-t6 : tie.Need-add-t6
-add-t6 c = omega arith
-
 returns : tie.Need-returns
 returns c = rw (sym (c .before .is-note .ensures) ∙ c .if1 .taken)
 
@@ -17,4 +11,4 @@ returns-2 : tie.Need-returns-2
 returns-2 c = rw (sym (c .before .is-note .ensures) ∙ c .if1 .left)
 
 pub note-after-spec : {M : Type 1} → statement M
-note-after-spec = tie.close (tie.spec is-note-requires add-t6 returns returns-2)
+note-after-spec = tie.close (tie.spec (λ c κs. tt) (λ c. omega arith) returns returns-2)

@@ -3,9 +3,6 @@ use mathlib.Core.Path.{sym, _∙_}
 use Rattle.grouping_chart.proofs.object.note_index.Statement.{statement}
 use Rattle.grouping_chart.proofs.object.note_index.Tie as tie
 
-is-note-requires : tie.Need-is-note-requires
-is-note-requires c κs = tt
-
 returns : tie.Need-returns
 returns c = rw (sym (c .before .is-note .ensures) ∙ c .if1 .taken)
 
@@ -13,4 +10,4 @@ returns-2 : tie.Need-returns-2
 returns-2 c = rw (sym (c .before .is-note .ensures) ∙ c .if1 .left)
 
 pub note-index-spec : {M : Type 1} → statement M
-note-index-spec = tie.close (tie.spec is-note-requires returns returns-2)
+note-index-spec = tie.close (tie.spec (λ c κs. tt) returns returns-2)

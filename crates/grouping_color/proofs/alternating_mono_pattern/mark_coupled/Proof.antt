@@ -18,24 +18,6 @@ abbrev μ-loop : tie.MeasureT-loop
 loop-holds : tie.Need-loop-holds Inv-loop μ-loop
 loop-holds c = coupled-start (c .before .pre)
 
-is-coupled-requires : tie.Need-is-coupled-requires Inv-loop μ-loop
-is-coupled-requires c κs = search needs
-
-add-w : tie.Need-add-w Inv-loop μ-loop
-add-w c = omega arith
-
-mul-w : tie.Need-mul-w Inv-loop μ-loop
-mul-w c = omega arith
-
-slice-write-w : tie.Need-slice-write-w Inv-loop μ-loop
-slice-write-w c = omega arith
-
-add-i : tie.Need-add-i Inv-loop μ-loop
-add-i c = omega arith
-
-loop-less : tie.Need-loop-less Inv-loop μ-loop
-loop-less c = omega arith
-
 loop-again : tie.Need-loop-again Inv-loop μ-loop
 loop-again c = coupled-turn (c .before .before .before .before .before .pre) (c .before .before .before .loop .inv) (omega arith) (c .is-coupled .ensures)
 
@@ -52,12 +34,12 @@ mark-coupled-spec =
     Inv-loop
     μ-loop
     loop-holds
-    is-coupled-requires
-    add-w
-    mul-w
-    slice-write-w
-    add-i
-    loop-less
+    (λ c κs. search needs)
+    (λ c. omega arith)
+    (λ c. omega arith)
+    (λ c. omega arith)
+    (λ c. omega arith)
+    (λ c. omega arith)
     loop-again
     same-length
     returns)

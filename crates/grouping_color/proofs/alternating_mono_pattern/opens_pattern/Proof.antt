@@ -7,27 +7,6 @@ use Rattle.grouping_color.proofs.alternating_mono_pattern.opens_pattern
 returns : tie.Need-returns
 returns c = opens-first _ _ _ _ (c .before .pre .1) (c .if1 .taken)
 
-add-if2 : tie.Need-add-if2
-add-if2 c = omega arith
-
-mul-if2 : tie.Need-mul-if2
-mul-if2 c = omega arith
-
-shared-slice-read-if2 : tie.Need-shared-slice-read-if2
-shared-slice-read-if2 c = omega arith
-
-add-if2-2 : tie.Need-add-if2-2
-add-if2-2 c = omega arith
-
-sub-if2 : tie.Need-sub-if2
-sub-if2 c = omega arith
-
-mul-if2-2 : tie.Need-mul-if2-2
-mul-if2-2 c = omega arith
-
-shared-slice-read-if2-2 : tie.Need-shared-slice-read-if2-2
-shared-slice-read-if2-2 c = omega arith
-
 returns-2 : tie.Need-returns-2
 returns-2 c = opens-same _ _ _ _ (c .before .before .before .before .pre .1) (c .before .before .before .if1 .left) (c .if2 .taken)
 
@@ -39,12 +18,12 @@ opens-pattern-spec =
     tie.close
     (tie.spec
     returns
-    add-if2
-    mul-if2
-    shared-slice-read-if2
-    add-if2-2
-    sub-if2
-    mul-if2-2
-    shared-slice-read-if2-2
+    (λ c. omega arith)
+    (λ c. omega arith)
+    (λ c. omega arith)
+    (λ c. omega arith)
+    (λ c. omega arith)
+    (λ c. omega arith)
+    (λ c. omega arith)
     returns-2
     returns-3)

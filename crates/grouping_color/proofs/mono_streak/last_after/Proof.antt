@@ -4,9 +4,6 @@ use borrow.Author.Needs.{needs}
 use Rattle.grouping_color.proofs.mono_streak.last_after.Statement.{statement}
 use Rattle.grouping_color.proofs.mono_streak.last_after.Tie as tie
 
-is-note-requires : tie.Need-is-note-requires
-is-note-requires c κs = search needs
-
 returns : tie.Need-returns
 returns c = rw (sym (c .before .is-note .ensures) ∙ c .if1 .taken)
 
@@ -14,4 +11,4 @@ returns-2 : tie.Need-returns-2
 returns-2 c = rw (sym (c .before .is-note .ensures) ∙ c .if1 .left)
 
 pub last-after-spec : {M : Type 1} → statement M
-last-after-spec = tie.close (tie.spec is-note-requires returns returns-2)
+last-after-spec = tie.close (tie.spec (λ c κs. search needs) returns returns-2)

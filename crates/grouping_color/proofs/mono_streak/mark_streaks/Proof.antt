@@ -19,36 +19,6 @@ abbrev μ-loop : tie.MeasureT-loop
 loop-holds : tie.Need-loop-holds Inv-loop μ-loop
 loop-holds c = (start seenNext opensSeen seen₀ _ _ _ _ refl (c .before .before .pre), omega arith)
 
-shared-slice-read-k : tie.Need-shared-slice-read-k Inv-loop μ-loop
-shared-slice-read-k c = omega arith
-
-note-index-requires : tie.Need-note-index-requires Inv-loop μ-loop
-note-index-requires c κs = search needs
-
-opens-streak-requires : tie.Need-opens-streak-requires Inv-loop μ-loop
-opens-streak-requires c κs = search needs
-
-add-w : tie.Need-add-w Inv-loop μ-loop
-add-w c = omega arith
-
-mul-w : tie.Need-mul-w Inv-loop μ-loop
-mul-w c = omega arith
-
-slice-write-w : tie.Need-slice-write-w Inv-loop μ-loop
-slice-write-w c = omega arith
-
-note-after-requires : tie.Need-note-after-requires Inv-loop μ-loop
-note-after-requires c κs = search needs
-
-last-after-requires : tie.Need-last-after-requires Inv-loop μ-loop
-last-after-requires c κs = search needs
-
-add-t10 : tie.Need-add-t10 Inv-loop μ-loop
-add-t10 c = omega arith
-
-loop-less : tie.Need-loop-less Inv-loop μ-loop
-loop-less c = omega arith
-
 loop-again : tie.Need-loop-again Inv-loop μ-loop
 loop-again c =
     let l = c .before .before .before .before .before .before .before .loop .inv in (
@@ -69,16 +39,16 @@ mark-streaks-spec =
     Inv-loop
     μ-loop
     loop-holds
-    shared-slice-read-k
-    note-index-requires
-    opens-streak-requires
-    add-w
-    mul-w
-    slice-write-w
-    note-after-requires
-    last-after-requires
-    add-t10
-    loop-less
+    (λ c. omega arith)
+    (λ c κs. search needs)
+    (λ c κs. search needs)
+    (λ c. omega arith)
+    (λ c. omega arith)
+    (λ c. omega arith)
+    (λ c κs. search needs)
+    (λ c κs. search needs)
+    (λ c. omega arith)
+    (λ c. omega arith)
     loop-again
     same-length
     returns)

@@ -6,14 +6,8 @@ use Rattle.grouping_marks.proofs.OverLaws.{put-front}
 use Rattle.grouping_marks.proofs.fill.clear.Statement.{statement}
 use Rattle.grouping_marks.proofs.fill.clear.Tie as tie
 
-store-all-requires : tie.Need-store-all-requires
-store-all-requires c κs = omega arith
-
-same-length : tie.Need-same-length
-same-length c = search needs
-
 returns : tie.Need-returns
 returns c = c .before .before .store-all .ensures ∙ put-front _ _
 
 pub clear-spec : {M : Type 1} → statement M
-clear-spec = tie.close (tie.spec store-all-requires same-length returns)
+clear-spec = tie.close (tie.spec (λ c κs. omega arith) (λ c. search needs) returns)

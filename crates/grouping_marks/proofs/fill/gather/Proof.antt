@@ -17,12 +17,6 @@ abbrev μ-loop : tie.MeasureT-loop
 loop-holds : tie.Need-loop-holds Inv-loop μ-loop
 loop-holds c = fill-start-front _ _ _ (length-gathered _ _) (c .pre .0)
 
-mul-j : tie.Need-mul-j Inv-loop μ-loop
-mul-j c = omega arith
-
-shared-slice-read-j : tie.Need-shared-slice-read-j Inv-loop μ-loop
-shared-slice-read-j c = omega arith
-
 cast-j : tie.Need-cast-j Inv-loop μ-loop
 cast-j c = omega (arith, c .shared-slice-known .given (c .before .before .loop .i))
 
@@ -31,18 +25,6 @@ mul-out c = omega (arith, c .before .before .before .pre .1 (c .before .before .
 
 shared-slice-read-out : tie.Need-shared-slice-read-out Inv-loop μ-loop
 shared-slice-read-out c = c .before .before .before .before .pre .1 (c .before .before .before .loop .i) (c .before .before .loop-test .taken)
-
-mul-out-2 : tie.Need-mul-out-2 Inv-loop μ-loop
-mul-out-2 c = omega arith
-
-slice-write-out : tie.Need-slice-write-out Inv-loop μ-loop
-slice-write-out c = omega arith
-
-add-i : tie.Need-add-i Inv-loop μ-loop
-add-i c = omega arith
-
-loop-less : tie.Need-loop-less Inv-loop μ-loop
-loop-less c = omega arith
 
 loop-again : tie.Need-loop-again Inv-loop μ-loop
 loop-again c =
@@ -62,15 +44,15 @@ gather-spec =
     Inv-loop
     μ-loop
     loop-holds
-    mul-j
-    shared-slice-read-j
+    (λ c. omega arith)
+    (λ c. omega arith)
     cast-j
     mul-out
     shared-slice-read-out
-    mul-out-2
-    slice-write-out
-    add-i
-    loop-less
+    (λ c. omega arith)
+    (λ c. omega arith)
+    (λ c. omega arith)
+    (λ c. omega arith)
     loop-again
     same-length
     returns)

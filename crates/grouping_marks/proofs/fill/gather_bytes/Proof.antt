@@ -17,12 +17,6 @@ abbrev μ-loop : tie.MeasureT-loop
 loop-holds : tie.Need-loop-holds Inv-loop μ-loop
 loop-holds c = fill-start-front _ _ _ (length-gathered _ _) (c .pre .0)
 
-mul-j : tie.Need-mul-j Inv-loop μ-loop
-mul-j c = omega arith
-
-shared-slice-read-j : tie.Need-shared-slice-read-j Inv-loop μ-loop
-shared-slice-read-j c = omega arith
-
 cast-j : tie.Need-cast-j Inv-loop μ-loop
 cast-j c = omega (arith, c .shared-slice-known .given (c .before .before .loop .i))
 
@@ -36,15 +30,6 @@ cast-out : tie.Need-cast-out Inv-loop μ-loop
 cast-out c =
     let l = c .before .before .before in
     omega (arith, l .before .pre .1 .1 (getD (l .before .args .idx .now) (l .loop .i) 0))
-
-slice-write-out : tie.Need-slice-write-out Inv-loop μ-loop
-slice-write-out c = omega arith
-
-add-i : tie.Need-add-i Inv-loop μ-loop
-add-i c = omega arith
-
-loop-less : tie.Need-loop-less Inv-loop μ-loop
-loop-less c = omega arith
 
 loop-again : tie.Need-loop-again Inv-loop μ-loop
 loop-again c =
@@ -64,15 +49,15 @@ gather-bytes-spec =
     Inv-loop
     μ-loop
     loop-holds
-    mul-j
-    shared-slice-read-j
+    (λ c. omega arith)
+    (λ c. omega arith)
     cast-j
     mul-out
     shared-slice-read-out
     cast-out
-    slice-write-out
-    add-i
-    loop-less
+    (λ c. omega arith)
+    (λ c. omega arith)
+    (λ c. omega arith)
     loop-again
     same-length
     returns)

@@ -5,79 +5,28 @@ use borrow.Author.Needs.{needs}
 use Rattle.grouping_rhythm.proofs.spread.fill_answers.Statement.{statement}
 use Rattle.grouping_rhythm.proofs.spread.fill_answers.Tie as tie
 
-mul-spread : tie.Need-mul-spread
-mul-spread c = search needs
-
-mul-spread-2 : tie.Need-mul-spread-2
-mul-spread-2 c = search needs
-
 add-spread : tie.Need-add-spread
 add-spread c =
     let s = c .before .before .before .before in
     omega (arith, notes-most (s .pre), s .pre)
-
-mul-spread-3 : tie.Need-mul-spread-3
-mul-spread-3 c = search needs
-
-sub-spread : tie.Need-sub-spread
-sub-spread c = search needs
-
-part-spread-start : tie.Need-part-spread-start
-part-spread-start c = search needs
 
 part-spread-end : tie.Need-part-spread-end
 part-spread-end c =
     let s = c .before .before .before .before .before in
     omega (arith, notes-most (s .pre), s .pre)
 
-spread-requires : tie.Need-spread-requires
-spread-requires c κs = search needs
-
-mul-look-up : tie.Need-mul-look-up
-mul-look-up c = search needs
-
-mul-look-up-2 : tie.Need-mul-look-up-2
-mul-look-up-2 c = search needs
-
 look-up-requires : tie.Need-look-up-requires
 look-up-requires c κs = look-room (c .before .before .before .before .before .before .before .before .before .before .before .pre)
-
-mul-spread-4 : tie.Need-mul-spread-4
-mul-spread-4 c = search needs
-
-mul-spread-5 : tie.Need-mul-spread-5
-mul-spread-5 c = search needs
 
 add-spread-2 : tie.Need-add-spread-2
 add-spread-2 c =
     let s = c .before .before .before .before .before .before .before .before .before .before .before .before .before .before in
     omega (arith, notes-most (s .pre), s .pre)
 
-mul-spread-6 : tie.Need-mul-spread-6
-mul-spread-6 c = search needs
-
-sub-spread-2 : tie.Need-sub-spread-2
-sub-spread-2 c = search needs
-
-part-spread-start-2 : tie.Need-part-spread-start-2
-part-spread-start-2 c = search needs
-
 part-spread-end-2 : tie.Need-part-spread-end-2
 part-spread-end-2 c =
     let s = c .before .before .before .before .before .before .before .before .before .before .before .before .before .before .before in
     omega (arith, notes-most (s .pre), s .pre)
-
-spread-requires-2 : tie.Need-spread-requires-2
-spread-requires-2 c κs = search needs
-
-same-length : tie.Need-same-length
-same-length c = search needs
-
-same-length-2 : tie.Need-same-length-2
-same-length-2 c = search needs
-
-same-length-3 : tie.Need-same-length-3
-same-length-3 c = search needs
 
 returns : tie.Need-returns
 returns c =
@@ -88,26 +37,26 @@ pub fill-answers-spec : {M : Type 1} → statement M
 fill-answers-spec =
     tie.close
     (tie.spec
-    mul-spread
-    mul-spread-2
+    (λ c. search needs)
+    (λ c. search needs)
     add-spread
-    mul-spread-3
-    sub-spread
-    part-spread-start
+    (λ c. search needs)
+    (λ c. search needs)
+    (λ c. search needs)
     part-spread-end
-    spread-requires
-    mul-look-up
-    mul-look-up-2
+    (λ c κs. search needs)
+    (λ c. search needs)
+    (λ c. search needs)
     look-up-requires
-    mul-spread-4
-    mul-spread-5
+    (λ c. search needs)
+    (λ c. search needs)
     add-spread-2
-    mul-spread-6
-    sub-spread-2
-    part-spread-start-2
+    (λ c. search needs)
+    (λ c. search needs)
+    (λ c. search needs)
     part-spread-end-2
-    spread-requires-2
-    same-length
-    same-length-2
-    same-length-3
+    (λ c κs. search needs)
+    (λ c. search needs)
+    (λ c. search needs)
+    (λ c. search needs)
     returns)

@@ -15,15 +15,6 @@ abbrev μ-loop : tie.MeasureT-loop
 loop-holds : tie.Need-loop-holds Inv-loop μ-loop
 loop-holds c = looked-start _ _ _ _ _ (c .pre)
 
-add-j : tie.Need-add-j Inv-loop μ-loop
-add-j c = omega arith
-
-mul-j : tie.Need-mul-j Inv-loop μ-loop
-mul-j c = omega arith
-
-slice-read-j : tie.Need-slice-read-j Inv-loop μ-loop
-slice-read-j c = omega arith
-
 cast-j : tie.Need-cast-j Inv-loop μ-loop
 cast-j c = omega (arith, looked-below (c .before .before .loop .inv) (c .before .loop-test .taken), c .before .before .loop .inv .room)
 
@@ -35,21 +26,6 @@ mul-w c = omega (arith, looked-below (c .before .before .loop .inv) (c .before .
 
 slice-read-w : tie.Need-slice-read-w Inv-loop μ-loop
 slice-read-w c = omega (arith, looked-below (c .before .before .before .loop .inv) (c .before .before .loop-test .taken))
-
-add-w-2 : tie.Need-add-w-2 Inv-loop μ-loop
-add-w-2 c = omega arith
-
-mul-w-2 : tie.Need-mul-w-2 Inv-loop μ-loop
-mul-w-2 c = omega arith
-
-slice-write-w : tie.Need-slice-write-w Inv-loop μ-loop
-slice-write-w c = omega arith
-
-add-i : tie.Need-add-i Inv-loop μ-loop
-add-i c = omega arith
-
-loop-less : tie.Need-loop-less Inv-loop μ-loop
-loop-less c = omega arith
 
 loop-again : tie.Need-loop-again Inv-loop μ-loop
 loop-again c = looked-turn (c .before .before .before .loop .inv) (c .before .before .loop-test .taken)
@@ -67,18 +43,18 @@ look-up-spec =
     Inv-loop
     μ-loop
     loop-holds
-    add-j
-    mul-j
-    slice-read-j
+    (λ c. omega arith)
+    (λ c. omega arith)
+    (λ c. omega arith)
     cast-j
     add-w
     mul-w
     slice-read-w
-    add-w-2
-    mul-w-2
-    slice-write-w
-    add-i
-    loop-less
+    (λ c. omega arith)
+    (λ c. omega arith)
+    (λ c. omega arith)
+    (λ c. omega arith)
+    (λ c. omega arith)
     loop-again
     same-length
     returns)

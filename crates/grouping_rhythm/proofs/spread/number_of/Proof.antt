@@ -6,9 +6,6 @@ use borrow.Author.Needs.{needs}
 use Rattle.grouping_rhythm.proofs.spread.number_of.Statement.{statement}
 use Rattle.grouping_rhythm.proofs.spread.number_of.Tie as tie
 
-is-note-requires : tie.Need-is-note-requires
-is-note-requires c κs = search needs
-
 mul-result : tie.Need-mul-result
 mul-result c = omega (arith, c .before .before .before .pre (sym (c .before .is-note .ensures) ∙ c .if1 .taken))
 
@@ -23,4 +20,4 @@ returns-2 c = no-number _ _ (sym (c .before .is-note .ensures) ∙ c .if1 .left)
 
 pub number-of-spec : {M : Type 1} → statement M
 number-of-spec =
-    tie.close (tie.spec is-note-requires mul-result shared-slice-read-result returns returns-2)
+    tie.close (tie.spec (λ c κs. search needs) mul-result shared-slice-read-result returns returns-2)

@@ -15,29 +15,11 @@ abbrev μ-loop : tie.MeasureT-loop
 loop-holds : tie.Need-loop-holds Inv-loop μ-loop
 loop-holds c = spread-start _ _ _ (c .before .before .before .pre)
 
-shared-slice-read-number-of : tie.Need-shared-slice-read-number-of Inv-loop μ-loop
-shared-slice-read-number-of c = omega arith
-
 number-of-requires : tie.Need-number-of-requires Inv-loop μ-loop
 number-of-requires c κs = spread-within (c .before .before .loop .inv) (c .before .before .before .before .before .before .pre) (c .before .loop-test .taken)
 
-mul-out : tie.Need-mul-out Inv-loop μ-loop
-mul-out c = omega arith
-
-slice-write-out : tie.Need-slice-write-out Inv-loop μ-loop
-slice-write-out c = omega arith
-
-shared-slice-read-note-after : tie.Need-shared-slice-read-note-after Inv-loop μ-loop
-shared-slice-read-note-after c = omega arith
-
 note-after-requires : tie.Need-note-after-requires Inv-loop μ-loop
 note-after-requires c κs = omega (arith, spread-few (c .before .before .before .before .loop .inv) (c .before .before .before .loop-test .taken))
-
-add-i : tie.Need-add-i Inv-loop μ-loop
-add-i c = omega arith
-
-loop-less : tie.Need-loop-less Inv-loop μ-loop
-loop-less c = omega arith
 
 loop-again : tie.Need-loop-again Inv-loop μ-loop
 loop-again c = spread-turn (c .before .before .before .before .before .loop .inv) _ _ (c .before .before .before .before .loop-test .taken) (c .before .before .number-of .ensures) (c .note-after .ensures)
@@ -55,14 +37,14 @@ spread-spec =
     Inv-loop
     μ-loop
     loop-holds
-    shared-slice-read-number-of
+    (λ c. omega arith)
     number-of-requires
-    mul-out
-    slice-write-out
-    shared-slice-read-note-after
+    (λ c. omega arith)
+    (λ c. omega arith)
+    (λ c. omega arith)
     note-after-requires
-    add-i
-    loop-less
+    (λ c. omega arith)
+    (λ c. omega arith)
     loop-again
     same-length
     returns)

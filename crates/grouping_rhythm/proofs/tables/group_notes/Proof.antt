@@ -6,9 +6,6 @@ use borrow.Author.Needs.{needs}
 use Rattle.grouping_rhythm.proofs.tables.group_notes.Statement.{statement}
 use Rattle.grouping_rhythm.proofs.tables.group_notes.Tie as tie
 
-list-notes-requires : tie.Need-list-notes-requires
-list-notes-requires c κs = search needs
-
 slice-reshare-prefix-number-notes : tie.Need-slice-reshare-prefix-number-notes
 slice-reshare-prefix-number-notes c =
     let l = c .before .before .before .before in
@@ -33,12 +30,6 @@ number-groups-requires c κs =
     let s = l .before .before .before .before .before .before .before .before in
     firsts-there (s .pre) (noted (s .pre) (l .list-notes .ensures) (c .before .before .before .before .number-notes .ensures))
 
-same-length : tie.Need-same-length
-same-length c = search needs
-
-same-length-2 : tie.Need-same-length-2
-same-length-2 c = search needs
-
 returns : tie.Need-returns
 returns c =
     let l = c .before .before .before .before .before .before .before .before .before .before .before .before .before .before .before .before in
@@ -49,11 +40,11 @@ pub group-notes-spec : {M : Type 1} → statement M
 group-notes-spec =
     tie.close
     (tie.spec
-    list-notes-requires
+    (λ c κs. search needs)
     slice-reshare-prefix-number-notes
     slice-aggregate-number-notes
     number-notes-requires
     number-groups-requires
-    same-length
-    same-length-2
+    (λ c. search needs)
+    (λ c. search needs)
     returns)

@@ -22,18 +22,6 @@ loop-holds c = fill-start-front _ _ _ (length-intervals _ _ ∙ length-starts _ 
 interval-at-requires : tie.Need-interval-at-requires Inv-loop μ-loop
 interval-at-requires c κs = (c .loop-test .taken, c .before .before .before .before .before .pre .inside)
 
-mul-intervals : tie.Need-mul-intervals Inv-loop μ-loop
-mul-intervals c = omega arith
-
-slice-write-intervals : tie.Need-slice-write-intervals Inv-loop μ-loop
-slice-write-intervals c = omega arith
-
-add-k : tie.Need-add-k Inv-loop μ-loop
-add-k c = omega arith
-
-loop-less : tie.Need-loop-less Inv-loop μ-loop
-loop-less c = omega arith
-
 loop-again : tie.Need-loop-again Inv-loop μ-loop
 loop-again c = fill-turn-front nan (c .before .before .loop .inv) (c .before .loop-test .taken) (c .interval-at .ensures)
 
@@ -51,10 +39,10 @@ fill-intervals-spec =
     μ-loop
     loop-holds
     interval-at-requires
-    mul-intervals
-    slice-write-intervals
-    add-k
-    loop-less
+    (λ c. omega arith)
+    (λ c. omega arith)
+    (λ c. omega arith)
+    (λ c. omega arith)
     loop-again
     same-length
     returns)

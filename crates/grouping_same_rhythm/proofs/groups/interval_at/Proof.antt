@@ -12,23 +12,8 @@ returns : tie.Need-returns
 unfolding ofBits div
 returns c = rw (c .if1 .taken) (sym (interval-first _ _ _ (omega arith)))
 
-sub-previous : tie.Need-sub-previous
-sub-previous c = omega arith
-
-mul-previous : tie.Need-mul-previous
-mul-previous c = omega arith
-
-shared-slice-read-previous : tie.Need-shared-slice-read-previous
-shared-slice-read-previous c = omega arith
-
 cast-previous : tie.Need-cast-previous
 cast-previous c = omega (arith, c .shared-slice-known3 .given (c .before .before .before .before .args .k - 1))
-
-mul-at : tie.Need-mul-at
-mul-at c = omega arith
-
-shared-slice-read-at : tie.Need-shared-slice-read-at
-shared-slice-read-at c = omega arith
 
 cast-at : tie.Need-cast-at
 cast-at c = omega (arith, c .shared-slice-known4 .given (c .before .before .before .before .before .args .k))
@@ -45,9 +30,6 @@ mul-start-between-2 c = let s = c .before .before .before .before .before .befor
 shared-slice-read-start-between-2 : tie.Need-shared-slice-read-start-between-2
 shared-slice-read-start-between-2 c = let s = c .before .before .before .before .before .before .before in s .pre .1 (s .args .k) (s .pre .0)
 
-start-between-requires : tie.Need-start-between-requires
-start-between-requires c κs = search needs
-
 returns-2 : tie.Need-returns-2
 returns-2 c =
     let s = c .before .before .before .before .before .before .before .before in
@@ -58,16 +40,16 @@ interval-at-spec =
     tie.close
     (tie.spec
     returns
-    sub-previous
-    mul-previous
-    shared-slice-read-previous
+    (λ c. omega arith)
+    (λ c. omega arith)
+    (λ c. omega arith)
     cast-previous
-    mul-at
-    shared-slice-read-at
+    (λ c. omega arith)
+    (λ c. omega arith)
     cast-at
     mul-start-between
     shared-slice-read-start-between
     mul-start-between-2
     shared-slice-read-start-between-2
-    start-between-requires
+    (λ c κs. search needs)
     returns-2)

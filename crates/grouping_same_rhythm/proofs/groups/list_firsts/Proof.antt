@@ -16,27 +16,6 @@ abbrev μ-loop : tie.MeasureT-loop
 loop-holds : tie.Need-loop-holds Inv-loop μ-loop
 loop-holds c = listed-start _ _ _ _ (c .before .before .pre)
 
-mul-w : tie.Need-mul-w Inv-loop μ-loop
-mul-w c = omega arith
-
-slice-read-w : tie.Need-slice-read-w Inv-loop μ-loop
-slice-read-w c = omega arith
-
-add-w : tie.Need-add-w Inv-loop μ-loop
-add-w c = omega arith
-
-mul-w-2 : tie.Need-mul-w-2 Inv-loop μ-loop
-mul-w-2 c = omega arith
-
-slice-write-w : tie.Need-slice-write-w Inv-loop μ-loop
-slice-write-w c = omega arith
-
-next-end-requires : tie.Need-next-end-requires Inv-loop μ-loop
-next-end-requires c κs = search needs
-
-add-k : tie.Need-add-k Inv-loop μ-loop
-add-k c = omega arith
-
 loop-less : tie.Need-loop-less Inv-loop μ-loop
 loop-less c = omega (arith, listed-on (c .before .before .before .loop .inv) (c .before .before .loop-test .taken) (c .next-end .result) (c .next-end .ensures))
 
@@ -56,13 +35,13 @@ list-firsts-spec =
     Inv-loop
     μ-loop
     loop-holds
-    mul-w
-    slice-read-w
-    add-w
-    mul-w-2
-    slice-write-w
-    next-end-requires
-    add-k
+    (λ c. omega arith)
+    (λ c. omega arith)
+    (λ c. omega arith)
+    (λ c. omega arith)
+    (λ c. omega arith)
+    (λ c κs. search needs)
+    (λ c. omega arith)
     loop-less
     loop-again
     same-length

@@ -5,9 +5,6 @@ use Rattle.grouping_same_rhythm.specs.SameRhythm.{between}
 use Rattle.grouping_same_rhythm.proofs.groups.start_between.Statement.{statement}
 use Rattle.grouping_same_rhythm.proofs.groups.start_between.Tie as tie
 
-near-requires : tie.Need-near-requires
-near-requires c κs = search needs
-
 returns : tie.Need-returns
 unfolding between ofBits
 returns c = rw (← (c .before .near .ensures), c .if1 .taken)
@@ -17,4 +14,4 @@ unfolding between ofBits
 returns-2 c = rw (← (c .before .near .ensures), c .if1 .left)
 
 pub start-between-spec : {M : Type 1} → statement M
-start-between-spec = tie.close (tie.spec near-requires returns returns-2)
+start-between-spec = tie.close (tie.spec (λ c κs. search needs) returns returns-2)

@@ -8,18 +8,6 @@ use Rattle.grouping_same_rhythm.proofs.own.modal_delta.Tie as tie
 returns : tie.Need-returns
 returns c = modal-few _ _ (c .if1 .taken)
 
-slice-read-second : tie.Need-slice-read-second
-slice-read-second c = search needs
-
-normal-of-requires : tie.Need-normal-of-requires
-normal-of-requires c κs = search needs
-
-round-ties-even-requires : tie.Need-round-ties-even-requires
-round-ties-even-requires c κs = search needs
-
-same-length : tie.Need-same-length
-same-length c = search needs
-
 returns-2 : tie.Need-returns-2
 returns-2 c =
     let n = c .before .before .before in
@@ -30,8 +18,8 @@ modal-delta-spec =
     tie.close
     (tie.spec
     returns
-    slice-read-second
-    normal-of-requires
-    round-ties-even-requires
-    same-length
+    (λ c. search needs)
+    (λ c κs. search needs)
+    (λ c κs. search needs)
+    (λ c. search needs)
     returns-2)

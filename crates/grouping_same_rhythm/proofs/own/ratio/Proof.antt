@@ -5,18 +5,6 @@ use borrow.Author.Needs.{needs}
 use Rattle.grouping_same_rhythm.proofs.own.ratio.Statement.{statement}
 use Rattle.grouping_same_rhythm.proofs.own.ratio.Tie as tie
 
-enum-told : tie.Need-enum-told
-enum-told c = search needs
-
-enum-known-own : tie.Need-enum-known-own
-enum-known-own c = search needs
-
-enum-told-2 : tie.Need-enum-told-2
-enum-told-2 c = search needs
-
-enum-known-previous : tie.Need-enum-known-previous
-enum-known-previous c = search needs
-
 returns : tie.Need-returns
 unfolding ofBits
 returns c = ratio-absent _ _ (c .enum-told .given .1)
@@ -31,4 +19,4 @@ returns-3 c = ratio-both _ _ _ _ (c .before .before .before .before .own .given 
 pub ratio-spec : {M : Type 1} → statement M
 ratio-spec =
     tie.close
-    (tie.spec enum-told enum-known-own enum-told-2 enum-known-previous returns returns-2 returns-3)
+    (tie.spec (λ c. search needs) (λ c. search needs) (λ c. search needs) (λ c. search needs) returns returns-2 returns-3)

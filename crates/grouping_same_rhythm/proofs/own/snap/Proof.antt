@@ -6,21 +6,6 @@ use borrow.Author.Needs.{needs}
 use Rattle.grouping_same_rhythm.proofs.own.snap.Statement.{statement}
 use Rattle.grouping_same_rhythm.proofs.own.snap.Tie as tie
 
-enum-told : tie.Need-enum-told
-enum-told c = search needs
-
-enum-known-own : tie.Need-enum-known-own
-enum-known-own c = search needs
-
-enum-told-2 : tie.Need-enum-told-2
-enum-told-2 c = search needs
-
-enum-known-previous : tie.Need-enum-known-previous
-enum-known-previous c = search needs
-
-near-requires : tie.Need-near-requires
-near-requires c κs = search needs
-
 returns : tie.Need-returns
 returns c = snap-absent _ _ _ (c .enum-told .given .1)
 
@@ -41,11 +26,11 @@ pub snap-spec : {M : Type 1} → statement M
 snap-spec =
     tie.close
     (tie.spec
-    enum-told
-    enum-known-own
-    enum-told-2
-    enum-known-previous
-    near-requires
+    (λ c. search needs)
+    (λ c. search needs)
+    (λ c. search needs)
+    (λ c. search needs)
+    (λ c κs. search needs)
     returns
     returns-2
     returns-3

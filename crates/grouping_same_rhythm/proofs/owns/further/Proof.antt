@@ -3,11 +3,8 @@ use borrow.Author.Needs.{needs}
 use Rattle.grouping_same_rhythm.proofs.owns.further.Statement.{statement}
 use Rattle.grouping_same_rhythm.proofs.owns.further.Tie as tie
 
-snap-requires : tie.Need-snap-requires
-snap-requires c κs = search needs
-
 returns : tie.Need-returns
 returns c = cc
 
 pub further-spec : {M : Type 1} → statement M
-further-spec = tie.close (tie.spec snap-requires returns)
+further-spec = tie.close (tie.spec (λ c κs. search needs) returns)

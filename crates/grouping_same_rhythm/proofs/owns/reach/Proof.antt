@@ -16,12 +16,6 @@ abbrev μ-loop : tie.MeasureT-loop
 loop-holds : tie.Need-loop-holds Inv-loop μ-loop
 loop-holds c = reaching-start _ _ _ (c .before .pre)
 
-next-end-requires : tie.Need-next-end-requires Inv-loop μ-loop
-next-end-requires c κs = search needs
-
-mul-modal-delta : tie.Need-mul-modal-delta Inv-loop μ-loop
-mul-modal-delta c = omega arith
-
 sub-modal-delta : tie.Need-sub-modal-delta Inv-loop μ-loop
 sub-modal-delta c =
     omega (arith, reaching-open (c .before .before .before .loop .inv) (c .before .before .loop-test .taken) (c .next-end .result) (c .next-end .ensures))
@@ -37,15 +31,6 @@ modal-delta-requires : tie.Need-modal-delta-requires Inv-loop μ-loop
 modal-delta-requires c κs =
     let n = c .before in
     reaching-open (n .before .before .before .loop .inv) (n .before .before .loop-test .taken) (n .next-end .result) (n .next-end .ensures) .finite
-
-further-requires : tie.Need-further-requires Inv-loop μ-loop
-further-requires c κs = search needs
-
-add-k : tie.Need-add-k Inv-loop μ-loop
-add-k c = omega arith
-
-loop-less : tie.Need-loop-less Inv-loop μ-loop
-loop-less c = omega arith
 
 loop-again : tie.Need-loop-again Inv-loop μ-loop
 loop-again c =
@@ -78,15 +63,15 @@ reach-spec =
     Inv-loop
     μ-loop
     loop-holds
-    next-end-requires
-    mul-modal-delta
+    (λ c κs. search needs)
+    (λ c. omega arith)
     sub-modal-delta
     part-modal-delta-start
     part-modal-delta-end
     modal-delta-requires
-    further-requires
-    add-k
-    loop-less
+    (λ c κs. search needs)
+    (λ c. omega arith)
+    (λ c. omega arith)
     loop-again
     same-length
     returns)

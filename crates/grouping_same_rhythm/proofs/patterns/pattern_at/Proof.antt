@@ -14,17 +14,8 @@ Inv-loop intervals margin g number₀ before₀ at₀ end₀ number before at en
 abbrev μ-loop : tie.MeasureT-loop
 μ-loop intervals margin g number₀ before₀ at₀ end₀ number before at end = length intervals - end
 
-next-end-requires : tie.Need-next-end-requires Inv-loop μ-loop
-next-end-requires c κs = search needs
-
 loop-holds : tie.Need-loop-holds Inv-loop μ-loop
 loop-holds c = found-start _ _ _ (c .before .before .pre) (c .next-end .result) (c .next-end .ensures)
-
-next-end-requires-2 : tie.Need-next-end-requires-2 Inv-loop μ-loop
-next-end-requires-2 c κs = search needs
-
-add-number : tie.Need-add-number Inv-loop μ-loop
-add-number c = omega arith
 
 loop-less : tie.Need-loop-less Inv-loop μ-loop
 loop-less c =
@@ -55,10 +46,10 @@ pattern-at-spec =
     (tie.spec
     Inv-loop
     μ-loop
-    next-end-requires
+    (λ c κs. search needs)
     loop-holds
-    next-end-requires-2
-    add-number
+    (λ c κs. search needs)
+    (λ c. omega arith)
     loop-less
     loop-again
     returns

@@ -19,9 +19,6 @@ loop-holds c =
     let s = c .before .before .before .before in
     sorting-start (slice-numbers (s .before .pre) (s .slice-known .given)) (c .before .before .heapify .ensures)
 
-sub-end : tie.Need-sub-end Inv-loop μ-loop
-sub-end c = omega arith
-
 swap-requires : tie.Need-swap-requires Inv-loop μ-loop
 swap-requires c κs = sorting-two (c .before .before .loop .inv) (c .before .loop-test .taken)
 
@@ -29,9 +26,6 @@ sink-requires : tie.Need-sink-requires Inv-loop μ-loop
 sink-requires c κs =
     let l = c .before .before .before .before .before in
     sorting-asks (l .before .loop .inv) (l .loop-test .taken) _ (c .before .before .before .swap .ensures)
-
-loop-less : tie.Need-loop-less Inv-loop μ-loop
-loop-less c = omega arith
 
 loop-again : tie.Need-loop-again Inv-loop μ-loop
 loop-again c =
@@ -57,10 +51,10 @@ heap-sort-spec =
     μ-loop
     heapify-requires
     loop-holds
-    sub-end
+    (λ c. omega arith)
     swap-requires
     sink-requires
-    loop-less
+    (λ c. omega arith)
     loop-again
     same-length
     returns)

@@ -15,14 +15,8 @@ abbrev μ-loop : tie.MeasureT-loop
 loop-holds : tie.Need-loop-holds Inv-loop μ-loop
 loop-holds c = heaping-start _ refl (slice-numbers (c .before .pre) (c .slice-known .given))
 
-sub-root : tie.Need-sub-root Inv-loop μ-loop
-sub-root c = omega arith
-
 sink-requires : tie.Need-sink-requires Inv-loop μ-loop
 sink-requires c κs = heaping-asks (c .before .before .loop .inv) (c .before .loop-test .taken)
-
-loop-less : tie.Need-loop-less Inv-loop μ-loop
-loop-less c = omega arith
 
 loop-again : tie.Need-loop-again Inv-loop μ-loop
 loop-again c =
@@ -42,9 +36,9 @@ heapify-spec =
     Inv-loop
     μ-loop
     loop-holds
-    sub-root
+    (λ c. omega arith)
     sink-requires
-    loop-less
+    (λ c. omega arith)
     loop-again
     same-length
     returns)

@@ -6,36 +6,6 @@ use borrow.Author.Needs.{needs}
 use Rattle.grouping_sort.proofs.heap.later_child.Statement.{statement}
 use Rattle.grouping_sort.proofs.heap.later_child.Tie as tie
 
-mul-left : tie.Need-mul-left
-mul-left c = search needs
-
-add-left : tie.Need-add-left
-add-left c = search needs
-
-add-if1 : tie.Need-add-if1
-add-if1 c = search needs
-
-mul-total-order : tie.Need-mul-total-order
-mul-total-order c = search needs
-
-shared-slice-read-total-order : tie.Need-shared-slice-read-total-order
-shared-slice-read-total-order c = search needs
-
-add-total-order : tie.Need-add-total-order
-add-total-order c = search needs
-
-mul-total-order-2 : tie.Need-mul-total-order-2
-mul-total-order-2 c = search needs
-
-shared-slice-read-total-order-2 : tie.Need-shared-slice-read-total-order-2
-shared-slice-read-total-order-2 c = search needs
-
-total-order-requires : tie.Need-total-order-requires
-total-order-requires c κs = search needs
-
-add-result : tie.Need-add-result
-add-result c = search needs
-
 returns : tie.Need-returns
 returns c =
     let k = c .before .before .before .before .before in
@@ -55,16 +25,16 @@ pub later-child-spec : {M : Type 1} → statement M
 later-child-spec =
     tie.close
     (tie.spec
-    mul-left
-    add-left
-    add-if1
-    mul-total-order
-    shared-slice-read-total-order
-    add-total-order
-    mul-total-order-2
-    shared-slice-read-total-order-2
-    total-order-requires
-    add-result
+    (λ c. search needs)
+    (λ c. search needs)
+    (λ c. search needs)
+    (λ c. search needs)
+    (λ c. search needs)
+    (λ c. search needs)
+    (λ c. search needs)
+    (λ c. search needs)
+    (λ c κs. search needs)
+    (λ c. search needs)
     returns
     returns-2
     returns-3)

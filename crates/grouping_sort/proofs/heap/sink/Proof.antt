@@ -17,31 +17,10 @@ abbrev μ-loop : tie.MeasureT-loop
 loop-holds : tie.Need-loop-holds Inv-loop μ-loop
 loop-holds c = sinking-start (slice-numbers (c .before .pre .finite) (c .slice-known .given)) (c .before .pre)
 
-mul-loop : tie.Need-mul-loop Inv-loop μ-loop
-mul-loop c = omega arith
-
-add-loop : tie.Need-add-loop Inv-loop μ-loop
-add-loop c = omega arith
-
 later-child-requires : tie.Need-later-child-requires Inv-loop μ-loop
 later-child-requires c κs =
     let l = c .before .before .loop .inv in
     record { room = l .room; child = c .before .loop-test .taken; finite = all-finite (l .numbers) }
-
-mul-total-order : tie.Need-mul-total-order Inv-loop μ-loop
-mul-total-order c = omega arith
-
-slice-read-total-order : tie.Need-slice-read-total-order Inv-loop μ-loop
-slice-read-total-order c = omega arith
-
-mul-total-order-2 : tie.Need-mul-total-order-2 Inv-loop μ-loop
-mul-total-order-2 c = omega arith
-
-slice-read-total-order-2 : tie.Need-slice-read-total-order-2 Inv-loop μ-loop
-slice-read-total-order-2 c = omega arith
-
-total-order-requires : tie.Need-total-order-requires Inv-loop μ-loop
-total-order-requires c κs = search needs
 
 same-length : tie.Need-same-length Inv-loop μ-loop
 same-length c = c .before .before .before .before .before .before .before .loop .inv .long
@@ -79,14 +58,14 @@ sink-spec =
     Inv-loop
     μ-loop
     loop-holds
-    mul-loop
-    add-loop
+    (λ c. omega arith)
+    (λ c. omega arith)
     later-child-requires
-    mul-total-order
-    slice-read-total-order
-    mul-total-order-2
-    slice-read-total-order-2
-    total-order-requires
+    (λ c. omega arith)
+    (λ c. omega arith)
+    (λ c. omega arith)
+    (λ c. omega arith)
+    (λ c κs. search needs)
     same-length
     returns
     swap-requires

@@ -14,9 +14,6 @@ table-long : length logisticTable ≡ 264
 unfolding logisticTable tableBits
 table-long = refl
 
-mul-result : tie.Need-mul-result
-mul-result c = search needs
-
 shared-slice-read-result : tie.Need-shared-slice-read-result
 shared-slice-read-result c = omega (arith, ap length (c .before .before .pre) ∙ table-long)
 
@@ -29,4 +26,4 @@ unfolding logisticAt tableBits
 returns-2 c = sym (ap (ofBits binary64) (List·getD-eq-default tableBits 0 {n = c .before .args .n} (search needs)))
 
 pub logistic-spec : {M : Type 1} → statement M
-logistic-spec = tie.close (tie.spec mul-result shared-slice-read-result returns returns-2)
+logistic-spec = tie.close (tie.spec (λ c. search needs) shared-slice-read-result returns returns-2)

@@ -19,9 +19,6 @@ float-to-bits-bits c = no-nan (c .args .x) (near c)
 returns : tie.Need-returns
 returns c = scaled-low (c .before .args .x) (held (c .before)) (near (c .before)) (c .if1 .taken)
 
-add-t5 : tie.Need-add-t5
-add-t5 c = search needs
-
 sub-t7 : tie.Need-sub-t7
 sub-t7 c = exp-room (c .before .args .x) (held (c .before)) (near (c .before)) (c .if1 .left)
 
@@ -29,4 +26,4 @@ returns-2 : tie.Need-returns-2
 returns-2 c = scaled-high (c .before .args .x) (held (c .before)) (near (c .before)) (c .if1 .left)
 
 pub size-of-spec : {M : Type 1} → statement M
-size-of-spec = tie.close (tie.spec float-to-bits-bits returns add-t5 sub-t7 returns-2)
+size-of-spec = tie.close (tie.spec float-to-bits-bits returns (λ c. search needs) sub-t7 returns-2)

@@ -29,12 +29,6 @@ returns-2 c =
     let s = c .before .before .args .shift in
     record { equal = sym (ceiling-one (10 * d) (2 ^ s) (above-zero d (c .before .if1 .left)) (le-of-lt (ten-lt d s (c .before .before .pre) (c .if2 .taken)))); small = lit< tt }
 
-mul-result : tie.Need-mul-result
-mul-result c = search needs
-
-shl-result : tie.Need-shl-result
-shl-result c = search needs
-
 sub-result : tie.Need-sub-result
 sub-result c =
     let s = c .before .before .args .shift in
@@ -49,9 +43,6 @@ add-result c =
     wide : (n : ℕ) → n < 2 ^ 58 → n < 2 ^ 64
     wide n h = omega arith
 
-shr-result : tie.Need-shr-result
-shr-result c = search needs
-
 returns-3 : tie.Need-returns-3
 unfolding ceiling
 returns-3 c =
@@ -61,4 +52,4 @@ returns-3 c =
     record { equal = refl; small = lt-of-le-of-lt (div-le-self (10 * d + (2 ^ s - 1)) (2 ^ s)) (sum-lt d (2 ^ s) (c .before .before .pre) (unit-le s (c .if2 .left))) }
 
 pub ten-ceiling-spec : {M : Type 1} → statement M
-ten-ceiling-spec = tie.close (tie.spec returns returns-2 mul-result shl-result sub-result add-result shr-result returns-3)
+ten-ceiling-spec = tie.close (tie.spec returns returns-2 (λ c. search needs) (λ c. search needs) sub-result add-result (λ c. search needs) returns-3)

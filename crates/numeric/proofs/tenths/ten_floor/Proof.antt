@@ -10,14 +10,8 @@ use Rattle.numeric.proofs.tenths.ten_floor.Tie as tie
 returns : tie.Need-returns
 returns c = record { equal = sym (div-eq-of-lt (ten-lt (c .before .args .digits) (c .before .args .shift) (c .before .pre) (c .if1 .taken))); small = lit< tt }
 
-mul-result : tie.Need-mul-result
-mul-result c = search needs
-
-shr-result : tie.Need-shr-result
-shr-result c = search needs
-
 returns-2 : tie.Need-returns-2
 returns-2 c = record { equal = refl; small = floor-lt (c .before .args .digits) (c .before .args .shift) (c .before .pre) }
 
 pub ten-floor-spec : {M : Type 1} → statement M
-ten-floor-spec = tie.close (tie.spec returns mul-result shr-result returns-2)
+ten-floor-spec = tie.close (tie.spec returns (λ c. search needs) (λ c. search needs) returns-2)

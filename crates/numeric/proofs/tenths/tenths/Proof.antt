@@ -20,15 +20,6 @@ read q h = toZ-pos w64 q (lt-of-lt-of-le h (lit≤ tt))
 minus-is : (q : ℕ) → q < 2 ^ 58 → pos 0 -ℤ toZ w64 q ≡ negℤ (pos q)
 minus-is q h = ap (λ (z : ℤ). pos 0 -ℤ z) (read q h) ∙ zero-minus q
 
-size-of-requires : tie.Need-size-of-requires
-size-of-requires c κs = search needs
-
-ten-ceiling-requires : tie.Need-ten-ceiling-requires
-ten-ceiling-requires c κs = search needs
-
-cast-result : tie.Need-cast-result
-cast-result c = search needs
-
 sub-result : tie.Need-sub-result
 sub-result c = subst (SFits w64) (sym (minus-is (c .ten-ceiling .result) (c .ten-ceiling .ensures .small))) (minus-fits (c .ten-ceiling .result) (c .ten-ceiling .ensures .small))
 
@@ -43,12 +34,6 @@ returns c =
     ∙ ap (λ (z : ℕ). negℤ (pos z)) (c .ten-ceiling .ensures .equal)
     ∙ up-case x (c .before .before .size-of .result .digits) (c .before .before .size-of .result .shift) (within x (start .pre)) (c .before .before .size-of .ensures) (c .before .if1 .taken)
 
-ten-floor-requires : tie.Need-ten-floor-requires
-ten-floor-requires c κs = search needs
-
-cast-result-2 : tie.Need-cast-result-2
-cast-result-2 c = search needs
-
 returns-2 : tie.Need-returns-2
 unfolding ofBits
 returns-2 c =
@@ -59,4 +44,4 @@ returns-2 c =
     ∙ down-case x (c .before .before .size-of .result .digits) (c .before .before .size-of .result .shift) (within x (start .pre)) (c .before .before .size-of .ensures) (c .before .if1 .left)
 
 pub tenths-spec : {M : Type 1} → statement M
-tenths-spec = tie.close (tie.spec size-of-requires ten-ceiling-requires cast-result sub-result returns ten-floor-requires cast-result-2 returns-2)
+tenths-spec = tie.close (tie.spec (λ c κs. search needs) (λ c κs. search needs) (λ c. search needs) sub-result returns (λ c κs. search needs) (λ c. search needs) returns-2)

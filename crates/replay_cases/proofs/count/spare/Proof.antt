@@ -4,11 +4,8 @@ use Rattle.replay_cases.proofs.CountLaws.{spare-is}
 use Rattle.replay_cases.proofs.count.spare.Statement.{statement}
 use Rattle.replay_cases.proofs.count.spare.Tie as tie
 
-wrapping-add-u64-requires : tie.Need-wrapping-add-u64-requires
-wrapping-add-u64-requires c κs = omega arith
-
 returns : tie.Need-returns
 returns c = spare-is _ _ (c .wrapping-add-u64 .ensures)
 
 pub spare-spec : {M : Type 1} → statement M
-spare-spec = tie.close (tie.spec wrapping-add-u64-requires returns)
+spare-spec = tie.close (tie.spec (λ c κs. omega arith) returns)

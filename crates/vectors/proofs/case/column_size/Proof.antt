@@ -4,9 +4,6 @@ use Rattle.vectors.proofs.CaseLaws.{size-narrow, size-wide}
 use Rattle.vectors.proofs.case.column_size.Statement.{statement}
 use Rattle.vectors.proofs.case.column_size.Tie as tie
 
-mul-result : tie.Need-mul-result
-mul-result c = search needs
-
 returns : tie.Need-returns
 returns c = size-narrow _ _ (c .if1 .taken)
 
@@ -14,4 +11,4 @@ returns-2 : tie.Need-returns-2
 returns-2 c = size-wide _ _ (c .if1 .left)
 
 pub column-size-spec : {M : Type 1} → statement M
-column-size-spec = tie.close (tie.spec mul-result returns returns-2)
+column-size-spec = tie.close (tie.spec (λ c. search needs) returns returns-2)

@@ -5,18 +5,6 @@ use Rattle.vectors.proofs.HeldLaws.{expected-front, expected-past}
 use Rattle.vectors.proofs.held.bits_expected.Statement.{statement}
 use Rattle.vectors.proofs.held.bits_expected.Tie as tie
 
-mul-word-at : tie.Need-mul-word-at
-mul-word-at c = omega arith
-
-add-word-at : tie.Need-add-word-at
-add-word-at c = omega arith
-
-word-at-requires : tie.Need-word-at-requires
-word-at-requires c κs = omega arith
-
-bits-requires : tie.Need-bits-requires
-bits-requires c κs = omega arith
-
 returns : tie.Need-returns
 unfolding columnWord
 returns c = expected-front _ _ _ _ _ (c .before .if1 .taken) (c .word-at .ensures)
@@ -28,9 +16,9 @@ pub bits-expected-spec : {M : Type 1} → statement M
 bits-expected-spec =
     tie.close
     (tie.spec
-    mul-word-at
-    add-word-at
-    word-at-requires
-    bits-requires
+    (λ c. omega arith)
+    (λ c. omega arith)
+    (λ c κs. omega arith)
+    (λ c κs. omega arith)
     returns
     returns-2)

@@ -23,30 +23,12 @@ returns c = too-short _ _ _ _ (omega (arith, length-bits (c .before .before .bef
 loop-holds : tie.Need-loop-holds Inv-loop μ-loop
 loop-holds c = none-passed
 
-mul-bits : tie.Need-mul-bits Inv-loop μ-loop
-mul-bits c = omega arith
-
-shared-slice-read-bits : tie.Need-shared-slice-read-bits Inv-loop μ-loop
-shared-slice-read-bits c = omega arith
-
-bits-requires : tie.Need-bits-requires Inv-loop μ-loop
-bits-requires c κs = omega arith
-
-bits-expected-requires : tie.Need-bits-expected-requires Inv-loop μ-loop
-bits-expected-requires c κs = omega arith
-
 returns-2 : tie.Need-returns-2 Inv-loop μ-loop
 unfolding words
 returns-2 c =
     let h = c .before .before .before .before .loop-test .taken in
     let e = length-bits (c .before .before .before .before .before .before .before .before .before .args .got .now) in
     differs _ _ _ _ _ (omega arith) (λ q. c .if2 .taken (c .before .before .bits .ensures ∙ sym (bits-at _ _ _ h) ∙ q ∙ sym (c .before .bits-expected .ensures)))
-
-add-i : tie.Need-add-i Inv-loop μ-loop
-add-i c = omega arith
-
-loop-less : tie.Need-loop-less Inv-loop μ-loop
-loop-less c = omega arith
 
 loop-again : tie.Need-loop-again Inv-loop μ-loop
 loop-again c =
@@ -67,12 +49,12 @@ floats-spec =
     μ-loop
     returns
     loop-holds
-    mul-bits
-    shared-slice-read-bits
-    bits-requires
-    bits-expected-requires
+    (λ c. omega arith)
+    (λ c. omega arith)
+    (λ c κs. omega arith)
+    (λ c κs. omega arith)
     returns-2
-    add-i
-    loop-less
+    (λ c. omega arith)
+    (λ c. omega arith)
     loop-again
     returns-3)

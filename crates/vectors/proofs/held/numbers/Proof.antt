@@ -21,24 +21,9 @@ returns c = too-short _ _ _ _ (c .if1 .taken)
 loop-holds : tie.Need-loop-holds Inv-loop μ-loop
 loop-holds c = none-passed
 
-mul-if2 : tie.Need-mul-if2 Inv-loop μ-loop
-mul-if2 c = omega arith
-
-shared-slice-read-if2 : tie.Need-shared-slice-read-if2 Inv-loop μ-loop
-shared-slice-read-if2 c = omega arith
-
-number-expected-requires : tie.Need-number-expected-requires Inv-loop μ-loop
-number-expected-requires c κs = omega arith
-
 returns-2 : tie.Need-returns-2 Inv-loop μ-loop
 unfolding column
 returns-2 c = differs _ _ _ _ _ (c .before .before .before .loop-test .taken) (λ e. c .if2 .taken (e ∙ sym (c .before .number-expected .ensures)))
-
-add-i : tie.Need-add-i Inv-loop μ-loop
-add-i c = omega arith
-
-loop-less : tie.Need-loop-less Inv-loop μ-loop
-loop-less c = omega arith
 
 loop-again : tie.Need-loop-again Inv-loop μ-loop
 loop-again c = one-passed (c .before .before .before .before .loop .inv) (c .if2 .left ∙ c .before .number-expected .ensures)
@@ -55,11 +40,11 @@ numbers-spec =
     μ-loop
     returns
     loop-holds
-    mul-if2
-    shared-slice-read-if2
-    number-expected-requires
+    (λ c. omega arith)
+    (λ c. omega arith)
+    (λ c κs. omega arith)
     returns-2
-    add-i
-    loop-less
+    (λ c. omega arith)
+    (λ c. omega arith)
     loop-again
     returns-3)

@@ -4,14 +4,8 @@ use Rattle.vectors.proofs.HeldLaws.{held-as, no-numbers}
 use Rattle.vectors.proofs.held.zeros.Statement.{statement}
 use Rattle.vectors.proofs.held.zeros.Tie as tie
 
-slice-aggregate-numbers : tie.Need-slice-aggregate-numbers
-slice-aggregate-numbers c = search needs
-
-numbers-requires : tie.Need-numbers-requires
-numbers-requires c κs = search needs
-
 returns : tie.Need-returns
 returns c = held-as (no-numbers _) (c .numbers .ensures)
 
 pub zeros-spec : {M : Type 1} → statement M
-zeros-spec = tie.close (tie.spec slice-aggregate-numbers numbers-requires returns)
+zeros-spec = tie.close (tie.spec (λ c. search needs) (λ c κs. search needs) returns)
