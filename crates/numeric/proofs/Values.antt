@@ -24,9 +24,6 @@ zero64 = fin false 0 (pos 0)
 abbrev pub one64 : Float
 one64 = fin false 1 (pos 0)
 
-pub none-below : (a b : ℕ) → b ≡ 0 → a < b → ⊥
-none-below a b p q = omega arith
-
 pub not-zero : (a : ℕ) → 0 < a → a ≡ 0 → ⊥
 not-zero a h e = omega arith
 

@@ -2,18 +2,11 @@
 ghost use mathlib.Core.Path.{_≡_};
 ghost use lib.Ieee as Ieee;
 ghost use lib.Ieee.{binary64};
-ghost use Rattle.numeric.specs.Near.{absOf, isNear};
+ghost use Rattle.numeric.specs.Near.{isNear};
 ghost use Rattle.numeric.specs.TotalOrder.{totalOrder};
 ghost use Rattle.numeric.specs.RoundTiesEven.{roundTiesEven};
 ghost use Rattle.numeric.specs.Tenths.{tenthsOf, InTenthsRange};
 ghost use Rattle.numeric.specs.Logistic.{logisticAt};
-
-#[no_mangle]
-pub extern "C" fn numeric_abs(x: f64) -> f64
-    ensures { λ r. ⌜ r ≡ absOf x ⌝ }
-{
-    numeric::near::abs(x)
-}
 
 #[no_mangle]
 pub extern "C" fn numeric_near(a: f64, b: f64, margin: f64) -> bool

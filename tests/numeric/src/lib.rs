@@ -12,10 +12,6 @@ pub const CANONICAL_NAN: u64 = 0x7FF8_0000_0000_0000;
 
 // SAFETY: the exports take and return plain values and touch no memory.
 unsafe extern "C" {
-    /// |x|.
-    #[link_name = "numeric_abs"]
-    pub safe fn abs(x: f64) -> f64;
-
     /// Whether |a - b|, with the difference rounded, is at most the margin.
     #[link_name = "numeric_near"]
     pub safe fn near(a: f64, b: f64, margin: f64) -> bool;

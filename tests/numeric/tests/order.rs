@@ -1,7 +1,7 @@
-//! total_order, near and abs against Rust's own operations.
+//! total_order and near against Rust's own operations.
 
 use numeric_tests::samples::{neighbours, Xorshift, SPECIAL};
-use numeric_tests::{abs, near, total_order};
+use numeric_tests::{near, total_order};
 
 fn check_order(a: f64, b: f64) {
     let want = a.total_cmp(&b).is_le();
@@ -12,11 +12,6 @@ fn check_near(a: f64, b: f64, margin: f64) -> bool {
     let want = (a - b).abs() <= margin;
     assert_eq!(near(a, b, margin), want, "near({a:?}, {b:?}, {margin:?})");
     want
-}
-
-fn check_abs(x: f64) {
-    let got = abs(x);
-    assert_eq!(got.to_bits(), x.abs().to_bits(), "abs({x:?}) gives {got:?}");
 }
 
 #[test]
@@ -125,17 +120,4 @@ fn near_beside_the_margin() {
     }
     let often = counts.iter().all(|&count| count > 300_000);
     assert!(often, "false and true: {counts:?}");
-}
-
-#[test]
-fn abs_by_bits() {
-    let mut random = Xorshift::new(15);
-    for _ in 0..1_000_000 {
-        check_abs(random.number());
-    }
-    for x in SPECIAL {
-        check_abs(x);
-    }
-    assert!(abs(f64::NAN).is_nan(), "abs of a NaN");
-    assert!(abs(-f64::NAN).is_nan(), "abs of a negative NaN");
 }
