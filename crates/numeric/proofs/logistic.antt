@@ -3,6 +3,6 @@ pub mod Rule
 pub mod Bounds
 pub mod Nearest
 pub mod Exponential
-mod Pairs
+mod ListTests
 mod Between
 mod Spacing

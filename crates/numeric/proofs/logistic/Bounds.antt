@@ -1,7 +1,7 @@
--- Sizes for the crates above: T(n) and 1.0 − T(n) are at most 1, and T(n) is a value of the format, for every n, by one test that antt computes over the whole table.
+-- Sizes for the crates above: T(n) and 1.0 − T(n) are at most 1, and T(n) is a value of the format, for every n,
+-- by one test that antt computes over the whole table.
 use mathlib.Core.Bool.{Bool, false, _&&_}
-use mathlib.Core.List.{List, [], _∷_}
-use Prim.Native.Nat.{ℕ, zero, suc, _*_}
+use Prim.Native.Nat.{ℕ, _*_}
 use lib.Dec.{T, leb, leb→le}
 use lib.ListN.{getD}
 use lib.Ieee.{Float, nan, inf, fin, binary64, up, down, ofBits, sub}
@@ -9,16 +9,7 @@ use lib.Ieee.Fits.{and-l, and-r}
 use Rattle.numeric.specs.Logistic.{tableBits, logisticAt}
 use Rattle.numeric.proofs.Values.{one64}
 use Rattle.numeric.proofs.Bounded.{Bounded}
-
--- a test of each element of a list, and of the 0 that a read past its end gives
-abbrev each : (ℕ → Bool) → List ℕ → Bool
-each f [] = f 0
-each f (x ∷ xs) = f x && each f xs
-
-each-at : (f : ℕ → Bool) (xs : List ℕ) → T (each f xs) → (k : ℕ) → T (f (getD xs k 0))
-each-at f [] t k = t
-each-at f (x ∷ xs) t zero = and-l (f x) (each f xs) t
-each-at f (x ∷ xs) t (suc k) = each-at f xs (and-r (f x) (each f xs) t) k
+use Rattle.numeric.proofs.logistic.ListTests.{every, at-or-past}
 
 abbrev small : Float → Bool
 small nan = false
@@ -31,20 +22,27 @@ small→bounded (inf s) t = absurd t
 small→bounded (fin s m e) t = leb→le (m * up e) (1 * down e) t
 
 abbrev bitTest : ℕ → Bool
-bitTest a = small (ofBits binary64 a) && small (sub binary64 one64 (ofBits binary64 a))
+bitTest b = small (ofBits binary64 b) && small (sub binary64 one64 (ofBits binary64 b))
 
-passes : T (each bitTest tableBits)
+passes : T (every (λ _. bitTest) 0 tableBits)
 unfolding tableBits ofBits sub
 passes = tt
+
+zero-passes : T (bitTest 0)
+unfolding ofBits sub
+zero-passes = tt
+
+entry : (n : ℕ) → T (bitTest (getD tableBits n 0))
+entry = at-or-past bitTest tableBits 0 passes zero-passes
 
 pub logistic-bounded : (n : ℕ) → Bounded (logisticAt n) 1
 unfolding logisticAt
 logistic-bounded n =
     let x = ofBits binary64 (getD tableBits n 0) in
-    small→bounded x (and-l (small x) (small (sub binary64 one64 x)) (each-at bitTest tableBits passes n))
+    small→bounded x (and-l (small x) (small (sub binary64 one64 x)) (entry n))
 
 pub rest-bounded : (n : ℕ) → Bounded (sub binary64 one64 (logisticAt n)) 1
 unfolding logisticAt
 rest-bounded n =
     let x = ofBits binary64 (getD tableBits n 0) in
-    small→bounded (sub binary64 one64 x) (and-r (small x) (small (sub binary64 one64 x)) (each-at bitTest tableBits passes n))
+    small→bounded (sub binary64 one64 x) (and-r (small x) (small (sub binary64 one64 x)) (entry n))

@@ -11,7 +11,7 @@ use lib.Ieee.Positive.{num, den, positive}
 use mathlib.Core.Bool.{false}
 use Rattle.numeric.specs.Logistic.{tableBits, logisticAt}
 use Rattle.numeric.specs.LogisticRule.{Step, growthNum, growthDen}
-use Rattle.numeric.proofs.logistic.Pairs.{pairs, pairs-at}
+use Rattle.numeric.proofs.logistic.ListTests.{pairs, pairs-at}
 
 abbrev test : Float → Float → Bool
 test x y =

@@ -6,7 +6,7 @@ use native.Mathlib.Omega.{arith}
 use lib.ListN.{length, getD, List·getD-eq-default}
 use lib.Ieee.{Float, nan, binary64, ofBits}
 use Rattle.numeric.specs.Logistic.{tableBits, logisticTable, logisticAt}
-use Rattle.numeric.proofs.logistic.Pairs.{mapped-at}
+use Rattle.numeric.proofs.logistic.ListTests.{mapped-at}
 use Rattle.numeric.proofs.logistic.logistic.Statement.{statement}
 use Rattle.numeric.proofs.logistic.logistic.Tie as tie
 
