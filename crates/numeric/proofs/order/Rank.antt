@@ -49,6 +49,7 @@ ex-inj l (negsuc k) (negsuc j) h g p = ap negsuc (down-inj k j l (pow-le-back (s
 
 -- ---- what fitting says
 pub record Held (m : ℕ) (e : ℤ) : Type 0 where
+  pub short : m < 2 ^ prec binary64
   pub low-enough : down e ≤ 2 ^ low binary64
   pub below-top : m * 2 ^ ex (low binary64) e < 2 ^ suc (emax binary64) * 2 ^ low binary64
   pub one-way : (m ≡ 0 → e ≡ pos 0) × ((m ≡ 0 → ⊥) → m % 2 ≡ 1)
@@ -67,7 +68,12 @@ unfolding fits
 held s zero e t =
     let p : e ≡ pos 0 = flat e (eqb→eq (up e * down e) 1 t) in
     subst (λ (z : ℤ). Held zero z) (sym p)
-    record { low-enough = pow-pos (low binary64); below-top = subst (λ (z : ℕ). z < 2 ^ suc (emax binary64) * 2 ^ low binary64) (sym (zero-mul (2 ^ ex (low binary64) (pos 0)))) (mul-pos (pow-pos (suc (emax binary64))) (pow-pos (low binary64))); one-way = ((λ _. refl), (λ n. absurd (n refl))) }
+    record {
+      short = pow-pos (prec binary64);
+      low-enough = pow-pos (low binary64);
+      below-top = mul-pos (pow-pos (suc (emax binary64))) (pow-pos (low binary64));
+      one-way = ((λ _. refl), (λ h. absurd (h refl)));
+    }
 held s (suc m) e t =
     let A = eqb (suc m % 2) 1 in
     let B = ltb (suc m) (2 ^ prec binary64) in
@@ -75,6 +81,7 @@ held s (suc m) e t =
     let D = ltb (suc m * up e) (2 ^ suc (emax binary64) * down e) in
     let c : down e ≤ 2 ^ low binary64 = leb→le (down e) (2 ^ low binary64) (and-r (A && B) C (and-l (A && B && C) D t)) in
     record {
+      short = ltb→lt (suc m) (2 ^ prec binary64) (and-r A B (and-l (A && B) C (and-l (A && B && C) D t)));
       low-enough = c;
       below-top = under-top (suc m) e (2 ^ suc (emax binary64)) (low binary64) c (ltb→lt (suc m * up e) (2 ^ suc (emax binary64) * down e) (and-r (A && B && C) D t));
       one-way = ((λ h. absurd (suc-not-zero m h)), (λ _. eqb→eq (suc m % 2) 1 (and-l A B (and-l (A && B) C (and-l (A && B && C) D t)))));
