@@ -3,14 +3,14 @@
 use mathlib.Core.Path.{_≡_, sym, ap, _∙_, subst}
 use mathlib.Core.Bool.{not}
 use mathlib.Core.List.{List, [], _∷_}
-use Prim.Native.Nat.{ℕ, zero, suc, _+_, _-_, _*_, _^_, _≤_, _<_}
+use Prim.Native.Nat.{ℕ, suc, _+_, _-_, _*_, _^_, _≤_, _<_}
 use native.Mathlib.Nat.{le-trans, le-of-eq, zero-add, suc-mul, add-assoc, add-comm}
 use native.Mathlib.Omega.{arith}
 use lib.Dec.{T, leb→le, lit≤}
 use lib.ListN.{length, getD}
 use lib.Ieee.{Float, nan, binary64, isNan, add}
 use lib.Ieee.Fits.{div-fits}
-use Rattle.numeric.specs.Constants as constant
+use Rattle.numeric.specs.Constants.{zero64}
 use Rattle.numeric.specs.Tenths.{InTenthsRange}
 use Rattle.numeric.proofs.Values.{Number, number-no-nan}
 use Rattle.numeric.proofs.Bounded as bounds
@@ -48,9 +48,9 @@ average-bounded : (B : ℕ) (xs : List Float) → 0 < length xs → length xs �
     → ((i : ℕ) → i < length xs → Bounded (getD xs i nan) B) → Bounded (averageOf xs) B
 unfolding averageOf
 average-bounded B xs some few k l g =
-    bounds.mean-bounded (sumFrom constant.zero xs) (length xs) B some few k
-    (subst (λ (n : ℕ). Bounded (sumFrom constant.zero xs) n) (zero-add (length xs * B))
-    (sum-bounded B 0 constant.zero xs (le-trans (le-of-eq (zero-add (length xs * B))) l) (leb→le 0 0 tt) g))
+    bounds.mean-bounded (sumFrom zero64 xs) (length xs) B some few k
+    (subst (λ (n : ℕ). Bounded (sumFrom zero64 xs) n) (zero-add (length xs * B))
+    (sum-bounded B 0 zero64 xs (le-trans (le-of-eq (zero-add (length xs * B))) l) (leb→le 0 0 tt) g))
 
 -- ---- the mean of a stretch of an accepted chart
 module _ (s : Settings) (c : Chart) (beside : ℕ) (accepted : verdict c beside ≡ Accepted) (a b : ℕ) (x : Stretch (c .kinds) a b) where

@@ -6,9 +6,10 @@ use Prim.Native.Nat.{ℕ, _*_}
 use lib.IntN.{pos}
 use lib.ListN.{length, replicate}
 use lib.Ieee.{inf, binary64, round, add, sub, mul, div, le, ofInt, ofBits, toBits}
-use Rattle.numeric.specs.Constants.{zero, one, eightTenths}
+use Rattle.numeric.specs.Constants.{zero64, one64, eightTenths}
 use Rattle.numeric.specs.Logistic.{tableBits, logisticAt}
 use Rattle.numeric.specs.Near.{isNear}
+use Rattle.numeric.specs.Range.{within}
 use Rattle.numeric.specs.Tenths.{tenthsOf}
 use Rattle.grouping_marks.specs.Over.{over, part}
 use Rattle.grouping_marks.specs.Scan.{scan, after, tabulate, gathered}
@@ -18,7 +19,7 @@ use Rattle.grouping_chart.specs.Chart.{Chart, even}
 use Rattle.grouping_chart.specs.Lent.{Outcome, answered}
 use Rattle.grouping_chart.specs.Room.{anyShort, shortRefusal}
 use Rattle.grouping_chart.specs.Settings.{baseSettings}
-use Rattle.grouping_chart.specs.Refusal.{within, timeGood, ratioGood, objectRefusal, firstRefused, verdict}
+use Rattle.grouping_chart.specs.Refusal.{timeGood, ratioGood, objectRefusal, firstRefused, verdict}
 use Rattle.grouping_hits.specs.RepeatingHitPatterns.{stageAfter, opensHit, hitMarks, secondAt, secondLengths, matches, nearestMatch, intervalAt, intervals}
 use Rattle.grouping_color.specs.MonoStreak.{continues, opensStreak, streakMarks, streakOf, streakLengths, streakTypes}
 use Rattle.grouping_color.specs.AlternatingMonoPattern.{opensPattern, patternMarks, coupledAt, coupled}
@@ -35,11 +36,11 @@ use Rattle.evaluator_calls.specs.Calls.{Memory, filled, colourOutcome, s
 
 -- starts and deltas 0.0, ratios 1.0
 unfoldable pub chart : List ℕ → Chart
-chart kinds = record { kinds = kinds; starts = replicate (length kinds) zero; deltas = replicate (length kinds) zero; ratios = replicate (length kinds) one }
+chart kinds = record { kinds = kinds; starts = replicate (length kinds) zero64; deltas = replicate (length kinds) zero64; ratios = replicate (length kinds) one64 }
 
 -- n values, 8 n and n places of work, none of them 0 before the call
 unfoldable pub lent : ℕ → Memory
-lent n = record { value = replicate n (inf false); work = replicate (8 * n) 7; scratch = replicate n one }
+lent n = record { value = replicate n (inf false); work = replicate (8 * n) 7; scratch = replicate n one64 }
 
 -- an outcome with each f64 as its bits
 pub record Shown (Answer : Type 0) : Type 0 where

@@ -7,7 +7,7 @@ use lib.Dec.{ltb, leb}
 use lib.IntN.{ℤ, pos}
 use lib.ListN.{length}
 use lib.Ieee.{Float, binary64, add, div, ofInt}
-use Rattle.numeric.specs.Constants.{zero}
+use Rattle.numeric.specs.Constants.{zero64}
 use Rattle.numeric.specs.Tenths.{tenthsOf}
 use Rattle.grouping_marks.specs.Over.{part}
 use Rattle.evaluator_values.specs.Colour.{colourValues}
@@ -32,7 +32,7 @@ sumFrom sum (x ∷ xs) = sumFrom (add binary64 sum x) xs
 
 -- divided by how many there are, which in a stretch is b − a: `length-stretch`, in proofs/StretchValues.antt
 unfoldable pub averageOf : List Float → Float
-averageOf values = div binary64 (sumFrom zero values) (ofInt binary64 (pos (length values)))
+averageOf values = div binary64 (sumFrom zero64 values) (ofInt binary64 (pos (length values)))
 
 unfoldable pub meanOf : ℕ → Float → List ℕ → List Float → ℕ → ℕ → Float
 meanOf limit tolerance kinds ratios a b = averageOf (stretchValues limit tolerance kinds ratios a b)

@@ -2,7 +2,7 @@
 ghost use mathlib.Core.Path.{_≡_};
 ghost use Prim.Native.Nat.{_-_, _≤_};
 ghost use lib.ListN.{length};
-ghost use Rattle.numeric.specs.Constants.{zero};
+ghost use Rattle.numeric.specs.Constants.{zero64};
 ghost use Rattle.grouping_marks.specs.Over.{part};
 ghost use Rattle.evaluator_calls.specs.Stretch.{stretchRefusal, sumFrom, averageOf};
 ghost use Rattle.evaluator_calls.specs.Calls.{stretchVerdict};
@@ -42,7 +42,7 @@ pub fn with_bounds(verdict: Verdict, kind: &[u8], a: usize, b: usize) -> Verdict
 
 // From left to right, from 0.0, each sum rounded.
 fn sum(values: &[f64]) -> f64
-    ensures { λ r. ⌜ r ≡ sumFrom zero (now (values .entry)) ⌝ }
+    ensures { λ r. ⌜ r ≡ sumFrom zero64 (now (values .entry)) ⌝ }
 {
     let mut sum: f64 = 0.0;
     let mut i = 0;

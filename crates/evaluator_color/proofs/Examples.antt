@@ -5,7 +5,7 @@ use mathlib.Core.List.{List, [], _∷_, map}
 use Prim.Native.Nat.{ℕ}
 use lib.IntN.{negsuc}
 use lib.Ieee.{Float, fin, binary64, round, add, sub, mul, div, le, ofBits, toBits}
-use Rattle.numeric.specs.Constants.{half, one, two, eightTenths}
+use Rattle.numeric.specs.Constants.{half64, one64, two64, eightTenths}
 use Rattle.numeric.specs.Logistic.{tableBits, logisticAt}
 use Rattle.numeric.specs.Near.{isNear}
 use Rattle.evaluator_color.specs.declared.Looked.{Looked}
@@ -20,13 +20,13 @@ unfoldable hundredth : Float
 hundredth = round binary64 false 1 100
 
 -- ---- document 01's example d, whose idx is 0: by the definitions, and as 01 writes it
-shown-d : toBits binary64 (mul binary64 (objectSum (looked 17 0 0 true true true)) (ratioPenalty hundredth 0 one one)) ≡ 0x4013ee42c8384268
+shown-d : toBits binary64 (mul binary64 (objectSum (looked 17 0 0 true true true)) (ratioPenalty hundredth 0 one64 one64)) ≡ 0x4013ee42c8384268
 unfolding objectSum hitValue altValue monoValue addIf logisticAt tableBits ratioPenalty lowered hundredth isNear ofBits toBits round add sub mul div le
 shown-d = refl
 
 -- "T(0) × (T(0) × 2) × 0.5, plus T(0) × 2, plus 2, rounded in order"
 shown-d-terms : toBits binary64
-    (add binary64 (add binary64 (mul binary64 (mul binary64 (logisticAt 0) (mul binary64 (logisticAt 0) two)) half) (mul binary64 (logisticAt 0) two)) two) ≡ 0x4013ee42c8384268
+    (add binary64 (add binary64 (mul binary64 (mul binary64 (logisticAt 0) (mul binary64 (logisticAt 0) two64)) half64) (mul binary64 (logisticAt 0) two64)) two64) ≡ 0x4013ee42c8384268
 unfolding logisticAt tableBits ofBits toBits add mul
 shown-d-terms = refl
 

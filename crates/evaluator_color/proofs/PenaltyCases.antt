@@ -4,15 +4,15 @@ use mathlib.Core.Bool.{Bool, cond}
 use Prim.Native.Nat.{ℕ}
 use lib.Dec.{ltb}
 use lib.Ieee.{Float, binary64, div}
-use Rattle.numeric.specs.Constants.{one}
+use Rattle.numeric.specs.Constants.{one64}
 use Rattle.numeric.specs.Near.{isNear}
 use Rattle.evaluator_color.specs.RatioPenalty.{lowered, ratioPenalty}
 
 module _ (tolerance : Float) (idx : ℕ) (c p : Float) where
-  pub tested : (r s t : Bool) → ltb idx 2 ≡ r → isNear tolerance one (div binary64 c p) ≡ s → ltb idx 4 ≡ t
-      → cond r one (cond s (lowered c) (cond t one (lowered p))) ≡ ratioPenalty tolerance idx c p
+  pub tested : (r s t : Bool) → ltb idx 2 ≡ r → isNear tolerance one64 (div binary64 c p) ≡ s → ltb idx 4 ≡ t
+      → cond r one64 (cond s (lowered c) (cond t one64 (lowered p))) ≡ ratioPenalty tolerance idx c p
   unfolding ratioPenalty
   tested r s t h k l =
-      sym (ap (λ (b : Bool). cond b one (cond (isNear tolerance one (div binary64 c p)) (lowered c) (cond (ltb idx 4) one (lowered p)))) h
-      ∙ ap (λ (b : Bool). cond r one (cond b (lowered c) (cond (ltb idx 4) one (lowered p)))) k
-      ∙ ap (λ (b : Bool). cond r one (cond s (lowered c) (cond b one (lowered p)))) l)
+      sym (ap (λ (b : Bool). cond b one64 (cond (isNear tolerance one64 (div binary64 c p)) (lowered c) (cond (ltb idx 4) one64 (lowered p)))) h
+      ∙ ap (λ (b : Bool). cond r one64 (cond b (lowered c) (cond (ltb idx 4) one64 (lowered p)))) k
+      ∙ ap (λ (b : Bool). cond r one64 (cond s (lowered c) (cond b one64 (lowered p)))) l)

@@ -2,13 +2,13 @@
 use mathlib.Core.Bool.{Bool, cond}
 use Prim.Native.Nat.{ℕ}
 use lib.Ieee.{Float, binary64, add, sub, mul}
-use Rattle.numeric.specs.Constants.{zero, half, one, two}
+use Rattle.numeric.specs.Constants.{zero64, half64, one64, two64}
 use Rattle.numeric.specs.Logistic.{logisticAt}
 use Rattle.evaluator_color.specs.declared.Looked.{Looked}
 
 -- "hit = 2.0 × (1.0 − T(interval))"
 unfoldable pub hitValue : ℕ → Float
-hitValue interval = mul binary64 two (sub binary64 one (logisticAt interval))
+hitValue interval = mul binary64 two64 (sub binary64 one64 (logisticAt interval))
 
 -- "alt = T(its place in the hit pattern) × hit"
 unfoldable pub altValue : ℕ → Float → Float
@@ -16,7 +16,7 @@ altValue place hit = mul binary64 (logisticAt place) hit
 
 -- "mono = T(its place in the alternating pattern) × alt × 0.5"
 unfoldable pub monoValue : ℕ → Float → Float
-monoValue place alt = mul binary64 (mul binary64 (logisticAt place) alt) half
+monoValue place alt = mul binary64 (mul binary64 (logisticAt place) alt) half64
 
 -- x, added where the object is first
 unfoldable pub addIf : Bool → Float → Float → Float
@@ -27,4 +27,4 @@ unfoldable pub objectSum : Looked → Float
 objectSum o =
     let hit = hitValue (o .interval) in
     let alt = altValue (o .outer) hit in
-    addIf (o .hit) (addIf (o .pattern) (addIf (o .streak) zero (monoValue (o .inner) alt)) alt) hit
+    addIf (o .hit) (addIf (o .pattern) (addIf (o .streak) zero64 (monoValue (o .inner) alt)) alt) hit

@@ -1,16 +1,16 @@
 -- Of an accepted record the penalty is finite and no NaN: the group's objects are the chart's, whose starts are at most 2 ^ 24 in size, so its duration is at most 2 ^ 25 in size, and the window
 -- is at least 1.0.
 use mathlib.Core.Path.{_≡_, sym, ap, subst}
-use mathlib.Core.Bool.{true, false, not}
+use mathlib.Core.Bool.{true, not}
 use mathlib.Core.List.{List}
 use Prim.Native.Nat.{ℕ, _-_, _^_, _<_}
 use native.Mathlib.Omega.{arith}
 use lib.Dec.{T, lit≤}
-use lib.IntN.{pos}
 use lib.ListN.{length, getD}
-use lib.Ieee.{Float, nan, fin, isNan}
-use Rattle.numeric.specs.Constants.{one}
+use lib.Ieee.{Float, nan, isNan}
+use Rattle.numeric.specs.Constants.{one64, thousand64}
 use Rattle.numeric.proofs.Bounded.{Bounded, sub-bounded, le-bounded}
+use Rattle.numeric.proofs.range.Laws.{within-ends}
 use Rattle.grouping_marks.proofs.PartedLaws.{parted-all, parted-some}
 use Rattle.grouping_chart.specs.Chart.{Chart, size}
 use Rattle.grouping_chart.specs.Refusal.{verdict}
@@ -18,7 +18,7 @@ use Rattle.grouping_chart.specs.Notes.{noteObjects}
 use Rattle.grouping_chart.specs.declared.chart.Verdict.the-variants.{Accepted}
 use Rattle.grouping_chart.proofs.AcceptedLaws.{GoodChart, accepted-good}
 use Rattle.grouping_chart.proofs.NoteLaws.{object-below}
-use Rattle.grouping_chart.proofs.RangeLaws.{within-ends, time-range}
+use Rattle.grouping_chart.proofs.RangeLaws.{time-range}
 use Rattle.grouping_same_rhythm.specs.SameRhythm.{rhythmMarks, groupObjects}
 use Rattle.grouping_same_rhythm.proofs.MadeLaws.{groupObjects-made}
 use Rattle.grouping_same_rhythm.proofs.GroupsLaws.{length-firsts}
@@ -68,5 +68,5 @@ module _ (margin : Float) (c : Chart) (beside g : ℕ) (accepted : verdict c bes
   pub penalty-no-nan : (threshold window : Float) → windowGood window ≡ true → T (not (isNan (recordOf margin threshold window (c .kinds) (c .starts) (c .deltas) g .penalty)))
   unfolding recordOf windowGood objects
   penalty-no-nan threshold window w =
-      let r = within-ends one (fin false 125 (pos 3)) window (subst T (sym w) tt) in
+      let r = within-ends one64 thousand64 window (subst T (sym w) tt) in
       penalty.penalty-no-nan threshold (ownsAt margin (c .kinds) (c .deltas) g) (length objects) (durationOf (c .starts) objects) window duration-bounded (r .0) (r .1)

@@ -6,10 +6,10 @@ use Prim.Native.Nat.{ℕ, _≤_, _<_}
 use native.Mathlib.Omega.{arith}
 use borrow.Author.Tests.{lt-ltb, le-ltb}
 use lib.Dec.{T, ltb}
-use lib.IntN.{pos}
 use lib.ListN.{length, getD}
-use lib.Ieee.{Float, nan, fin}
+use lib.Ieee.{Float, nan}
 use lib.Ieee.Scale.{finite}
+use Rattle.numeric.specs.Range.{earliest, latest}
 use Rattle.numeric.proofs.Values.{finite-between}
 use Rattle.grouping_chart.specs.Chart.{Chart, size}
 use Rattle.grouping_chart.specs.Refusal.{timeGood, verdict, refused}
@@ -34,7 +34,7 @@ use Rattle.evaluator_record.specs.Passes.{GroupRoom, Recorded}
 finite-time : (x : Float) → T (timeGood x) → T (finite x)
 finite-time x t =
     let b = time-range x t in
-    finite-between (fin true 1 (pos 24)) x (fin false 1 (pos 24)) tt tt (b .0) (b .1)
+    finite-between earliest x latest tt tt (b .0) (b .1)
 
 -- how many groups a chart has
 abbrev pub groupsOf : Settings → Chart → ℕ

@@ -1,15 +1,15 @@
 -- Document 01, "Calls and what they fill", record: what it answers, and what every lent slice holds afterwards. Refusals 8 and 9 are tested after 1 to 7.
 use Prim.Native.Nat.{ℕ, _*_}
-use mathlib.Core.Bool.{Bool, false, cond}
+use mathlib.Core.Bool.{Bool, cond}
 use mathlib.Core.List.{List, []}
 use lib.Dec.{ltb}
-use lib.IntN.{pos}
 use lib.ListN.{length, replicate}
-use lib.Ieee.{Float, fin, binary64, ofBits}
-use Rattle.numeric.specs.Constants.{one}
+use lib.Ieee.{Float, binary64, ofBits}
+use Rattle.numeric.specs.Constants.{one64, thousand64}
+use Rattle.numeric.specs.Range.{within}
 use Rattle.grouping_marks.specs.Over.{over}
 use Rattle.grouping_chart.specs.Chart.{Chart, size}
-use Rattle.grouping_chart.specs.Refusal.{within, verdict, refused}
+use Rattle.grouping_chart.specs.Refusal.{verdict, refused}
 use Rattle.grouping_chart.specs.Room.{beside}
 use Rattle.grouping_chart.specs.Lent.{Outcome, outcome, answered, Slice, lent, left}
 use Rattle.grouping_chart.specs.Settings.{Settings}
@@ -38,7 +38,7 @@ judged c m = verdict c (beside (size c) [] (length (m .work)) (length (m .scratc
 
 -- from 1.0 to 1,000.0: a NaN is not
 unfoldable pub windowGood : Float → Bool
-windowGood window = within one (fin false 125 (pos 3)) window
+windowGood window = within one64 thousand64 window
 
 -- "8 window not from 1.0 to 1,000.0. 9 group number not below the group count."
 unfoldable pub recordVerdict : Verdict → Float → ℕ → ℕ → Verdict

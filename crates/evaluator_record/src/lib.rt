@@ -37,7 +37,7 @@ pub enum Recording {
 fn window_good(window: f64) -> bool
     ensures { λ r. ⌜ r ≡ windowGood window ⌝ }
 {
-    grouping_chart::chart::value_within(1.0, 1000.0, window)
+    numeric::range::is_within(1.0, 1000.0, window)
 }
 
 // What the call does with an accepted chart and group number: finds the group, clears the work slices, and scores.

@@ -9,7 +9,7 @@ use borrow.Author.Tests.{lt-ltb, le-ltb}
 use lib.Dec.{ltb}
 use lib.ListN.{length, getD, take}
 use lib.Ieee.{Float}
-use Rattle.numeric.specs.Constants.{one, eightTenths}
+use Rattle.numeric.specs.Constants.{one64, eightTenths}
 use Rattle.grouping_same_rhythm.specs.declared.own.Own.{Own}
 use Rattle.grouping_same_rhythm.specs.declared.own.Own.the-variants.{Absent, Millis}
 use Rattle.evaluator_rhythm.specs.RepeatedInterval.{present, somePair, walkPenalty}
@@ -31,11 +31,11 @@ present-fewer (suc k) j (Absent ∷ owns) h e = let g = present-most k owns in o
 present-fewer (suc k) zero (Millis x ∷ owns) h e = let z : _≡_ {A = ℕ} 0 1 = cc in omega arith
 present-fewer (suc k) (suc j) (Millis x ∷ owns) h e = let g = present-fewer k j owns (omega arith) e in omega arith
 
-pub walk-absent : (threshold : Float) (k j : ℕ) (owns : List Own) → j < k → getD owns j Absent ≡ Absent → one ≡ walkPenalty threshold k owns
+pub walk-absent : (threshold : Float) (k j : ℕ) (owns : List Own) → j < k → getD owns j Absent ≡ Absent → one64 ≡ walkPenalty threshold k owns
 unfolding walkPenalty
 walk-absent threshold k j owns h e =
     let xs = present (take k owns) in
-    sym (ap (λ (b : Bool). cond b one (cond (somePair threshold xs) eightTenths one)) (lt-ltb (length xs) k (present-fewer k j owns h e)))
+    sym (ap (λ (b : Bool). cond b one64 (cond (somePair threshold xs) eightTenths one64)) (lt-ltb (length xs) k (present-fewer k j owns h e)))
 
 -- own intervals that all exist, with their numbers of milliseconds
 pub data Existing : List Own → List Float → Type 0 where
@@ -49,9 +49,9 @@ present-all (next {own} {owns} {x} {xs} h r) = ap (λ (o : Own). present (o ∷ 
 
 -- b is what the search for a similar pair found
 pub walk-existing : (threshold : Float) (k : ℕ) (owns : List Own) {xs : List Float} {b : Bool} → Existing (take k owns) xs → length xs ≡ k → b ≡ somePair threshold xs
-    → cond b eightTenths one ≡ walkPenalty threshold k owns
+    → cond b eightTenths one64 ≡ walkPenalty threshold k owns
 unfolding walkPenalty
 walk-existing threshold k owns {xs} {b} r l h =
-    sym (ap (λ (ys : List Float). cond (ltb (length ys) k) one (cond (somePair threshold ys) eightTenths one)) (present-all r)
-    ∙ ap (λ (z : Bool). cond z one (cond (somePair threshold xs) eightTenths one)) (le-ltb (length xs) k (le-of-eq (sym l)))
-    ∙ ap (λ (z : Bool). cond z eightTenths one) (sym h))
+    sym (ap (λ (ys : List Float). cond (ltb (length ys) k) one64 (cond (somePair threshold ys) eightTenths one64)) (present-all r)
+    ∙ ap (λ (z : Bool). cond z one64 (cond (somePair threshold xs) eightTenths one64)) (le-ltb (length xs) k (le-of-eq (sym l)))
+    ∙ ap (λ (z : Bool). cond z eightTenths one64) (sym h))

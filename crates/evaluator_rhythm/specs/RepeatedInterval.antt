@@ -7,7 +7,7 @@ use mathlib.Core.List.{List, [], _∷_}
 use lib.Dec.{ltb}
 use lib.ListN.{length, take}
 use lib.Ieee.{Float, binary64, sub, mul, div, le}
-use Rattle.numeric.specs.Constants.{half, one, two, eightTenths}
+use Rattle.numeric.specs.Constants.{half64, one64, two64, eightTenths}
 use Rattle.numeric.specs.Near.{isNear}
 use Rattle.grouping_same_rhythm.specs.declared.own.Own.{Own}
 use Rattle.grouping_same_rhythm.specs.declared.own.Own.the-variants.{Absent, Millis}
@@ -21,7 +21,7 @@ present (Millis x ∷ owns) = x ∷ present owns
 
 -- "newer ÷ older is within 0.1 of 1.0"
 unfoldable pub similar : Float → Float → Float → Bool
-similar threshold newer older = isNear threshold one (div binary64 newer older)
+similar threshold newer older = isNear threshold one64 (div binary64 newer older)
 
 -- a newer one with some older one
 unfoldable pub similarTo : Float → Float → List Float → Bool
@@ -36,7 +36,7 @@ somePair threshold (newer ∷ older) = similarTo threshold newer older || somePa
 -- the walk over k own intervals, the newest first
 unfoldable pub walkPenalty : Float → ℕ → List Own → Float
 walkPenalty threshold k owns =
-    cond (ltb (length (present (take k owns))) k) one (cond (somePair threshold (present (take k owns))) eightTenths one)
+    cond (ltb (length (present (take k owns))) k) one64 (cond (somePair threshold (present (take k owns))) eightTenths one64)
 
 -- what a walk is asked for
 pub record ThreeOrFour (k : ℕ) : Type 0 where
@@ -55,11 +55,11 @@ larger x y = cond (le y x) x y
 
 -- "the larger of 1.0 − duration × 2.0 / window and 0.5"
 unfoldable pub durationPenalty : Float → Float → Float
-durationPenalty duration window = larger (sub binary64 one (div binary64 (mul binary64 duration two) window)) half
+durationPenalty duration window = larger (sub binary64 one64 (div binary64 (mul binary64 duration two64) window)) half64
 
 -- of a group with this many notes
 unfoldable pub repeatedIntervalPenalty : Float → Recent → ℕ → Float → Float → Float
 repeatedIntervalPenalty threshold owns notes duration window =
     mul binary64
-    (smaller (walkPenalty threshold 3 (newestFirst owns)) (cond (ltb notes 6) (walkPenalty threshold 4 (newestFirst owns)) one))
+    (smaller (walkPenalty threshold 3 (newestFirst owns)) (cond (ltb notes 6) (walkPenalty threshold 4 (newestFirst owns)) one64))
     (durationPenalty duration window)

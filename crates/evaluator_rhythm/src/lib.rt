@@ -3,7 +3,7 @@ ghost use mathlib.Core.Path.{_≡_};
 ghost use mathlib.Core.Bool.{cond};
 ghost use mathlib.Core.List.{[], _∷_};
 ghost use lib.Dec.{ltb};
-ghost use Rattle.numeric.specs.Constants.{one, eightTenths};
+ghost use Rattle.numeric.specs.Constants.{one64, eightTenths};
 ghost use Rattle.evaluator_rhythm.specs.RepeatedInterval.{similar, somePair, walkPenalty, ThreeOrFour, newestFirst, smaller, larger, durationPenalty, repeatedIntervalPenalty};
 use grouping_same_rhythm::own::Own;
 use grouping_same_rhythm::owns::Recent;
@@ -44,7 +44,7 @@ fn similar_four(a: f64, b: f64, c: f64, d: f64, threshold: f64) -> bool
 }
 
 fn penalty_if(similar: bool) -> f64
-    ensures { λ r. ⌜ r ≡ cond similar eightTenths one ⌝ }
+    ensures { λ r. ⌜ r ≡ cond similar eightTenths one64 ⌝ }
 {
     if similar { 0.8 } else { 1.0 }
 }
@@ -78,7 +78,7 @@ fn walk(owns: Recent, k: usize, threshold: f64) -> f64
 
 // A group of six notes or more takes no penalty from the walk over four.
 fn short_penalty(owns: Recent, notes: usize, threshold: f64) -> f64
-    ensures { λ r. ⌜ r ≡ cond (ltb notes 6) (walkPenalty threshold 4 (newestFirst owns)) one ⌝ }
+    ensures { λ r. ⌜ r ≡ cond (ltb notes 6) (walkPenalty threshold 4 (newestFirst owns)) one64 ⌝ }
 {
     if notes < 6 {
         return walk(owns, 4, threshold);

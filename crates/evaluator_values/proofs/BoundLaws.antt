@@ -7,6 +7,7 @@ use lib.Dec.{T}
 use lib.ListN.{getD}
 use lib.Ieee.{Float, nan, binary64, fits, isNan, le, mul}
 use lib.Ieee.Fits.{mul-fits}
+use Rattle.numeric.specs.Range.{leastRatio, greatestRatio}
 use Rattle.numeric.proofs.Values.{Number, number-no-nan}
 use Rattle.numeric.proofs.Bounded.{Bounded, bounded-number}
 use Rattle.grouping_chart.specs.Chart.{Chart, size}
@@ -18,7 +19,6 @@ use Rattle.grouping_chart.proofs.RangeLaws.{ratio-range}
 use Rattle.evaluator_color.specs.Color.{objectSum}
 use Rattle.evaluator_color.specs.RatioPenalty.{ratioPenalty}
 use Rattle.evaluator_color.proofs.BoundLaws as formulas
-use Rattle.evaluator_color.proofs.BoundLaws.{lowest, highest}
 use Rattle.evaluator_values.specs.Colour.{lookedAt, colourAt, valuesOf}
 use Rattle.evaluator_values.proofs.LookLaws.{value-of}
 
@@ -35,7 +35,7 @@ module _ (s : Settings) (c : Chart) (beside : ℕ) (accepted : verdict c beside 
   unfolding colourAt
   value-is i h = value-of (s .limit) (s .tolerance) (c .kinds) (c .ratios) i h
 
-  ratio-at : (i : ℕ) → i < size c → T (le lowest (getD (c .ratios) i nan)) × T (le (getD (c .ratios) i nan) highest)
+  ratio-at : (i : ℕ) → i < size c → T (le leastRatio (getD (c .ratios) i nan)) × T (le (getD (c .ratios) i nan) greatestRatio)
   ratio-at i h = ratio-range (getD (c .ratios) i nan) (good .objects i nan h .ratio)
 
   pub value-bounded : (i : ℕ) → i < size c → Bounded (getD (valuesOf s c) i nan) largestColour

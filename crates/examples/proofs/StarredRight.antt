@@ -5,6 +5,7 @@ use lib.Ieee.{round, add, sub, mul, div, le, lt, eq, ofInt, ofBits, toBits}
 use Rattle.numeric.specs.Constants.{eightTenths}
 use Rattle.numeric.specs.Logistic.{tableBits, logisticAt}
 use Rattle.numeric.specs.Near.{absOf, isNear}
+use Rattle.numeric.specs.Range.{within}
 use Rattle.numeric.specs.TotalOrder.{totalOrder}
 use Rattle.numeric.specs.RoundTiesEven.{roundTiesEven}
 use Rattle.grouping_marks.specs.Over.{over}
@@ -14,7 +15,7 @@ use Rattle.grouping_chart.specs.Object.{isNote, notes, noteIdx, noteBefore, pre
 use Rattle.grouping_chart.specs.Chart.{even}
 use Rattle.grouping_chart.specs.Room.{anyShort, shortRefusal}
 use Rattle.grouping_chart.specs.Lent.{answered}
-use Rattle.grouping_chart.specs.Refusal.{within, timeGood, ratioGood, objectRefusal, firstRefused, verdict}
+use Rattle.grouping_chart.specs.Refusal.{timeGood, ratioGood, objectRefusal, firstRefused, verdict}
 use Rattle.grouping_hits.specs.RepeatingHitPatterns.{stageAfter, opensHit, hitMarks, secondAt, secondLengths, matches, nearestMatch, intervalAt, intervals}
 use Rattle.grouping_color.specs.MonoStreak.{continues, opensStreak, streakMarks, streakOf, streakLengths, streakTypes}
 use Rattle.grouping_color.specs.AlternatingMonoPattern.{opensPattern, patternMarks, coupledAt, coupled}

@@ -12,7 +12,8 @@ use Rattle.grouping_chart.specs.declared.object.ObjectIndex.{ObjectIndex
 use Rattle.grouping_chart.specs.declared.chart.Verdict.{Verdict}
 use Rattle.grouping_chart.specs.declared.chart.Verdict.the-variants.{Accepted, Refused}
 use Rattle.grouping_chart.specs.Chart.{Chart, SameLengths, even}
-use Rattle.grouping_chart.specs.Refusal.{within, earliest, latest, least, greatest, timeGood, ratioGood, objectRefusal, firstRefused, verdict}
+use Rattle.numeric.specs.Range.{within, earliest, latest, leastRatio, greatestRatio}
+use Rattle.grouping_chart.specs.Refusal.{timeGood, ratioGood, objectRefusal, firstRefused, verdict}
 use Rattle.grouping_chart.specs.Passes.{kindGood, allGood}
 use Rattle.grouping_chart.proofs.AllLaws.{both-true, all-each}
 use Rattle.grouping_chart.proofs.RefusalLaws.{all-even, verdict-objects}
@@ -106,7 +107,7 @@ all-good-accepted kinds starts deltas ratios same e =
       kind = leb-true _ 2 (all-each kindGood kinds (k .0) i 0 h);
       start = T-of _ (all-each (within earliest latest) starts (s .0) i z (omega (arith, same .start)));
       delta = T-of _ (all-each (within earliest latest) deltas (d .0) i z (omega (arith, same .delta)));
-      ratio = T-of _ (all-each (within least greatest) ratios (d .1) i z (omega (arith, same .ratio)));
+      ratio = T-of _ (all-each (within leastRatio greatestRatio) ratios (d .1) i z (omega (arith, same .ratio)));
     }))
 
 -- ---- the chart

@@ -1,14 +1,12 @@
 -- A loop that tests every element of a list: what it has found so far, together with the test of all that is left, is the test of all. The same for any list and test.
 use mathlib.Core.Path.{_≡_, refl, sym, ap, _∙_}
-use mathlib.Core.Bool.{Bool, true, false, cond, _&&_, true≢false}
+use mathlib.Core.Bool.{Bool, true, false, _&&_, true≢false}
 use mathlib.Core.List.{List, [], _∷_}
 use Prim.Native.Nat.{ℕ, zero, suc, _+_, _≤_, _<_}
 use native.Mathlib.Numerals.{add-one}
 use native.Mathlib.Omega.{arith}
 use lib.ListN.{length, drop, getD, drop-of-length-le}
 use lib.Seq.{drop-cons}
-use lib.Ieee.{Float, le}
-use Rattle.grouping_chart.specs.Refusal.{within}
 use Rattle.grouping_chart.specs.Passes.{all}
 
 and-assoc : (a b c : Bool) → ((a && b) && c) ≡ (a && (b && c))
@@ -22,15 +20,6 @@ and-true false = refl
 pub both-true : (a b : Bool) → (a && b) ≡ true → (a ≡ true) × (b ≡ true)
 both-true true b e = (refl, e)
 both-true false b e = absurd (true≢false (sym e))
-
--- the two tests of a range, joined
-pub within-both : (lo hi x : Float) → (le lo x && le x hi) ≡ within lo hi x
-unfolding within
-within-both lo hi x = by (le lo x)
-  where
-    by : (b : Bool) → (b && le x hi) ≡ cond b (le x hi) false
-    by true = refl
-    by false = refl
 
 module _ {A : Type 0} (test : A → Bool) (xs : List A) where
   -- i elements are tested, and `good` says whether all of these passed

@@ -6,7 +6,8 @@ use lib.Ieee.{Float, binary64, ofBits, le}
 use Rattle.grouping_chart.specs.declared.chart.Verdict.{Verdict}
 use Rattle.grouping_chart.specs.declared.chart.Verdict.the-variants.{Accepted, Refused}
 use Rattle.grouping_chart.specs.Chart.{Chart, even}
-use Rattle.grouping_chart.specs.Refusal.{within, timeGood, ratioGood, objectRefusal, firstRefused, refused, verdict}
+use Rattle.numeric.specs.Range.{within}
+use Rattle.grouping_chart.specs.Refusal.{timeGood, ratioGood, objectRefusal, firstRefused, refused, verdict}
 
 -- An f64 is written by its bits, so that the next one in size is the next number.
 abbrev one : ℕ

@@ -8,21 +8,11 @@ use native.Mathlib.Omega.{arith}
 use borrow.Author.Tests.{lt-ltb, le-ltb, le-leb, lt-leb, eq-eqb, ne-eqb}
 use lib.ListN.{length, drop, getD, drop-of-length-le}
 use lib.Seq.{drop-cons}
-use lib.Ieee.{Float, le}
+use lib.Ieee.{Float}
 use Rattle.grouping_chart.specs.declared.chart.Verdict.{Verdict}
 use Rattle.grouping_chart.specs.declared.chart.Verdict.the-variants.{Accepted, Refused}
 use Rattle.grouping_chart.specs.Chart.{Chart, SameLengths, even}
-use Rattle.grouping_chart.specs.Refusal.{within, timeGood, ratioGood, objectRefusal, firstRefused, refused, verdict}
-
--- ---- a value from lo to hi
-
-pub within-reached : (lo hi x : Float) → le lo x ≡ true → le x hi ≡ within lo hi x
-unfolding within
-within-reached lo hi x e = rw e
-
-pub within-below : (lo hi x : Float) → le lo x ≡ false → false ≡ within lo hi x
-unfolding within
-within-below lo hi x e = rw e
+use Rattle.grouping_chart.specs.Refusal.{timeGood, ratioGood, objectRefusal, firstRefused, refused, verdict}
 
 -- ---- the number of an object's refusal
 

@@ -4,7 +4,7 @@ use mathlib.Core.Bool.{Bool, true, _&&_}
 use mathlib.Core.List.{List, [], _∷_}
 use lib.Dec.{leb}
 use lib.Ieee.{Float}
-use Rattle.grouping_chart.specs.Refusal.{within, earliest, latest, least, greatest}
+use Rattle.numeric.specs.Range.{within, earliest, latest, leastRatio, greatestRatio}
 
 -- whether every element passes the test
 unfoldable pub all : {A : Type 0} → (A → Bool) → List A → Bool
@@ -17,4 +17,4 @@ kindGood k = leb k 2
 -- whether no object is refused, of four lists of one length
 unfoldable pub allGood : List ℕ → List Float → List Float → List Float → Bool
 allGood kinds starts deltas ratios =
-    all kindGood kinds && (all (within earliest latest) starts && (all (within earliest latest) deltas && all (within least greatest) ratios))
+    all kindGood kinds && (all (within earliest latest) starts && (all (within earliest latest) deltas && all (within leastRatio greatestRatio) ratios))

@@ -1,38 +1,20 @@
 -- Document 01, "Refused by number": refusals 1 to 7, in their order 1, 2, 3, then object by object 4, 5, 6, 7.
 -- "A refusal returns its number and a place (object idx for those tested object by object, else 0)."
 use Prim.Native.Nat.{ℕ, _+_}
-use mathlib.Core.Bool.{Bool, true, false, cond}
+use mathlib.Core.Bool.{Bool, cond}
 use mathlib.Core.List.{List, [], _∷_}
 use lib.Dec.{eqb, leb, ltb}
-use lib.IntN.{pos, negsuc}
-use lib.Ieee.{Float, fin, le}
+use lib.Ieee.{Float}
+use Rattle.numeric.specs.Range.{within, earliest, latest, leastRatio, greatestRatio}
 use Rattle.grouping_chart.specs.Chart.{Chart, size, largest, even}
 use Rattle.grouping_chart.specs.declared.chart.Verdict.{Verdict}
 use Rattle.grouping_chart.specs.declared.chart.Verdict.the-variants.{Accepted, Refused}
 
--- from lo to hi: a NaN is not, as it is not at most anything (IEEE 754-2019, 5.11)
-unfoldable pub within : Float → Float → Float → Bool
-within lo hi x = cond (le lo x) (le x hi) false
-
--- 16,777,216, which is 2^24, and its negative: "start not finite or outside ±16,777,216", "delta likewise"
-abbrev pub latest : Float
-latest = fin false 1 (pos 24)
-
-abbrev pub earliest : Float
-earliest = fin true 1 (pos 24)
-
 unfoldable pub timeGood : Float → Bool
 timeGood x = within earliest latest x
 
--- "ratio below 2^−24, above 2^24, or NaN"
-abbrev pub least : Float
-least = fin false 1 (negsuc 23)
-
-abbrev pub greatest : Float
-greatest = fin false 1 (pos 24)
-
 unfoldable pub ratioGood : Float → Bool
-ratioGood x = within least greatest x
+ratioGood x = within leastRatio greatestRatio x
 
 -- the number of an object's refusal, or 0
 unfoldable pub objectRefusal : ℕ → Float → Float → Float → ℕ

@@ -3,9 +3,10 @@ ghost use mathlib.Core.Path.{_≡_};
 ghost use lib.ListN.{length};
 ghost use Rattle.grouping_chart.specs.Chart.{SameLengths, even};
 ghost use Rattle.grouping_chart.specs.Lent.{chart};
-ghost use Rattle.grouping_chart.specs.Refusal.{within, timeGood, ratioGood, objectRefusal, firstRefused, verdict};
+ghost use Rattle.grouping_chart.specs.Refusal.{timeGood, ratioGood, objectRefusal, firstRefused, verdict};
 use crate::good;
 use crate::object::ObjectIndex;
+use numeric::range;
 
 // Whether a call is accepted; else the first refusal that applies and its place.
 pub enum Verdict {
@@ -13,26 +14,16 @@ pub enum Verdict {
     Refused(u8, ObjectIndex),
 }
 
-// Whether x is from lo to hi, which a NaN is not.
-pub fn value_within(lo: f64, hi: f64, x: f64) -> bool
-    ensures { λ r. ⌜ r ≡ within lo hi x ⌝ }
-{
-    if lo <= x {
-        return x <= hi;
-    }
-    false
-}
-
 fn time_good(time: f64) -> bool
     ensures { λ r. ⌜ r ≡ timeGood time ⌝ }
 {
-    value_within(-16777216.0, 16777216.0, time)
+    range::is_within(range::EARLIEST, range::LATEST, time)
 }
 
 fn ratio_good(ratio: f64) -> bool
     ensures { λ r. ⌜ r ≡ ratioGood ratio ⌝ }
 {
-    value_within(0.000000059604644775390625, 16777216.0, ratio)
+    range::is_within(range::LEAST_RATIO, range::GREATEST_RATIO, ratio)
 }
 
 fn times_refusal(start: f64, delta: f64, ratio: f64) -> u8

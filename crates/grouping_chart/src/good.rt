@@ -1,7 +1,8 @@
 // Whether all of a chart's objects are good, list by list. No loop here jumps by what it reads, so that several values are tested at a time.
 ghost use mathlib.Core.Path.{_≡_};
-ghost use Rattle.grouping_chart.specs.Refusal.{within};
+ghost use Rattle.numeric.specs.Range.{within};
 ghost use Rattle.grouping_chart.specs.Passes.{all, kindGood, allGood};
+use numeric::range;
 
 fn kinds_good(kind: &[u8]) -> bool
     ensures { λ r. ⌜ r ≡ all kindGood (now (kind .entry)) ⌝ }
@@ -35,8 +36,8 @@ pub fn all_good(kind: &[u8], start: &[f64], delta: &[f64], ratio: &[f64]) -> boo
     ensures { λ r. ⌜ r ≡ allGood (now (kind .entry)) (now (start .entry)) (now (delta .entry)) (now (ratio .entry)) ⌝ }
 {
     let kinds = kinds_good(kind);
-    let starts = all_within(-16777216.0, 16777216.0, start);
-    let deltas = all_within(-16777216.0, 16777216.0, delta);
-    let ratios = all_within(0.000000059604644775390625, 16777216.0, ratio);
+    let starts = all_within(range::EARLIEST, range::LATEST, start);
+    let deltas = all_within(range::EARLIEST, range::LATEST, delta);
+    let ratios = all_within(range::LEAST_RATIO, range::GREATEST_RATIO, ratio);
     kinds & (starts & (deltas & ratios))
 }

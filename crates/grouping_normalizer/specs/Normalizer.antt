@@ -7,7 +7,7 @@ use mathlib.Core.List.{List, [], _∷_, _++_, map}
 use lib.Dec.{eqb}
 use lib.ListN.{length, getD}
 use lib.Ieee.{Float, nan, binary64, add, div}
-use Rattle.numeric.specs.Constants.{two}
+use Rattle.numeric.specs.Constants.{two64}
 use Rattle.numeric.specs.Near.{isNear}
 use Rattle.numeric.specs.TotalOrder.{totalOrder}
 use Rattle.grouping_marks.specs.Over.{over}
@@ -45,7 +45,7 @@ holds x (v ∷ values) = alike x v || holds x values
 unfoldable pub middle : List Float → Float
 middle set =
     cond (eqb (length set % 2) 1) (getD set (length set / 2) nan)
-    (div binary64 (add binary64 (getD set (length set / 2 - 1) nan) (getD set (length set / 2) nan)) two)
+    (div binary64 (add binary64 (getD set (length set / 2 - 1) nan) (getD set (length set / 2) nan)) two64)
 
 -- the middle of the set that holds x; an x that no set holds stays, as in the source
 unfoldable pub middleOf : Float → List (List Float) → Float

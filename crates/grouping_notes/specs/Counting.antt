@@ -4,14 +4,14 @@ use Prim.Native.Nat.{ℕ, _+_, _^_, _≤_, _<_}
 use mathlib.Core.Bool.{true, false, cond, _&&_}
 use lib.Dec.{eqb, ltb}
 use lib.Ieee.{Float}
-use Rattle.numeric.specs.Constants.{zero}
+use Rattle.numeric.specs.Constants.{zero64}
 use Rattle.numeric.specs.Near.{isNear}
 use Rattle.grouping_interval.specs.IntervalGrouping.{rises}
 use Rattle.grouping_notes.specs.declared.Counting.{Counting}
 
 -- no note yet
 unfoldable pub counting₀ : Counting
-counting₀ = record { notes = 0; groups = 0; last = zero; next = zero; pending = false }
+counting₀ = record { notes = 0; groups = 0; last = zero64; next = zero64; pending = false }
 
 -- a further note, of delta d. While `pending`, it is not known yet whether the note before it, of delta `next`, is taken by the group that took `last`.
 unfoldable pub counted : Float → Counting → Float → Counting

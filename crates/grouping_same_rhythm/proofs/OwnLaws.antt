@@ -6,7 +6,7 @@ use Prim.Native.Nat.{_≤_, _<_}
 use native.Mathlib.Omega.{arith}
 use lib.ListN.{length, getD}
 use lib.Ieee.{Float, nan, binary64, div}
-use Rattle.numeric.specs.Constants.{one}
+use Rattle.numeric.specs.Constants.{one64}
 use Rattle.numeric.specs.Near.{isNear}
 use Rattle.numeric.specs.RoundTiesEven.{roundTiesEven}
 use Rattle.grouping_normalizer.specs.Normalizer.{normalOf, NormalOf}
@@ -56,11 +56,11 @@ module _ (margin : Float) (own previous : Own) where
 -- ---- set against another
 
 module _ (own previous : Own) where
-  pub ratio-absent : own ≡ Absent → one ≡ ratioOf own previous
+  pub ratio-absent : own ≡ Absent → one64 ≡ ratioOf own previous
   unfolding ratioOf
   ratio-absent p = sym (ap (λ (o : Own). ratioOf o previous) p)
 
-  pub ratio-first : (x : Float) → own ≡ Millis x → previous ≡ Absent → one ≡ ratioOf own previous
+  pub ratio-first : (x : Float) → own ≡ Millis x → previous ≡ Absent → one64 ≡ ratioOf own previous
   unfolding ratioOf
   ratio-first x p q = sym (ap (λ (o : Own). ratioOf o previous) p ∙ ap (ratioOf (Millis x)) q)
 

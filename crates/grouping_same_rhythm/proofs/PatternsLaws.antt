@@ -8,7 +8,7 @@ use lib.Dec.{ltb}
 use lib.ListN.{length, take, drop, getD, replicate, length-replicate, getD-replicate, take-append-drop}
 use lib.Seq.{length-take-le, drop-drop, getD-drop}
 use lib.Ieee.{Float, nan, binary64, div}
-use Rattle.numeric.specs.Constants.{one}
+use Rattle.numeric.specs.Constants.{one64}
 use Rattle.grouping_marks.specs.Over.{over, put, part}
 use Rattle.grouping_marks.specs.Marks.{groupNumbers}
 use Rattle.grouping_marks.specs.Parted.{parted}
@@ -189,7 +189,7 @@ module _ {margin : Float} {intervals : List Float} {g number before at end : ℕ
   number-is h = numbered-here (x .numbered) inside end (x .here) g (x .reached) h
 
   -- the first pattern
-  pub pattern-first : g < end → number ≡ 0 → _≡_ {A = Pattern} (record { number = number; ratio = one }) (patternOf margin intervals g)
+  pub pattern-first : g < end → number ≡ 0 → _≡_ {A = Pattern} (record { number = number; ratio = one64 }) (patternOf margin intervals g)
   unfolding patternOf patternRatio
   pattern-first h e = rw (number-is h, e)
 

@@ -4,7 +4,7 @@
 use mathlib.Core.Bool.{cond}
 use mathlib.Core.List.{List, [], _∷_}
 use lib.Ieee.{Float, binary64, div}
-use Rattle.numeric.specs.Constants.{one}
+use Rattle.numeric.specs.Constants.{one64}
 use Rattle.numeric.specs.Near.{isNear}
 use Rattle.numeric.specs.RoundTiesEven.{roundTiesEven}
 use Rattle.grouping_normalizer.specs.Normalizer.{normalOf}
@@ -34,6 +34,6 @@ ownsOf margin groups = ownsAfter margin Absent groups
 
 -- "own ÷ previous own if both exist, else 1.0"
 unfoldable pub ratioOf : Own → Own → Float
-ratioOf Absent previous = one
-ratioOf (Millis x) Absent = one
+ratioOf Absent previous = one64
+ratioOf (Millis x) Absent = one64
 ratioOf (Millis x) (Millis y) = div binary64 x y

@@ -4,7 +4,7 @@ use Prim.Native.Nat.{ℕ, zero, suc}
 use mathlib.Core.List.{List, [], _∷_}
 use lib.ListN.{getD}
 use lib.Ieee.{Float, nan, binary64, div}
-use Rattle.numeric.specs.Constants.{one}
+use Rattle.numeric.specs.Constants.{one64}
 use Rattle.grouping_marks.specs.Marks.{groupNumbers}
 use Rattle.grouping_marks.specs.Parted.{parted}
 use Rattle.grouping_interval.specs.IntervalGrouping.{intervalMarks}
@@ -18,7 +18,7 @@ patternInterval (first ∷ second ∷ intervals) = second
 
 -- of pattern number p
 unfoldable pub patternRatio : List (List Float) → ℕ → Float
-patternRatio patterns zero = one
+patternRatio patterns zero = one64
 patternRatio patterns (suc p) = div binary64 (patternInterval (getD patterns (suc p) [])) (patternInterval (getD patterns p []))
 
 -- the number of group g's pattern

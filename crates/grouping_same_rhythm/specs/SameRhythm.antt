@@ -4,7 +4,7 @@ use mathlib.Core.Bool.{false, cond}
 use mathlib.Core.List.{List, [], _∷_, map}
 use lib.ListN.{getD}
 use lib.Ieee.{Float, nan, inf, binary64, sub}
-use Rattle.numeric.specs.Constants.{zero}
+use Rattle.numeric.specs.Constants.{zero64}
 use Rattle.numeric.specs.Near.{isNear}
 use Rattle.grouping_marks.specs.Parted.{parted}
 use Rattle.grouping_chart.specs.Notes.{noteObjects, noteDeltas}
@@ -32,7 +32,7 @@ startsOf starts objects = map (λ (i : ℕ). getD starts i nan) objects
 
 -- "start minus previous start, 0.0 if within 5.0"
 unfoldable pub between : Float → Float → Float → Float
-between margin previous start = cond (isNear margin start previous) zero (sub binary64 start previous)
+between margin previous start = cond (isNear margin start previous) zero64 (sub binary64 start previous)
 
 -- the intervals of groups with these starts, behind a group with the start `previous`
 unfoldable pub intervalsAfter : Float → Float → List Float → List Float

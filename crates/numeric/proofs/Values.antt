@@ -18,12 +18,6 @@ pub record Number (x : Float) : Type 0 where
   pub is-finite : T (finite x)
   pub is-held : T (fits binary64 x)
 
-abbrev pub zero64 : Float
-zero64 = fin false 0 (pos 0)
-
-abbrev pub one64 : Float
-one64 = fin false 1 (pos 0)
-
 pub not-zero : (a : ℕ) → 0 < a → a ≡ 0 → ⊥
 not-zero a h e = omega arith
 

@@ -1,19 +1,22 @@
--- The f64 numbers that document 01's formulas name.
+-- The f64 numbers that the formulas of document 01 name; 64 is for binary64, so that none is taken for a natural number.
 use mathlib.Core.Bool.{false}
 use lib.IntN.{pos, negsuc}
 use lib.Ieee.{Float, fin, binary64, round}
 
-abbrev pub zero : Float
-zero = fin false 0 (pos 0)
+abbrev pub zero64 : Float
+zero64 = fin false 0 (pos 0)
 
-abbrev pub half : Float
-half = fin false 1 (negsuc 0)
+abbrev pub half64 : Float
+half64 = fin false 1 (negsuc 0)
 
-abbrev pub one : Float
-one = fin false 1 (pos 0)
+abbrev pub one64 : Float
+one64 = fin false 1 (pos 0)
 
-abbrev pub two : Float
-two = fin false 1 (pos 1)
+abbrev pub two64 : Float
+two64 = fin false 1 (pos 1)
+
+abbrev pub thousand64 : Float
+thousand64 = fin false 125 (pos 3)
 
 -- 0.8, the f64 nearest to 8 / 10
 unfoldable pub eightTenths : Float

@@ -1,6 +1,7 @@
 -- The definitions that this crate's promises and laws cite.
 pub mod Constants
 pub mod Near
+pub mod Range
 pub mod TotalOrder
 pub mod RoundTiesEven
 pub mod Tenths

@@ -3,5 +3,6 @@ pub mod canonical;
 pub mod logistic;
 pub mod near;
 pub mod order;
+pub mod range;
 pub mod round;
 pub mod tenths;

@@ -2,14 +2,14 @@
 use mathlib.Core.Path.{ap}
 use borrow.Author.Needs.{needs}
 use lib.Ieee.{Float, binary64, ofBits, sub, mul}
-use Rattle.numeric.specs.Constants.{one, two}
+use Rattle.numeric.specs.Constants.{one64, two64}
 use Rattle.evaluator_color.specs.Color.{hitValue}
 use Rattle.evaluator_color.proofs.hit_value.Statement.{statement}
 use Rattle.evaluator_color.proofs.hit_value.Tie as tie
 
 returns : tie.Need-returns
 unfolding hitValue ofBits
-returns c = ap (λ (t : Float). mul binary64 two (sub binary64 one t)) (c .logistic .ensures)
+returns c = ap (λ (t : Float). mul binary64 two64 (sub binary64 one64 t)) (c .logistic .ensures)
 
 pub hit-value-spec : {M : Type 1} → statement M
 hit-value-spec = tie.close (tie.spec (λ c κs. search needs) returns)

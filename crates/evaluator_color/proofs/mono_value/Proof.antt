@@ -2,14 +2,14 @@
 use mathlib.Core.Path.{ap}
 use borrow.Author.Needs.{needs}
 use lib.Ieee.{Float, binary64, ofBits, mul}
-use Rattle.numeric.specs.Constants.{half}
+use Rattle.numeric.specs.Constants.{half64}
 use Rattle.evaluator_color.specs.Color.{monoValue}
 use Rattle.evaluator_color.proofs.mono_value.Statement.{statement}
 use Rattle.evaluator_color.proofs.mono_value.Tie as tie
 
 returns : tie.Need-returns
 unfolding monoValue ofBits
-returns c = ap (λ (t : Float). mul binary64 (mul binary64 t (c .before .before .args .alt)) half) (c .logistic .ensures)
+returns c = ap (λ (t : Float). mul binary64 (mul binary64 t (c .before .before .args .alt)) half64) (c .logistic .ensures)
 
 pub mono-value-spec : {M : Type 1} → statement M
 mono-value-spec = tie.close (tie.spec (λ c κs. search needs) returns)

@@ -7,7 +7,7 @@ use Rattle.evaluator_record.proofs.window_good.Tie as tie
 
 returns : tie.Need-returns
 unfolding windowGood ofBits
-returns c = c .value-within .ensures
+returns c = c .is-within .ensures
 
 pub window-good-spec : {M : Type 1} → statement M
 window-good-spec = tie.close (tie.spec (λ c κs. search needs) returns)

@@ -6,8 +6,8 @@ use lib.Dec.{T, leb, leb→le}
 use lib.ListN.{getD}
 use lib.Ieee.{Float, nan, inf, fin, binary64, up, down, ofBits, sub}
 use lib.Ieee.Fits.{and-l, and-r}
+use Rattle.numeric.specs.Constants.{one64}
 use Rattle.numeric.specs.Logistic.{tableBits, logisticAt}
-use Rattle.numeric.proofs.Values.{one64}
 use Rattle.numeric.proofs.Bounded.{Bounded}
 use Rattle.numeric.proofs.logistic.ListTests.{every, at-or-past}
 

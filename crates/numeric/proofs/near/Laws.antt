@@ -14,8 +14,9 @@ use lib.Ieee.Fits.{neg-fits, down-pos, and-l, and-r, and-i, eq→eqb}
 use lib.Ieee.Positive.{through}
 use lib.Ieee.Order.{round-mono}
 use lib.Ieee.Scale.{finite}
+use Rattle.numeric.specs.Constants.{zero64}
 use Rattle.numeric.specs.Near.{absOf, isNear}
-use Rattle.numeric.proofs.Values.{Number, zero64, at-most, of-at-most, not-zero}
+use Rattle.numeric.proofs.Values.{Number, at-most, of-at-most, not-zero}
 use Rattle.numeric.proofs.Units.{L, unitsOf, plus, minus, sum-units, leq-units}
 use Rattle.numeric.proofs.Sign.{Signed, neg-round, round-signed}
 

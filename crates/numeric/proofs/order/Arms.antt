@@ -7,9 +7,10 @@ use lib.IntN.{ℤ, pos}
 use lib.Dec.{T, eqb, eqb→eq}
 use lib.Ieee.{Float, nan, inf, fin, binary64, up, down, lt, le, eq, div}
 use lib.Ieee.Fits.{and-l, and-r, and-i, eq→eqb}
+use Rattle.numeric.specs.Constants.{zero64, one64}
 use Rattle.numeric.specs.TotalOrder.{negative, totalOrder}
 use Rattle.numeric.proofs.Tests.{or-split, or-r}
-use Rattle.numeric.proofs.Values.{zero64, one64, not-zero, cross-pos, cross-zero}
+use Rattle.numeric.proofs.Values.{not-zero, cross-pos, cross-zero}
 use lib.Ieee.Bits.{is-true}
 
 -- ---- the arms

@@ -8,7 +8,7 @@ use borrow.Author.Needs.{needs}
 use lib.ListN.{length, drop, getD, drop-of-length-le}
 use lib.Seq.{drop-cons}
 use lib.Ieee.{Float, nan, binary64, add, ofBits}
-use Rattle.numeric.specs.Constants.{zero}
+use Rattle.numeric.specs.Constants.{zero64}
 use Rattle.evaluator_calls.specs.Stretch.{sumFrom}
 use Rattle.evaluator_calls.proofs.mean.sum.Statement.{statement}
 use Rattle.evaluator_calls.proofs.mean.sum.Tie as tie
@@ -23,7 +23,7 @@ unfolding sumFrom
 done acc xs i h = ap (sumFrom acc) (drop-of-length-le xs h)
 
 abbrev Inv-loop : tie.InvT-loop
-Inv-loop values sum₀ i₀ sum i = (i ≤ length values) × (sumFrom sum (drop i values) ≡ sumFrom zero values)
+Inv-loop values sum₀ i₀ sum i = (i ≤ length values) × (sumFrom sum (drop i values) ≡ sumFrom zero64 values)
 
 abbrev μ-loop : tie.MeasureT-loop
 μ-loop values sum₀ i₀ sum i = length values - i

@@ -7,7 +7,7 @@ use Rattle.grouping_chart.proofs.chart.ratio_good.Tie as tie
 
 returns : tie.Need-returns
 unfolding ratioGood ofBits
-returns c = c .value-within .ensures
+returns c = c .is-within .ensures
 
 pub ratio-good-spec : {M : Type 1} → statement M
 ratio-good-spec = tie.close (tie.spec (λ c κs. search needs) returns)

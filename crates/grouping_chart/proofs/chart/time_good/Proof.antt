@@ -7,7 +7,7 @@ use Rattle.grouping_chart.proofs.chart.time_good.Tie as tie
 
 returns : tie.Need-returns
 unfolding timeGood ofBits neg
-returns c = c .value-within .ensures
+returns c = c .is-within .ensures
 
 pub time-good-spec : {M : Type 1} → statement M
 time-good-spec = tie.close (tie.spec (λ c κs. search needs) returns)

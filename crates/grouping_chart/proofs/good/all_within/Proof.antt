@@ -1,8 +1,9 @@
 -- The invariant: what is found so far, with the test of all values that are left, is the test of all.
 use Prim.Native.Nat.{_-_}
 use lib.ListN.{length}
-use Rattle.grouping_chart.specs.Refusal.{within}
-use Rattle.grouping_chart.proofs.AllLaws.{Tested, tested-none, tested-next, tested-all, within-both}
+use Rattle.numeric.specs.Range.{within}
+use Rattle.numeric.proofs.range.Laws.{within-both}
+use Rattle.grouping_chart.proofs.AllLaws.{Tested, tested-none, tested-next, tested-all}
 use native.Mathlib.Omega.{arith}
 use Rattle.grouping_chart.proofs.good.all_within.Statement.{statement}
 use Rattle.grouping_chart.proofs.good.all_within.Tie as tie
