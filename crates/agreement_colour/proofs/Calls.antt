@@ -15,7 +15,7 @@ use Rattle.grouping_encode.specs.Encode as encode
 use Rattle.grouping_encode.specs.Encode.{encodeOutcome}
 use Rattle.grouping_encode.proofs.EncodeLaws.{hit-written, interval-written}
 use Rattle.evaluator_values.specs.Colour.{isFirst, valuesOf}
-use Rattle.evaluator_values.proofs.LookLaws.{value-of}
+use Rattle.evaluator_values.proofs.StandingLaws.{value-of}
 use Rattle.evaluator_values.proofs.AlikeLaws.{first-alike}
 use Rattle.evaluator_calls.specs.Calls.{Memory, judged}
 use Rattle.evaluator_calls.specs.declared.Stretching.the-variants.{Done}

@@ -11,7 +11,7 @@ use lib.ListN.{length, getD}
 use lib.Ieee.{Float}
 use Rattle.grouping_color.specs.Preprocessor.{hitOf, intervalOf}
 use Rattle.evaluator_values.specs.Colour.{isFirst}
-use Rattle.evaluator_values.proofs.LookLaws.{change-first}
+use Rattle.evaluator_values.proofs.StandingLaws.{change-first}
 use Rattle.agreement.specs.CommonTail.{Counterparts, CommonTail}
 use Rattle.agreement.specs.Landmark.{Landmark}
 use Rattle.agreement.specs.Agreement.{HitsCut, Agree}

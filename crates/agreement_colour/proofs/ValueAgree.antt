@@ -9,8 +9,8 @@ use lib.Ieee.{Float, nan}
 use Rattle.grouping_color.specs.MonoStreak.{streakOf}
 use Rattle.grouping_color.specs.Preprocessor.{patternOf, hitOf}
 use Rattle.evaluator_values.specs.Colour.{isFirst, colourAt}
-use Rattle.evaluator_values.proofs.LookLaws.{change-first}
-use Rattle.evaluator_values.proofs.AlikeLaws.{LookedAlike, colour-alike}
+use Rattle.evaluator_values.proofs.StandingLaws.{change-first}
+use Rattle.evaluator_values.proofs.AlikeLaws.{StandingAlike, colour-alike}
 use Rattle.agreement.specs.CommonTail.{CommonTail}
 use Rattle.agreement.specs.Agreement.{FirstAlike, Agree}
 use Rattle.agreement.proofs.TailLaws.{same-at}
@@ -21,8 +21,8 @@ first-agree xs ys a b j h k e =
     sym (change-first xs (a + j) _ _ (λ z. omega arith) refl refl) ∙ ap not e ∙ change-first ys (b + j) _ _ (λ z. omega arith) refl refl
 
 module _ {limit : ℕ} {kinds : List ℕ} {a g : ℕ} {kinds′ : List ℕ} {b h : ℕ} (r : Agree limit kinds a g kinds′ b h) where
-  looked-agree : (j : ℕ) → a + j < length kinds → g + limit ≤ getD (hitOf kinds) (a + j) 0 + 1 → LookedAlike limit kinds (a + j) kinds′ (b + j)
-  looked-agree j l n = record {
+  standing-agree : (j : ℕ) → a + j < length kinds → g + limit ≤ getD (hitOf kinds) (a + j) 0 + 1 → StandingAlike limit kinds (a + j) kinds′ (b + j)
+  standing-agree j l n = record {
     interval = r .interval j l n;
     outer = r .pattern-place j l;
     inner = r .streak-place j l;
@@ -42,4 +42,4 @@ module _ {limit : ℕ} {kinds : List ℕ} {a g : ℕ} {kinds′ : List ℕ} {b h
       (omega (arith, c .whole)) (omega (arith, c .whole, c .whole′)) nan in
       let this = at (a + j) (b + j) (omega arith) (omega (arith, r .objects)) in
       let earlier = at (a + j - 2) (b + j - 2) (omega arith) (omega (arith, r .objects, c .inside, c .inside′)) in
-      colour-alike tolerance ratios ratios′ (looked-agree j l n) this earlier (omega (arith, c .inside)) (omega (arith, r .objects, c .inside′))
+      colour-alike tolerance ratios ratios′ (standing-agree j l n) this earlier (omega (arith, c .inside)) (omega (arith, r .objects, c .inside′))

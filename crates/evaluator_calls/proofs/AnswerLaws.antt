@@ -10,7 +10,7 @@ use Rattle.grouping_chart.specs.Lent.{Outcome}
 use Rattle.grouping_chart.specs.Settings.{Settings}
 use Rattle.grouping_chart.specs.declared.chart.Verdict.the-variants.{Accepted}
 use Rattle.evaluator_values.specs.Colour.{valuesOf}
-use Rattle.evaluator_values.proofs.LookLaws.{length-values}
+use Rattle.evaluator_values.proofs.StandingLaws.{length-values}
 use Rattle.evaluator_calls.specs.declared.Stretching.{Stretching}
 use Rattle.evaluator_calls.specs.declared.Stretching.the-variants.{Done}
 use Rattle.evaluator_calls.specs.Stretch.{Stretch}

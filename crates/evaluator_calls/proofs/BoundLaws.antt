@@ -20,7 +20,7 @@ use Rattle.grouping_chart.specs.Refusal.{verdict}
 use Rattle.grouping_chart.specs.declared.chart.Verdict.the-variants.{Accepted}
 use Rattle.grouping_chart.specs.Settings.{Settings}
 use Rattle.grouping_chart.proofs.AcceptedLaws.{accepted-good}
-use Rattle.evaluator_values.proofs.LookLaws.{value-of}
+use Rattle.evaluator_values.proofs.StandingLaws.{value-of}
 use Rattle.evaluator_values.proofs.BoundLaws.{largestColour, value-bounded}
 use Rattle.evaluator_calls.specs.Stretch.{Stretch, stretchValues, sumFrom, averageOf, meanOf}
 use Rattle.evaluator_calls.specs.Calls.{chartMean}

@@ -13,7 +13,7 @@ use Rattle.grouping_marks.proofs.OverLaws.{length-over, length-part, getD-part}
 use Rattle.grouping_chart.specs.Chart.{Chart, size}
 use Rattle.grouping_chart.specs.Settings.{Settings, Permitted}
 use Rattle.evaluator_values.specs.Colour.{valuesOf}
-use Rattle.evaluator_values.proofs.LookLaws.{length-values}
+use Rattle.evaluator_values.proofs.StandingLaws.{length-values}
 use Rattle.evaluator_calls.specs.Stretch.{stretchValues, averageOf, meanOf}
 use Rattle.evaluator_calls.specs.Calls.{Memory, judged, chartMean}
 use Rattle.evaluator_calls.specs.Passes.{Coloured, StretchRoom}

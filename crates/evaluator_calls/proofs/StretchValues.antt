@@ -7,7 +7,7 @@ use lib.ListN.{length, getD}
 use lib.Ieee.{Float, nan}
 use Rattle.grouping_marks.proofs.OverLaws.{length-part, getD-part}
 use Rattle.evaluator_values.specs.Colour.{colourAt, colourValues}
-use Rattle.evaluator_values.proofs.LookLaws.{length-values, value-of}
+use Rattle.evaluator_values.proofs.StandingLaws.{length-values, value-of}
 use Rattle.evaluator_calls.specs.Stretch.{Stretch, stretchValues}
 
 module _ (limit : ℕ) (tolerance : Float) (kinds : List ℕ) (ratios : List Float) (a b : ℕ) (x : Stretch kinds a b) where

@@ -14,7 +14,7 @@ use Rattle.numeric.specs.Range.{leastRatio, greatestRatio}
 use Rattle.numeric.proofs.ConstantLaws.{eight-tenths-bounded}
 use Rattle.numeric.proofs.Bounded.{Bounded, bounded-more, round-bounded, add-bounded, sub-bounded, mul-bounded, div-bounded}
 use Rattle.numeric.proofs.logistic.Bounds.{logistic-bounded, rest-bounded}
-use Rattle.evaluator_color.specs.declared.Looked.{Looked}
+use Rattle.evaluator_color.specs.declared.Standing.{Standing}
 use Rattle.evaluator_color.specs.Color.{hitValue, altValue, monoValue, addIf, objectSum}
 use Rattle.evaluator_color.specs.RatioPenalty.{lowered, ratioPenalty}
 
@@ -42,7 +42,7 @@ unfolding addIf
 add-if-bounded true sum x B C l k h g = add-bounded sum x B C k h g
 add-if-bounded false sum x B C l k h g = bounded-more sum B (B + C) l h
 
-pub sum-bounded : (o : Looked) → Bounded (objectSum o) 5
+pub sum-bounded : (o : Standing) → Bounded (objectSum o) 5
 unfolding objectSum
 sum-bounded o =
     let hit = hitValue (o .interval) in
@@ -89,5 +89,5 @@ module _ (tolerance : Float) (idx : ℕ) (c p : Float) (c-lo : T (le leastRatio 
       (either (isNear tolerance one64 (div binary64 c p)) (lowered c) last B (lowered-bounded c c-lo c-hi) (either (ltb idx 4) one64 (lowered p) B u (lowered-bounded p p-lo p-hi)))
 
   -- 5 * (2 ^ 24 + 1), below 2 ^ 27
-  pub colour-bounded : (o : Looked) → Bounded (mul binary64 (objectSum o) (ratioPenalty tolerance idx c p)) 83886085
+  pub colour-bounded : (o : Standing) → Bounded (mul binary64 (objectSum o) (ratioPenalty tolerance idx c p)) 83886085
   colour-bounded o = mul-bounded (objectSum o) (ratioPenalty tolerance idx c p) 5 (2 ^ 24 + 1) (leb→le 83886085 (2 ^ 53) tt) (sum-bounded o) penalty-bounded

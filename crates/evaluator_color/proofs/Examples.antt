@@ -8,19 +8,19 @@ use lib.Ieee.{Float, fin, binary64, round, add, sub, mul, div, le, ofBits, toBit
 use Rattle.numeric.specs.Constants.{half64, one64, two64, eightTenths}
 use Rattle.numeric.specs.Logistic.{tableBits, logisticAt}
 use Rattle.numeric.specs.Near.{isNear}
-use Rattle.evaluator_color.specs.declared.Looked.{Looked}
+use Rattle.evaluator_color.specs.declared.Standing.{Standing}
 use Rattle.evaluator_color.specs.Color.{hitValue, altValue, monoValue, addIf, objectSum}
 use Rattle.evaluator_color.specs.RatioPenalty.{lowered, ratioPenalty}
 
-abbrev looked : ℕ → ℕ → ℕ → Bool → Bool → Bool → Looked
-looked interval outer inner streak pattern hit = record { interval = interval; outer = outer; inner = inner; streak = streak; pattern = pattern; hit = hit }
+abbrev standing : ℕ → ℕ → ℕ → Bool → Bool → Bool → Standing
+standing interval outer inner streak pattern hit = record { interval = interval; outer = outer; inner = inner; streak = streak; pattern = pattern; hit = hit }
 
 -- 0.01, the f64 nearest to 1 / 100
 unfoldable hundredth : Float
 hundredth = round binary64 false 1 100
 
 -- ---- document 01's example d, whose idx is 0: by the definitions, and as 01 writes it
-shown-d : toBits binary64 (mul binary64 (objectSum (looked 17 0 0 true true true)) (ratioPenalty hundredth 0 one64 one64)) ≡ 0x4013ee42c8384268
+shown-d : toBits binary64 (mul binary64 (objectSum (standing 17 0 0 true true true)) (ratioPenalty hundredth 0 one64 one64)) ≡ 0x4013ee42c8384268
 unfolding objectSum hitValue altValue monoValue addIf logisticAt tableBits ratioPenalty lowered hundredth isNear ofBits toBits round add sub mul div le
 shown-d = refl
 
@@ -31,28 +31,28 @@ unfolding logisticAt tableBits ofBits toBits add mul
 shown-d-terms = refl
 
 -- ---- sums: of a first object of all three, and of some. The fifth is another value where hit is added first, the last where alt is halved first
-places : List Looked
+places : List Standing
 places =
-    looked 17 0 0 true true true ∷
-    looked 1 0 0 true true true ∷
-    looked 2 1 3 true true true ∷
-    looked 3 2 1 true true true ∷
-    looked 5 0 7 true true true ∷
-    looked 15 4 200 true true true ∷
-    looked 17 260 262 true true true ∷
-    looked 4 263 264 true true true ∷
-    looked 1 1 1 true true true ∷
-    looked 9 8 7 true true true ∷
-    looked 2 2 2 true true true ∷
-    looked 17 263 263 true true true ∷
-    looked 17 0 0 false false false ∷
-    looked 17 0 0 true false false ∷
-    looked 17 0 0 true true false ∷
-    looked 17 0 0 false false true ∷
-    looked 17 0 0 false true true ∷
-    looked 2 1 3 true false true ∷
-    looked 2 1 3 false true false ∷
-    looked 1 1 263 true false false ∷ []
+    standing 17 0 0 true true true ∷
+    standing 1 0 0 true true true ∷
+    standing 2 1 3 true true true ∷
+    standing 3 2 1 true true true ∷
+    standing 5 0 7 true true true ∷
+    standing 15 4 200 true true true ∷
+    standing 17 260 262 true true true ∷
+    standing 4 263 264 true true true ∷
+    standing 1 1 1 true true true ∷
+    standing 9 8 7 true true true ∷
+    standing 2 2 2 true true true ∷
+    standing 17 263 263 true true true ∷
+    standing 17 0 0 false false false ∷
+    standing 17 0 0 true false false ∷
+    standing 17 0 0 true true false ∷
+    standing 17 0 0 false false true ∷
+    standing 17 0 0 false true true ∷
+    standing 2 1 3 true false true ∷
+    standing 2 1 3 false true false ∷
+    standing 1 1 263 true false false ∷ []
 
 sums : List ℕ
 sums =
@@ -61,7 +61,7 @@ sums =
     0x0000000000000000 ∷ 0x3fefb91ed6a3e888 ∷ 0x4007dc85907084d0 ∷ 0x4000000000000000 ∷ 0x400fee3ddac78aae ∷ 0x3ff076ee03ddb5f7 ∷
     0x3fee04e3a60de19b ∷ 0x0000512b6e56a84a ∷ []
 
-shown-sums : map (λ (o : Looked). toBits binary64 (objectSum o)) places ≡ sums
+shown-sums : map (λ (o : Standing). toBits binary64 (objectSum o)) places ≡ sums
 unfolding places sums objectSum hitValue altValue monoValue addIf logisticAt tableBits ofBits toBits add sub mul
 shown-sums = refl
 

@@ -4,7 +4,7 @@ use Prim.Native.Nat.{ℕ}
 use lib.Ieee.{Float, binary64, add, sub, mul}
 use Rattle.numeric.specs.Constants.{zero64, half64, one64, two64}
 use Rattle.numeric.specs.Logistic.{logisticAt}
-use Rattle.evaluator_color.specs.declared.Looked.{Looked}
+use Rattle.evaluator_color.specs.declared.Standing.{Standing}
 
 -- "hit = 2.0 × (1.0 − T(interval))"
 unfoldable pub hitValue : ℕ → Float
@@ -23,7 +23,7 @@ unfoldable pub addIf : Bool → Float → Float → Float
 addIf first sum x = cond first (add binary64 sum x) sum
 
 -- "From 0.0, mono is added if the object is first of its streak, then alt if first of its alternating pattern, then hit if first of its hit pattern."
-unfoldable pub objectSum : Looked → Float
+unfoldable pub objectSum : Standing → Float
 objectSum o =
     let hit = hitValue (o .interval) in
     let alt = altValue (o .outer) hit in

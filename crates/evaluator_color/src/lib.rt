@@ -3,12 +3,13 @@ ghost use mathlib.Core.Path.{_≡_};
 ghost use Rattle.numeric.specs.Logistic.{logisticTable};
 ghost use Rattle.evaluator_color.specs.Color.{hitValue, altValue, monoValue, addIf, objectSum};
 ghost use Rattle.evaluator_color.specs.RatioPenalty.{lowered, ratioPenalty};
+use grouping_chart::object::ObjectIndex;
 use numeric::logistic::logistic;
 use numeric::near::near;
 
-// What the evaluator looks at of an object: its hit pattern's interval, its alternating pattern's place in that (outer),
-// its streak's place in the alternating pattern (inner), and of which of the three it is the first object.
-pub struct Looked {
+// How an object stands in its groups: its hit pattern's interval, its alternating pattern's place in that (outer), its
+// streak's place in the alternating pattern (inner), and of which of the three it is the first object.
+pub struct Standing {
     pub interval: usize,
     pub outer: usize,
     pub inner: usize,
@@ -45,7 +46,7 @@ pub fn add_if(first: bool, sum: f64, x: f64) -> f64
 }
 
 // The object's value before its ratio penalty.
-pub fn object_sum(table: &[f64], o: Looked) -> f64
+pub fn object_sum(table: &[f64], o: Standing) -> f64
     requires { ⌜ now table ≡ logisticTable ⌝ }
     ensures { λ r. ⌜ r ≡ objectSum o ⌝ }
 {
@@ -65,17 +66,18 @@ fn lower(r: f64) -> f64
     1.0 - r / 2.0 * 0.8
 }
 
-// By the object's ratio c and the ratio p of the object two before it. Below idx 2 there is none, and p is not looked at.
-pub fn ratio_penalty(idx: usize, c: f64, p: f64, tolerance: f64) -> f64
-    ensures { λ r. ⌜ r ≡ ratioPenalty tolerance idx c p ⌝ }
+// By the object's ratio c and the ratio p of the object two before it. Below object 2 there is none, and p is not read.
+pub fn ratio_penalty(idx: ObjectIndex, c: f64, p: f64, tolerance: f64) -> f64
+    ensures { λ r. ⌜ r ≡ ratioPenalty tolerance (idx .0) c p ⌝ }
 {
-    if idx < 2 {
+    let i = idx.0;
+    if i < 2 {
         return 1.0;
     }
     if near(1.0, c / p, tolerance) {
         return lower(c);
     }
-    if idx < 4 {
+    if i < 4 {
         return 1.0;
     }
     lower(p)

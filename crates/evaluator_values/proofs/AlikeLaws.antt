@@ -1,4 +1,4 @@
--- An object of one chart has the value of an object of another where what the evaluator looks at is the same. For crates above this one.
+-- An object of one chart has the value of an object of another where both stand alike in their groups. For crates above this one.
 use mathlib.Core.Path.{_≡_, refl, sym, ap, _∙_}
 use mathlib.Core.Bool.{true, false, cond, not}
 use mathlib.Core.List.{List}
@@ -13,15 +13,15 @@ use Rattle.grouping_color.specs.Preprocessor.{streakPlaceOf, patternOf, pattern
 use Rattle.evaluator_color.specs.Color.{objectSum}
 use Rattle.evaluator_color.specs.RatioPenalty.{ratioPenalty}
 use Rattle.evaluator_color.proofs.PenaltyCases.{tested}
-use Rattle.evaluator_values.specs.Colour.{isFirst, lookedAt, colourAt}
+use Rattle.evaluator_values.specs.Colour.{isFirst, standingAt, colourAt}
 
 -- the same object of two lists of group numbers, by its number and the one before
 pub first-alike : (xs ys : List ℕ) (i : ℕ) → getD xs i 0 ≡ getD ys i 0 → getD xs (i - 1) 0 ≡ getD ys (i - 1) 0 → isFirst xs i ≡ isFirst ys i
 unfolding isFirst
 first-alike xs ys i e f t = cond (eqb i 0) true (not (eqb (e t) (f t)))
 
--- what the evaluator looks at is the same of object i of the one chart and of object i′ of the other
-pub record LookedAlike (limit : ℕ) (kinds : List ℕ) (i : ℕ) (kinds′ : List ℕ) (i′ : ℕ) : Type 0 where
+-- object i of the one chart stands in its groups as object i′ of the other does
+pub record StandingAlike (limit : ℕ) (kinds : List ℕ) (i : ℕ) (kinds′ : List ℕ) (i′ : ℕ) : Type 0 where
   pub interval : getD (intervalOf limit kinds) i 0 ≡ getD (intervalOf limit kinds′) i′ 0
   pub outer : getD (patternPlaceOf kinds) i 0 ≡ getD (patternPlaceOf kinds′) i′ 0
   pub inner : getD (streakPlaceOf kinds) i 0 ≡ getD (streakPlaceOf kinds′) i′ 0
@@ -29,9 +29,9 @@ pub record LookedAlike (limit : ℕ) (kinds : List ℕ) (i : ℕ) (kinds′ : Li
   pub pattern : isFirst (patternOf kinds) i ≡ isFirst (patternOf kinds′) i′
   pub hit : isFirst (hitOf kinds) i ≡ isFirst (hitOf kinds′) i′
 
-looked-alike : {limit : ℕ} {kinds : List ℕ} {i : ℕ} {kinds′ : List ℕ} {i′ : ℕ} → LookedAlike limit kinds i kinds′ i′ → lookedAt limit kinds i ≡ lookedAt limit kinds′ i′
-unfolding lookedAt
-looked-alike e t = record { interval = e .interval t; outer = e .outer t; inner = e .inner t; streak = e .streak t; pattern = e .pattern t; hit = e .hit t }
+standing-alike : {limit : ℕ} {kinds : List ℕ} {i : ℕ} {kinds′ : List ℕ} {i′ : ℕ} → StandingAlike limit kinds i kinds′ i′ → standingAt limit kinds i ≡ standingAt limit kinds′ i′
+unfolding standingAt
+standing-alike e t = record { interval = e .interval t; outer = e .outer t; inner = e .inner t; streak = e .streak t; pattern = e .pattern t; hit = e .hit t }
 
 -- from object 4 on the penalty hangs on the two ratios alone
 penalty-late : (tolerance : Float) (i j : ℕ) (c p : Float) → 4 ≤ i → 4 ≤ j → ratioPenalty tolerance i c p ≡ ratioPenalty tolerance j c p
@@ -40,9 +40,9 @@ penalty-late tolerance i j c p h k =
 
 -- the value, from object 4 on, where the two ratios are the same too
 pub colour-alike : {limit : ℕ} (tolerance : Float) {kinds : List ℕ} (ratios : List Float) {i : ℕ} {kinds′ : List ℕ} (ratios′ : List Float) {i′ : ℕ}
-    → LookedAlike limit kinds i kinds′ i′ → getD ratios i nan ≡ getD ratios′ i′ nan → getD ratios (i - 2) nan ≡ getD ratios′ (i′ - 2) nan → 4 ≤ i → 4 ≤ i′
+    → StandingAlike limit kinds i kinds′ i′ → getD ratios i nan ≡ getD ratios′ i′ nan → getD ratios (i - 2) nan ≡ getD ratios′ (i′ - 2) nan → 4 ≤ i → 4 ≤ i′
     → colourAt limit tolerance kinds ratios i ≡ colourAt limit tolerance kinds′ ratios′ i′
 unfolding colourAt
 colour-alike {limit} tolerance ratios {i} {kinds′} ratios′ {i′} l this earlier h k =
-    (λ t. mul binary64 (objectSum (looked-alike l t)) (ratioPenalty tolerance i (this t) (earlier t)))
-    ∙ ap (λ (x : Float). mul binary64 (objectSum (lookedAt limit kinds′ i′)) x) (penalty-late tolerance i i′ _ _ h k)
+    (λ t. mul binary64 (objectSum (standing-alike l t)) (ratioPenalty tolerance i (this t) (earlier t)))
+    ∙ ap (λ (x : Float). mul binary64 (objectSum (standingAt limit kinds′ i′)) x) (penalty-late tolerance i i′ _ _ h k)

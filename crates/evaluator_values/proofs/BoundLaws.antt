@@ -19,8 +19,8 @@ use Rattle.grouping_chart.proofs.RangeLaws.{ratio-range}
 use Rattle.evaluator_color.specs.Color.{objectSum}
 use Rattle.evaluator_color.specs.RatioPenalty.{ratioPenalty}
 use Rattle.evaluator_color.proofs.BoundLaws as formulas
-use Rattle.evaluator_values.specs.Colour.{lookedAt, colourAt, valuesOf}
-use Rattle.evaluator_values.proofs.LookLaws.{value-of}
+use Rattle.evaluator_values.specs.Colour.{standingAt, colourAt, valuesOf}
+use Rattle.evaluator_values.proofs.StandingLaws.{value-of}
 
 -- 5 * (2 ^ 24 + 1): an object's sum times its penalty
 abbrev pub largestColour : ℕ
@@ -31,7 +31,7 @@ module _ (s : Settings) (c : Chart) (beside : ℕ) (accepted : verdict c beside 
   good = accepted-good c beside accepted
 
   value-is : (i : ℕ) → i < size c
-      → getD (valuesOf s c) i nan ≡ mul binary64 (objectSum (lookedAt (s .limit) (c .kinds) i)) (ratioPenalty (s .tolerance) i (getD (c .ratios) i nan) (getD (c .ratios) (i - 2) nan))
+      → getD (valuesOf s c) i nan ≡ mul binary64 (objectSum (standingAt (s .limit) (c .kinds) i)) (ratioPenalty (s .tolerance) i (getD (c .ratios) i nan) (getD (c .ratios) (i - 2) nan))
   unfolding colourAt
   value-is i h = value-of (s .limit) (s .tolerance) (c .kinds) (c .ratios) i h
 
@@ -43,7 +43,7 @@ module _ (s : Settings) (c : Chart) (beside : ℕ) (accepted : verdict c beside 
       let r = ratio-at i h in
       let p = ratio-at (i - 2) (omega arith) in
       subst (λ (x : Float). Bounded x largestColour) (sym (value-is i h))
-      (formulas.colour-bounded (s .tolerance) i (getD (c .ratios) i nan) (getD (c .ratios) (i - 2) nan) (r .0) (r .1) (p .0) (p .1) (lookedAt (s .limit) (c .kinds) i))
+      (formulas.colour-bounded (s .tolerance) i (getD (c .ratios) i nan) (getD (c .ratios) (i - 2) nan) (r .0) (r .1) (p .0) (p .1) (standingAt (s .limit) (c .kinds) i))
 
   pub value-number : (i : ℕ) → i < size c → Number (getD (valuesOf s c) i nan)
   value-number i h =

@@ -1,5 +1,5 @@
 -- The laws of this crate. Those that are public are for the crates above, or are results of their own; the others serve the proofs of this crate alone.
-pub mod LookLaws
+pub mod StandingLaws
 pub mod BoundLaws
 pub mod AlikeLaws
 pub mod TablesLaws

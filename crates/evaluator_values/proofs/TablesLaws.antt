@@ -40,9 +40,9 @@ tabled {limit} {kinds} r t = record {
 
 -- ---- what is looked up
 -- entry s of a table of m places from place a on, where s is the object's number
-looked : (w : List ℕ) (a m : ℕ) (table idx answer : List ℕ) (i s : ℕ) → part a m w ≡ table → gathered table idx ≡ answer → i < length idx → s < m → s ≡ getD idx i 0
+entry-is : (w : List ℕ) (a m : ℕ) (table idx answer : List ℕ) (i s : ℕ) → part a m w ≡ table → gathered table idx ≡ answer → i < length idx → s < m → s ≡ getD idx i 0
     → getD w (a + s) 0 ≡ getD answer i 0
-looked w a m table idx answer i s t g h r e =
+entry-is w a m table idx answer i s t g h r e =
     sym (getD-part a m w s 0 r) ∙ (λ j. getD (t j) (e j) 0) ∙ sym (getD-gathered table idx i h) ∙ ap (λ (l : List ℕ). getD l i 0) g
 
 module _ {kinds w : List ℕ} {k : Counts} {i : ℕ} (o : ObjectIn kinds w k i) where
@@ -56,7 +56,7 @@ module _ {kinds w : List ℕ} {k : Counts} {i : ℕ} (o : ObjectIn kinds w k i) 
 
   pattern-is : getD w (3 * length kinds + getD w i 0) 0 ≡ getD (patternOf kinds) i 0
   pattern-is =
-      looked w (3 * length kinds) (k .streaks) _ (streakOf kinds) _ i (getD w i 0) (o .tabled .tables .pattern) (patternOf-looked kinds)
+      entry-is w (3 * length kinds) (k .streaks) _ (streakOf kinds) _ i (getD w i 0) (o .tabled .tables .pattern) (patternOf-looked kinds)
       (omega (arith, length-streakOf kinds, o .within)) streak-in streak-is
 
   pub pattern-in : getD w (3 * length kinds + getD w i 0) 0 < k .patterns
@@ -64,7 +64,7 @@ module _ {kinds w : List ℕ} {k : Counts} {i : ℕ} (o : ObjectIn kinds w k i) 
 
   hit-is : getD w (length kinds + getD w (3 * length kinds + getD w i 0) 0) 0 ≡ getD (hitOf kinds) i 0
   hit-is =
-      looked w (length kinds) (k .patterns) _ (patternOf kinds) _ i (getD w (3 * length kinds + getD w i 0) 0) (o .tabled .tables .hit) (hitOf-looked kinds)
+      entry-is w (length kinds) (k .patterns) _ (patternOf kinds) _ i (getD w (3 * length kinds + getD w i 0) 0) (o .tabled .tables .hit) (hitOf-looked kinds)
       (omega (arith, length-patternOf kinds, o .within)) pattern-in pattern-is
 
   hit-in : getD w (length kinds + getD w (3 * length kinds + getD w i 0) 0) 0 < k .hits
@@ -77,15 +77,15 @@ module _ {kinds w : List ℕ} {k : Counts} {i : ℕ} (o : ObjectIn kinds w k i) 
   module _ {r : Numbers} (a : NumbersAt kinds k i r) where
     pub interval-is : getD w (7 * length kinds + r .hit) 0 ≡ getD (intervalOf (k .limit) kinds) i 0
     interval-is =
-        looked w (7 * length kinds) (k .hits) _ (hitOf kinds) _ i (r .hit) (o .tabled .tables .interval) (intervalOf-looked kinds (k .limit))
+        entry-is w (7 * length kinds) (k .hits) _ (hitOf kinds) _ i (r .hit) (o .tabled .tables .interval) (intervalOf-looked kinds (k .limit))
         (omega (arith, length-hitOf kinds, o .within)) (a .in-hits) (a .hits)
 
     pub outer-is : getD w (2 * length kinds + r .pattern) 0 ≡ getD (patternPlaceOf kinds) i 0
     outer-is =
-        looked w (2 * length kinds) (k .patterns) _ (patternOf kinds) _ i (r .pattern) (o .tabled .tables .pattern-place) (patternPlaceOf-looked kinds)
+        entry-is w (2 * length kinds) (k .patterns) _ (patternOf kinds) _ i (r .pattern) (o .tabled .tables .pattern-place) (patternPlaceOf-looked kinds)
         (omega (arith, length-patternOf kinds, o .within)) (a .in-patterns) (a .patterns)
 
     pub inner-is : getD w (4 * length kinds + r .streak) 0 ≡ getD (streakPlaceOf kinds) i 0
     inner-is =
-        looked w (4 * length kinds) (k .streaks) _ (streakOf kinds) _ i (r .streak) (o .tabled .tables .streak-place) (streakPlaceOf-looked kinds)
+        entry-is w (4 * length kinds) (k .streaks) _ (streakOf kinds) _ i (r .streak) (o .tabled .tables .streak-place) (streakPlaceOf-looked kinds)
         (omega (arith, length-streakOf kinds, o .within)) (a .in-streaks) (a .streaks)

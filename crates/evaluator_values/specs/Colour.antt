@@ -10,7 +10,7 @@ use Rattle.grouping_chart.specs.Chart.{Chart}
 use Rattle.grouping_chart.specs.Settings.{Settings}
 use Rattle.grouping_color.specs.MonoStreak.{streakOf}
 use Rattle.grouping_color.specs.Preprocessor.{streakPlaceOf, patternOf, patternPlaceOf, hitOf, intervalOf}
-use Rattle.evaluator_color.specs.declared.Looked.{Looked}
+use Rattle.evaluator_color.specs.declared.Standing.{Standing}
 use Rattle.evaluator_color.specs.Color.{objectSum}
 use Rattle.evaluator_color.specs.RatioPenalty.{ratioPenalty}
 
@@ -18,9 +18,9 @@ use Rattle.evaluator_color.specs.RatioPenalty.{ratioPenalty}
 unfoldable pub isFirst : List ℕ → ℕ → Bool
 isFirst numbers i = cond (eqb i 0) true (not (eqb (getD numbers i 0) (getD numbers (i - 1) 0)))
 
--- what the evaluator looks at of object i, under the search limit
-unfoldable pub lookedAt : ℕ → List ℕ → ℕ → Looked
-lookedAt limit kinds i = record {
+-- how object i stands in its groups, under the search limit
+unfoldable pub standingAt : ℕ → List ℕ → ℕ → Standing
+standingAt limit kinds i = record {
   interval = getD (intervalOf limit kinds) i 0;
   outer = getD (patternPlaceOf kinds) i 0;
   inner = getD (streakPlaceOf kinds) i 0;
@@ -32,7 +32,7 @@ lookedAt limit kinds i = record {
 -- "The sum is multiplied by the ratio penalty", with "c its ratio and p that of idx − 2"
 unfoldable pub colourAt : ℕ → Float → List ℕ → List Float → ℕ → Float
 colourAt limit tolerance kinds ratios i =
-    mul binary64 (objectSum (lookedAt limit kinds i)) (ratioPenalty tolerance i (getD ratios i nan) (getD ratios (i - 2) nan))
+    mul binary64 (objectSum (standingAt limit kinds i)) (ratioPenalty tolerance i (getD ratios i nan) (getD ratios (i - 2) nan))
 
 unfoldable pub colourValues : ℕ → Float → List ℕ → List Float → List Float
 colourValues limit tolerance kinds ratios = tabulate (colourAt limit tolerance kinds ratios) (length kinds)

@@ -9,7 +9,7 @@ use Rattle.grouping_color.specs.MonoStreak.{streakOf}
 use Rattle.grouping_color.specs.Preprocessor.{streakPlaceOf, patternOf, patternPlaceOf, hitOf, intervalOf}
 use Rattle.grouping_preprocessor.specs.Passes.{Regions, Tables}
 use Rattle.grouping_preprocessor.specs.declared.Counts.{Counts}
-use Rattle.evaluator_color.specs.declared.Looked.{Looked}
+use Rattle.evaluator_color.specs.declared.Standing.{Standing}
 use Rattle.evaluator_values.specs.Colour.{isFirst}
 use Rattle.evaluator_values.specs.declared.Numbers.{Numbers}
 
@@ -32,8 +32,8 @@ pub record NumbersAt (kinds : List ℕ) (k : Counts) (i : ℕ) (r : Numbers) : T
   pub in-patterns : r .pattern < k .patterns
   pub in-hits : r .hit < k .hits
 
--- all that the evaluator looks at of the object is as the definition has it under the search limit
-pub record LookedIs (limit : ℕ) (kinds : List ℕ) (i : ℕ) (r : Looked) : Type 0 where
+-- how the object stands in its groups is as the definition has it under the search limit
+pub record StandingIs (limit : ℕ) (kinds : List ℕ) (i : ℕ) (r : Standing) : Type 0 where
   pub interval : r .interval ≡ getD (intervalOf limit kinds) i 0
   pub outer : r .outer ≡ getD (patternPlaceOf kinds) i 0
   pub inner : r .inner ≡ getD (streakPlaceOf kinds) i 0

@@ -5,8 +5,9 @@ ghost use lib.ListN.{length, getD};
 ghost use lib.Ieee.{nan};
 ghost use Rattle.grouping_marks.specs.Over.{over};
 ghost use Rattle.evaluator_values.specs.Colour.{colourAt, colourValues};
-ghost use Rattle.evaluator_values.specs.Passes.{ObjectIn, NumbersAt, LookedIs, Lent};
-use evaluator_color::Looked;
+ghost use Rattle.evaluator_values.specs.Passes.{ObjectIn, NumbersAt, StandingIs, Lent};
+use evaluator_color::Standing;
+use grouping_chart::object::ObjectIndex;
 use grouping_preprocessor::Counts;
 
 // An object's group number on each level.
@@ -16,11 +17,12 @@ pub struct Numbers {
     pub hit: usize,
 }
 
-fn numbers_at(kind: &[u8], w: &[u16], k: Counts, i: usize) -> Numbers
-    requires { ⌜ ObjectIn (now kind) (now w) k i ⌝ }
-    ensures { λ r. ⌜ NumbersAt (now (kind .entry)) k i r ⌝ }
+fn numbers_at(kind: &[u8], w: &[u16], k: Counts, idx: ObjectIndex) -> Numbers
+    requires { ⌜ ObjectIn (now kind) (now w) k (idx .0) ⌝ }
+    ensures { λ r. ⌜ NumbersAt (now (kind .entry)) k (idx .0) r ⌝ }
 {
     let n = kind.len();
+    let i = idx.0;
     let streak = w[i] as usize;
     let pattern = w[3 * n + streak] as usize;
     let hit = w[n + pattern] as usize;
@@ -31,13 +33,13 @@ fn numbers_at(kind: &[u8], w: &[u16], k: Counts, i: usize) -> Numbers
     }
 }
 
-// What the evaluator looks at of object i.
-fn look(kind: &[u8], w: &[u16], k: Counts, i: usize) -> Looked
-    requires { ⌜ ObjectIn (now kind) (now w) k i ⌝ }
-    ensures { λ r. ⌜ LookedIs (k .limit) (now (kind .entry)) i r ⌝ }
+fn standing_at(kind: &[u8], w: &[u16], k: Counts, idx: ObjectIndex) -> Standing
+    requires { ⌜ ObjectIn (now kind) (now w) k (idx .0) ⌝ }
+    ensures { λ r. ⌜ StandingIs (k .limit) (now (kind .entry)) (idx .0) r ⌝ }
 {
     let n = kind.len();
-    let at = numbers_at(kind, w, k, i);
+    let i = idx.0;
+    let at = numbers_at(kind, w, k, idx);
     let streak = at.streak;
     let pattern = at.pattern;
     let hit = at.hit;
@@ -45,7 +47,7 @@ fn look(kind: &[u8], w: &[u16], k: Counts, i: usize) -> Looked
     let outer = w[2 * n + pattern] as usize;
     let inner = w[4 * n + streak] as usize;
     if i == 0 {
-        return Looked {
+        return Standing {
             interval,
             outer,
             inner,
@@ -54,8 +56,8 @@ fn look(kind: &[u8], w: &[u16], k: Counts, i: usize) -> Looked
             hit: true,
         };
     }
-    let before = numbers_at(kind, w, k, i - 1);
-    Looked {
+    let before = numbers_at(kind, w, k, ObjectIndex(i - 1));
+    Standing {
         interval,
         outer,
         inner,
@@ -65,11 +67,12 @@ fn look(kind: &[u8], w: &[u16], k: Counts, i: usize) -> Looked
     }
 }
 
-// The ratio of the object two before object i. Below 2 there is none, and the first stands in: the penalty does not look at it.
-fn earlier_ratio(ratio: &[f64], i: usize) -> f64
-    requires { ⌜ i < length (now ratio) ⌝ }
-    ensures { λ r. ⌜ r ≡ getD (now (ratio .entry)) (i - 2) nan ⌝ }
+// The ratio of the object two before. Below object 2 there is none, and the first stands in: the penalty does not read it.
+fn earlier_ratio(ratio: &[f64], idx: ObjectIndex) -> f64
+    requires { ⌜ idx .0 < length (now ratio) ⌝ }
+    ensures { λ r. ⌜ r ≡ getD (now (ratio .entry)) (idx .0 - 2) nan ⌝ }
 {
+    let i = idx.0;
     if i < 2 {
         return ratio[0];
     }
@@ -83,15 +86,16 @@ fn value_at(
     w: &[u16],
     k: Counts,
     tolerance: f64,
-    i: usize,
+    idx: ObjectIndex,
 ) -> f64
-    requires { ⌜ Lent (now table) (now kind) (now ratio) (now w) k ⌝ ∗ ⌜ i < length (now kind) ⌝ }
-    ensures { λ r. ⌜ r ≡ colourAt (k .limit) tolerance (now (kind .entry)) (now (ratio .entry)) i ⌝ }
+    requires { ⌜ Lent (now table) (now kind) (now ratio) (now w) k ⌝ ∗ ⌜ idx .0 < length (now kind) ⌝ }
+    ensures { λ r. ⌜ r ≡ colourAt (k .limit) tolerance (now (kind .entry)) (now (ratio .entry)) (idx .0) ⌝ }
 {
-    let sum = evaluator_color::object_sum(table, look(kind, w, k, i));
+    let sum = evaluator_color::object_sum(table, standing_at(kind, w, k, idx));
+    let i = idx.0;
     let c = ratio[i];
-    let p = earlier_ratio(ratio, i);
-    sum * evaluator_color::ratio_penalty(i, c, p, tolerance)
+    let p = earlier_ratio(ratio, idx);
+    sum * evaluator_color::ratio_penalty(idx, c, p, tolerance)
 }
 
 // Fills the colour value of each object.
@@ -105,11 +109,12 @@ pub fn fill_values(
     value: &mut [f64],
 )
     requires { ⌜ Lent (now table) (now kind) (now ratio) (now w) k ⌝ ∗ ⌜ length (now kind) ≤ length (now value) ⌝ }
-    ensures { λ r. ⌜ now (value .exit) ≡ over (colourValues (k .limit) tolerance (now (kind .entry)) (now (ratio .entry))) (now (value .entry)) ⌝ }
+    ensures { λ r. ⌜ now (value .exit)
+        ≡ over (colourValues (k .limit) tolerance (now (kind .entry)) (now (ratio .entry))) (now (value .entry)) ⌝ }
 {
     let mut i = 0;
     while i < kind.len() {
-        value[i] = value_at(table, kind, ratio, w, k, tolerance, i);
+        value[i] = value_at(table, kind, ratio, w, k, tolerance, ObjectIndex(i));
         i += 1;
     }
 }

@@ -3,12 +3,12 @@ use mathlib.Core.Path.{_≡_}
 use borrow.Author.Needs.{needs}
 use lib.Ieee.{Float, ofBits}
 use Rattle.numeric.specs.Constants.{zero64}
-use Rattle.evaluator_color.specs.declared.Looked.{Looked}
+use Rattle.evaluator_color.specs.declared.Standing.{Standing}
 use Rattle.evaluator_color.specs.Color.{hitValue, altValue, monoValue, addIf, objectSum}
 use Rattle.evaluator_color.proofs.object_sum.Statement.{statement}
 use Rattle.evaluator_color.proofs.object_sum.Tie as tie
 
-summed : (o : Looked) {hit alt mono with-mono with-alt r : Float}
+summed : (o : Standing) {hit alt mono with-mono with-alt r : Float}
     → hit ≡ hitValue (o .interval) → alt ≡ altValue (o .outer) hit → mono ≡ monoValue (o .inner) alt
     → with-mono ≡ addIf (o .streak) zero64 mono → with-alt ≡ addIf (o .pattern) with-mono alt → r ≡ addIf (o .hit) with-alt hit → r ≡ objectSum o
 unfolding objectSum

@@ -11,31 +11,35 @@ use Rattle.evaluator_color.proofs.ratio_penalty.Tie as tie
 returns : tie.Need-returns
 unfolding ofBits
 returns c =
-    let start = c .before in
-    tested (start .args .tolerance) (start .args .idx) (start .args .c) (start .args .p) true _ _ (lt-ltb _ _ (c .if1 .taken)) refl refl
+    let a = c .before .args in
+    tested (a .tolerance) (a .idx .0) (a .c) (a .p) true _ _ (lt-ltb _ _ (c .if1 .taken)) refl refl
 
 returns-2 : tie.Need-returns-2
 unfolding ofBits
 returns-2 c =
-    let start = c .before .before .before .before in
+    let late = c .before .before .before in
+    let a = late .before .args in
     c .lower .ensures
-    ∙ tested (start .args .tolerance) (start .args .idx) (start .args .c) (start .args .p) false true _
-    (le-ltb _ _ (c .before .before .before .if1 .left)) (sym (c .before .before .near .ensures) ∙ c .before .if2 .taken) refl
+    ∙ tested (a .tolerance) (a .idx .0) (a .c) (a .p) false true _
+    (le-ltb _ _ (late .if1 .left)) (sym (c .before .before .near .ensures) ∙ c .before .if2 .taken) refl
 
 returns-3 : tie.Need-returns-3
 unfolding ofBits
 returns-3 c =
-    let start = c .before .before .before .before in
-    tested (start .args .tolerance) (start .args .idx) (start .args .c) (start .args .p) false false true
-    (le-ltb _ _ (c .before .before .before .if1 .left)) (sym (c .before .before .near .ensures) ∙ c .before .if2 .left) (lt-ltb _ _ (c .if3 .taken))
+    let late = c .before .before .before in
+    let a = late .before .args in
+    tested (a .tolerance) (a .idx .0) (a .c) (a .p) false false true
+    (le-ltb _ _ (late .if1 .left)) (sym (c .before .before .near .ensures) ∙ c .before .if2 .left) (lt-ltb _ _ (c .if3 .taken))
 
 returns-4 : tie.Need-returns-4
 unfolding ofBits
 returns-4 c =
-    let start = c .before .before .before .before .before in
+    let late = c .before .before .before .before in
+    let a = late .before .args in
     c .lower2 .ensures
-    ∙ tested (start .args .tolerance) (start .args .idx) (start .args .c) (start .args .p) false false false
-    (le-ltb _ _ (c .before .before .before .before .if1 .left)) (sym (c .before .before .before .near .ensures) ∙ c .before .before .if2 .left) (le-ltb _ _ (c .before .if3 .left))
+    ∙ tested (a .tolerance) (a .idx .0) (a .c) (a .p) false false false
+    (le-ltb _ _ (late .if1 .left))
+    (sym (c .before .before .before .near .ensures) ∙ c .before .before .if2 .left) (le-ltb _ _ (c .before .if3 .left))
 
 pub ratio-penalty-spec : {M : Type 1} → statement M
 ratio-penalty-spec =

@@ -10,7 +10,7 @@ use Rattle.evaluator_values.proofs.earlier_ratio.Tie as tie
 
 returns : tie.Need-returns
 returns c =
-    let z : 0 ≡ c .before .before .args .i - 2 = omega arith in
+    let z : 0 ≡ c .before .before .args .idx .0 - 2 = omega arith in
     ap (λ (k : ℕ). getD (c .before .before .args .ratio .now) k nan) z
 
 returns-2 : tie.Need-returns-2

@@ -6,7 +6,7 @@ use lib.ListN.{length}
 use lib.Ieee.{nan}
 use Rattle.grouping_marks.proofs.FillLaws.{Fill, fill-start-front, fill-turn-front, fill-end-front}
 use Rattle.evaluator_values.specs.Colour.{colourValues}
-use Rattle.evaluator_values.proofs.LookLaws.{length-values, value-of}
+use Rattle.evaluator_values.proofs.StandingLaws.{length-values, value-of}
 use Rattle.evaluator_values.proofs.fill_values.Statement.{statement}
 use Rattle.evaluator_values.proofs.fill_values.Tie as tie
 

@@ -8,7 +8,7 @@ use Rattle.evaluator_values.proofs.numbers_at.Statement.{statement}
 use Rattle.evaluator_values.proofs.numbers_at.Tie as tie
 
 cast-streak : tie.Need-cast-streak
-cast-streak c = omega (arith, c .shared-slice-known .given (c .before .args .i))
+cast-streak c = omega (arith, c .shared-slice-known .given (c .before .args .idx .0))
 
 add-pattern : tie.Need-add-pattern
 add-pattern c = omega (arith, streak-in (c .before .pre), c .before .pre)
@@ -20,7 +20,9 @@ shared-slice-read-pattern : tie.Need-shared-slice-read-pattern
 shared-slice-read-pattern c = omega (arith, streak-in (c .before .before .pre), c .before .before .pre)
 
 cast-pattern : tie.Need-cast-pattern
-cast-pattern c = omega (arith, c .shared-slice-known2 .given (3 * length (c .before .before .args .kind .now) + getD (c .before .before .args .w .now) (c .before .before .args .i) 0))
+cast-pattern c =
+    let a = c .before .before .args in
+    omega (arith, c .shared-slice-known2 .given (3 * length (a .kind .now) + getD (a .w .now) (a .idx .0) 0))
 
 add-hit : tie.Need-add-hit
 add-hit c = omega (arith, pattern-in (c .before .before .pre), c .before .before .pre)
@@ -32,7 +34,10 @@ shared-slice-read-hit : tie.Need-shared-slice-read-hit
 shared-slice-read-hit c = omega (arith, pattern-in (c .before .before .before .pre), c .before .before .before .pre)
 
 cast-hit : tie.Need-cast-hit
-cast-hit c = omega (arith, c .shared-slice-known3 .given (length (c .before .before .before .args .kind .now) + getD (c .before .before .before .args .w .now) (3 * length (c .before .before .before .args .kind .now) + getD (c .before .before .before .args .w .now) (c .before .before .before .args .i) 0) 0))
+cast-hit c =
+    let a = c .before .before .before .args in
+    let n = length (a .kind .now) in
+    omega (arith, c .shared-slice-known3 .given (n + getD (a .w .now) (3 * n + getD (a .w .now) (a .idx .0) 0) 0))
 
 returns : tie.Need-returns
 returns c = numbers-are (c .before .before .before .pre)

@@ -4,7 +4,7 @@ use lib.Ieee.{binary64, mul}
 use Rattle.evaluator_color.specs.Color.{objectSum}
 use Rattle.evaluator_color.specs.RatioPenalty.{ratioPenalty}
 use Rattle.evaluator_values.specs.Colour.{colourAt}
-use Rattle.evaluator_values.proofs.LookLaws.{looked-is}
+use Rattle.evaluator_values.proofs.StandingLaws.{standing-is}
 use borrow.Author.Needs.{needs}
 use Rattle.evaluator_values.proofs.value_at.Statement.{statement}
 use Rattle.evaluator_values.proofs.value_at.Tie as tie
@@ -12,7 +12,7 @@ use Rattle.evaluator_values.proofs.value_at.Tie as tie
 returns : tie.Need-returns
 unfolding colourAt
 returns c =
-    let s = c .before .before .before .object-sum .ensures ∙ ap objectSum (looked-is (c .before .before .before .before .look .ensures)) in
+    let s = c .before .before .before .object-sum .ensures ∙ ap objectSum (standing-is (c .before .before .before .before .standing-at .ensures)) in
     let p = c .ratio-penalty .ensures ∙ ap (ratioPenalty _ _ _) (c .before .earlier-ratio .ensures) in
     λ t. mul binary64 (s t) (p t)
 

@@ -1,12 +1,12 @@
--- `look` meets its contract: the object's numbers, what the tables have at them, and where a number differs from the object's before.
+-- `standing_at` meets its contract: the object's numbers, what the tables have at them, and where a number differs from the object's before.
 use Prim.Native.Nat.{_+_, _*_}
 use native.Mathlib.Omega.{arith}
 use lib.ListN.{length}
 use Rattle.evaluator_values.proofs.TablesLaws.{interval-is, outer-is, inner-is}
-use Rattle.evaluator_values.proofs.LookLaws.{start-first, change-first}
+use Rattle.evaluator_values.proofs.StandingLaws.{start-first, change-first}
 use borrow.Author.Needs.{needs}
-use Rattle.evaluator_values.proofs.look.Statement.{statement}
-use Rattle.evaluator_values.proofs.look.Tie as tie
+use Rattle.evaluator_values.proofs.standing_at.Statement.{statement}
+use Rattle.evaluator_values.proofs.standing_at.Tie as tie
 
 add-interval : tie.Need-add-interval
 add-interval c = omega (arith, c .numbers-at .ensures, c .before .before .before .pre)
@@ -18,7 +18,9 @@ shared-slice-read-interval : tie.Need-shared-slice-read-interval
 shared-slice-read-interval c = omega (arith, c .before .numbers-at .ensures, c .before .before .before .before .pre)
 
 cast-interval : tie.Need-cast-interval
-cast-interval c = omega (arith, c .shared-slice-known3 .given (7 * length (c .before .before .before .before .args .kind .now) + c .before .numbers-at .result .hit))
+cast-interval c =
+    let start = c .before .before .before .before in
+    omega (arith, c .shared-slice-known3 .given (7 * length (start .args .kind .now) + c .before .numbers-at .result .hit))
 
 add-outer : tie.Need-add-outer
 add-outer c = omega (arith, c .before .numbers-at .ensures, c .before .before .before .before .pre)
@@ -30,7 +32,9 @@ shared-slice-read-outer : tie.Need-shared-slice-read-outer
 shared-slice-read-outer c = omega (arith, c .before .before .numbers-at .ensures, c .before .before .before .before .before .pre)
 
 cast-outer : tie.Need-cast-outer
-cast-outer c = omega (arith, c .shared-slice-known4 .given (2 * length (c .before .before .before .before .before .args .kind .now) + c .before .before .numbers-at .result .pattern))
+cast-outer c =
+    let start = c .before .before .before .before .before in
+    omega (arith, c .shared-slice-known4 .given (2 * length (start .args .kind .now) + c .before .before .numbers-at .result .pattern))
 
 add-inner : tie.Need-add-inner
 add-inner c = omega (arith, c .before .before .numbers-at .ensures, c .before .before .before .before .before .pre)
@@ -42,15 +46,19 @@ shared-slice-read-inner : tie.Need-shared-slice-read-inner
 shared-slice-read-inner c = omega (arith, c .before .before .before .numbers-at .ensures, c .before .before .before .before .before .before .pre)
 
 cast-inner : tie.Need-cast-inner
-cast-inner c = omega (arith, c .shared-slice-known5 .given (4 * length (c .before .before .before .before .before .before .args .kind .now) + c .before .before .before .numbers-at .result .streak))
+cast-inner c =
+    let start = c .before .before .before .before .before .before in
+    omega (arith, c .shared-slice-known5 .given (4 * length (start .args .kind .now) + c .before .before .before .numbers-at .result .streak))
 
 returns : tie.Need-returns
 returns c =
-    let a = c .before .before .before .before .numbers-at .ensures in
+    let after-numbers = c .before .before .before .before in
+    let start = after-numbers .before .before .before in
+    let a = after-numbers .numbers-at .ensures in
     record {
-      interval = interval-is (c .before .before .before .before .before .before .before .pre) a;
-      outer = outer-is (c .before .before .before .before .before .before .before .pre) a;
-      inner = inner-is (c .before .before .before .before .before .before .before .pre) a;
+      interval = interval-is (start .pre) a;
+      outer = outer-is (start .pre) a;
+      inner = inner-is (start .pre) a;
       streak = start-first _ _ (c .if1 .taken);
       pattern = start-first _ _ (c .if1 .taken);
       hit = start-first _ _ (c .if1 .taken);
@@ -58,19 +66,22 @@ returns c =
 
 returns-2 : tie.Need-returns-2
 returns-2 c =
-    let a = c .before .before .before .before .before .before .before .before .numbers-at .ensures in
+    let later = c .before .before .before .before in
+    let after-numbers = later .before .before .before .before in
+    let start = after-numbers .before .before .before in
+    let a = after-numbers .numbers-at .ensures in
     let b = c .before .before .before .numbers-at2 .ensures in
     record {
-      interval = interval-is (c .before .before .before .before .before .before .before .before .before .before .before .pre) a;
-      outer = outer-is (c .before .before .before .before .before .before .before .before .before .before .before .pre) a;
-      inner = inner-is (c .before .before .before .before .before .before .before .before .before .before .before .pre) a;
-      streak = change-first _ _ _ _ (c .before .before .before .before .if1 .left) (a .streaks) (b .streaks);
-      pattern = change-first _ _ _ _ (c .before .before .before .before .if1 .left) (a .patterns) (b .patterns);
-      hit = change-first _ _ _ _ (c .before .before .before .before .if1 .left) (a .hits) (b .hits);
+      interval = interval-is (start .pre) a;
+      outer = outer-is (start .pre) a;
+      inner = inner-is (start .pre) a;
+      streak = change-first _ _ _ _ (later .if1 .left) (a .streaks) (b .streaks);
+      pattern = change-first _ _ _ _ (later .if1 .left) (a .patterns) (b .patterns);
+      hit = change-first _ _ _ _ (later .if1 .left) (a .hits) (b .hits);
     }
 
-pub look-spec : {M : Type 1} → statement M
-look-spec =
+pub standing-at-spec : {M : Type 1} → statement M
+standing-at-spec =
     tie.close
     (tie.spec
     (λ c κs. search needs)

@@ -1,4 +1,4 @@
--- What the evaluator looks at, put together from what was looked up; and the list of values, element by element.
+-- How an object stands in its groups, put together from what was read in the tables; and the list of values, element by element.
 use mathlib.Core.Path.{_≡_, sym, ap, _∙_}
 use mathlib.Core.Bool.{Bool, true, cond, not}
 use mathlib.Core.List.{List}
@@ -8,9 +8,9 @@ use lib.Dec.{eqb}
 use lib.ListN.{length, getD}
 use lib.Ieee.{Float, nan}
 use Rattle.grouping_marks.proofs.FillLaws.{length-tabulate, getD-tabulate}
-use Rattle.evaluator_color.specs.declared.Looked.{Looked}
-use Rattle.evaluator_values.specs.Colour.{isFirst, lookedAt, colourAt, colourValues}
-use Rattle.evaluator_values.specs.Passes.{LookedIs}
+use Rattle.evaluator_color.specs.declared.Standing.{Standing}
+use Rattle.evaluator_values.specs.Colour.{isFirst, standingAt, colourAt, colourValues}
+use Rattle.evaluator_values.specs.Passes.{StandingIs}
 
 -- ---- the first object of a group
 pub start-first : (numbers : List ℕ) (i : ℕ) → i ≡ 0 → true ≡ isFirst numbers i
@@ -22,9 +22,9 @@ unfolding isFirst
 change-first numbers i x y h p q =
     (λ t. not (eqb (p t) (q t))) ∙ sym (ap (λ (b : Bool). cond b true (not (eqb (getD numbers i 0) (getD numbers (i - 1) 0)))) (ne-eqb i 0 h))
 
-pub looked-is : {limit : ℕ} {kinds : List ℕ} {i : ℕ} {r : Looked} → LookedIs limit kinds i r → r ≡ lookedAt limit kinds i
-unfolding lookedAt
-looked-is e t = record { interval = e .interval t; outer = e .outer t; inner = e .inner t; streak = e .streak t; pattern = e .pattern t; hit = e .hit t }
+pub standing-is : {limit : ℕ} {kinds : List ℕ} {i : ℕ} {r : Standing} → StandingIs limit kinds i r → r ≡ standingAt limit kinds i
+unfolding standingAt
+standing-is e t = record { interval = e .interval t; outer = e .outer t; inner = e .inner t; streak = e .streak t; pattern = e .pattern t; hit = e .hit t }
 
 -- ---- the values
 module _ (limit : ℕ) (tolerance : Float) (kinds : List ℕ) (ratios : List Float) where
