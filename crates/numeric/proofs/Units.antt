@@ -28,6 +28,10 @@ plus s u = cond s 0 u
 abbrev pub minus : Bool → ℕ → ℕ
 minus s u = cond s u 0
 
+-- how far apart two numbers are
+abbrev pub dist : ℕ → ℕ → ℕ
+dist u v = u - v + (v - u)
+
 -- ---- ±a ≤ ±b
 abbrev leq : Bool → ℕ → Bool → ℕ → Bool
 leq s a t b = below s a t b || level s a t b

@@ -7,11 +7,11 @@ use lib.Ieee.{Float, nan, inf, fin, binary64, up, down, round}
 use lib.Ieee.Nearest.{closest}
 
 -- the whole number n with the sign s: up to 2 ^ 53 it is a value of the format, and `round` changes nothing
-unfoldable pub whole : Bool → ℕ → Float
-whole s n = round binary64 s n 1
+unfoldable pub wholeFloat : Bool → ℕ → Float
+wholeFloat s n = round binary64 s n 1
 
 unfoldable pub roundTiesEven : Float → Float
-unfolding whole
+unfolding wholeFloat
 roundTiesEven nan = nan
 roundTiesEven (inf s) = inf s
-roundTiesEven (fin s m e) = whole s (closest (m * up e) (down e))
+roundTiesEven (fin s m e) = wholeFloat s (closest (m * up e) (down e))

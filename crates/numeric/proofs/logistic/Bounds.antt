@@ -11,18 +11,18 @@ use Rattle.numeric.specs.Logistic.{tableBits, logisticAt}
 use Rattle.numeric.proofs.Bounded.{Bounded}
 use Rattle.numeric.proofs.logistic.ListTests.{every, at-or-past}
 
-abbrev small : Float → Bool
-small nan = false
-small (inf s) = false
-small (fin s m e) = leb (m * up e) (1 * down e)
+abbrev atMostOne : Float → Bool
+atMostOne nan = false
+atMostOne (inf s) = false
+atMostOne (fin s m e) = leb (m * up e) (1 * down e)
 
-small→bounded : (x : Float) → T (small x) → Bounded x 1
-small→bounded nan t = absurd t
-small→bounded (inf s) t = absurd t
-small→bounded (fin s m e) t = leb→le (m * up e) (1 * down e) t
+at-most-one-bounded : (x : Float) → T (atMostOne x) → Bounded x 1
+at-most-one-bounded nan t = absurd t
+at-most-one-bounded (inf s) t = absurd t
+at-most-one-bounded (fin s m e) t = leb→le (m * up e) (1 * down e) t
 
 abbrev bitTest : ℕ → Bool
-bitTest b = small (ofBits binary64 b) && small (sub binary64 one64 (ofBits binary64 b))
+bitTest b = atMostOne (ofBits binary64 b) && atMostOne (sub binary64 one64 (ofBits binary64 b))
 
 passes : T (every (λ _. bitTest) 0 tableBits)
 unfolding tableBits ofBits sub
@@ -39,10 +39,10 @@ pub logistic-bounded : (n : ℕ) → Bounded (logisticAt n) 1
 unfolding logisticAt
 logistic-bounded n =
     let x = ofBits binary64 (getD tableBits n 0) in
-    small→bounded x (and-l (small x) (small (sub binary64 one64 x)) (entry n))
+    at-most-one-bounded x (and-l (atMostOne x) (atMostOne (sub binary64 one64 x)) (entry n))
 
 pub rest-bounded : (n : ℕ) → Bounded (sub binary64 one64 (logisticAt n)) 1
 unfolding logisticAt
 rest-bounded n =
     let x = ofBits binary64 (getD tableBits n 0) in
-    small→bounded (sub binary64 one64 x) (and-r (small x) (small (sub binary64 one64 x)) (entry n))
+    at-most-one-bounded (sub binary64 one64 x) (and-r (atMostOne x) (atMostOne (sub binary64 one64 x)) (entry n))

@@ -14,13 +14,13 @@ use lib.Ieee.Fits.{and-i, and-l, and-r, round-fits}
 use lib.Ieee.Order.{round-mono}
 use lib.Ieee.Positive.{positive, positive-finite, between}
 use Rattle.numeric.specs.Logistic.{tableBits, logisticAt}
-use Rattle.numeric.specs.LogisticNearest.{Around, fall, whole}
+use Rattle.numeric.specs.LogisticNearest.{Around, valueNum, valueDen}
 use Rattle.numeric.specs.TotalOrder.{negative, totalOrder}
 use Rattle.numeric.proofs.Tests.{or-split, or-l, or-r}
 use Rattle.numeric.proofs.Values.{Number}
 use Rattle.numeric.proofs.order.Laws.{antisym}
 use Rattle.numeric.proofs.logistic.ListTests.{every, every-at}
-use Rattle.numeric.proofs.logistic.Between.{whole-pos, Inside}
+use Rattle.numeric.proofs.logistic.Between.{valueDen-pos, Inside}
 use Rattle.numeric.proofs.logistic.Bracket.{atEnds, inside-bracket}
 use Rattle.numeric.proofs.logistic.Nearest.{place, count}
 
@@ -59,11 +59,11 @@ rounded-between y f p k low high a c K C i e g =
 abbrev parts : ℕ
 parts = 256 * 2 ^ 1074
 
-abbrev lower : ℕ → ℕ
-lower b = (256 * count b - 127) * 2 ^ place b
+abbrev lowSide : ℕ → ℕ
+lowSide b = (256 * count b - 127) * 2 ^ place b
 
-abbrev upper : ℕ → ℕ
-upper b = (256 * count b + 127) * 2 ^ place b
+abbrev highSide : ℕ → ℕ
+highSide b = (256 * count b + 127) * 2 ^ place b
 
 abbrev roundsTo : ℕ → ℕ → Bool
 roundsTo b a = eqb (toBits binary64 (round binary64 false a parts)) b
@@ -74,7 +74,7 @@ rounds-to b a h =
     sym (ofBits-toBits binary64 x (round-fits binary64 false a parts)) ∙ ap (ofBits binary64) (eqb→eq (toBits binary64 x) b h)
 
 abbrev bitTest : ℕ → ℕ → Bool
-bitTest n b = positive (ofBits binary64 b) && (roundsTo b (lower b) && (roundsTo b (upper b) && atEnds parts (lower b) (upper b) n))
+bitTest n b = positive (ofBits binary64 b) && (roundsTo b (lowSide b) && (roundsTo b (highSide b) && atEnds parts (lowSide b) (highSide b) n))
 
 passes : T (every bitTest 0 tableBits)
 unfolding tableBits ofBits toBits round
@@ -84,18 +84,18 @@ entry : (n : ℕ) → n < 264 → T (bitTest n (getD tableBits n 0))
 unfolding tableBits
 entry n h = subst (λ (m : ℕ). T (bitTest m (getD tableBits n 0))) (zero-add n) (every-at bitTest tableBits 0 passes n h)
 
-pub logistic-rounded : (n p q : ℕ) → n < 264 → Around p q → round binary64 false (fall p q n) (whole p q n) ≡ logisticAt n
+pub logistic-rounded : (n p q : ℕ) → n < 264 → Around p q → round binary64 false (valueNum p q n) (valueDen p q n) ≡ logisticAt n
 unfolding logisticAt
 logistic-rounded n p q h x = go (getD tableBits n 0) (entry n h)
   where
-    go : (b : ℕ) → T (bitTest n b) → round binary64 false (fall p q n) (whole p q n) ≡ ofBits binary64 b
+    go : (b : ℕ) → T (bitTest n b) → round binary64 false (valueNum p q n) (valueDen p q n) ≡ ofBits binary64 b
     go b t =
         let y = ofBits binary64 b in
-        let l = roundsTo b (lower b) in
-        let r = roundsTo b (upper b) in
-        let e = atEnds parts (lower b) (upper b) n in
+        let l = roundsTo b (lowSide b) in
+        let r = roundsTo b (highSide b) in
+        let e = atEnds parts (lowSide b) (highSide b) n in
         let t1 = and-r (positive y) (l && (r && e)) t in
         let t2 = and-r l (r && e) t1 in
-        rounded-between y (ofBits-fits binary64 b) (and-l (positive y) (l && (r && e)) t) parts (lower b) (upper b) (fall p q n) (whole p q n)
-        (mul-pos (leb→le 1 256 tt) (pow-pos 1074)) (whole-pos p q n (x .divides)) (inside-bracket parts (lower b) (upper b) n x (and-r r e t2))
-        (rounds-to b (lower b) (and-l l (r && e) t1)) (rounds-to b (upper b) (and-l r e t2))
+        rounded-between y (ofBits-fits binary64 b) (and-l (positive y) (l && (r && e)) t) parts (lowSide b) (highSide b) (valueNum p q n) (valueDen p q n)
+        (mul-pos (leb→le 1 256 tt) (pow-pos 1074)) (valueDen-pos p q n (x .divides)) (inside-bracket parts (lowSide b) (highSide b) n x (and-r r e t2))
+        (rounds-to b (lowSide b) (and-l l (r && e) t1)) (rounds-to b (highSide b) (and-l r e t2))

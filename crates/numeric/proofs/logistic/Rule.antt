@@ -3,19 +3,22 @@ use mathlib.Core.Path.{_≡_, refl}
 use mathlib.Core.Bool.{Bool, _&&_}
 use Prim.Native.Nat.{ℕ, suc, _*_, _<_}
 use lib.Dec.{T, ltb, ltb→lt}
-use lib.IntN.{negsuc}
 use lib.ListN.{getD}
-use lib.Ieee.{Float, fin, binary64, ofBits, lt}
+use lib.Ieee.{Float, binary64, ofBits, lt}
 use lib.Ieee.Fits.{and-l, and-r}
 use lib.Ieee.Positive.{num, den, positive}
-use mathlib.Core.Bool.{false}
+use Rattle.numeric.specs.Constants.{half64}
 use Rattle.numeric.specs.Logistic.{tableBits, logisticAt}
 use Rattle.numeric.specs.LogisticRule.{Step, growthNum, growthDen}
 use Rattle.numeric.proofs.logistic.ListTests.{pairs, pairs-at}
 
 abbrev test : Float → Float → Bool
 test x y =
-    positive y && (ltb (num x) (den x) && (lt y x && (ltb (1515426224147 * growthDen x y) (100000000000 * growthNum x y) && ltb (100000000000 * growthNum x y) (1515426224148 * growthDen x y))))
+    positive y
+    && (ltb (num x) (den x)
+    && (lt y x
+    && (ltb (1515426224147 * growthDen x y) (100000000000 * growthNum x y)
+    && ltb (100000000000 * growthNum x y) (1515426224148 * growthDen x y))))
 
 test→step : (x y : Float) → T (test x y) → Step x y
 test→step x y t =
@@ -42,9 +45,9 @@ passes : T (pairs bitTest tableBits)
 unfolding tableBits ofBits lt
 passes = tt
 
-pub half : logisticAt 2 ≡ fin false 1 (negsuc 0)
+pub half-at-two : logisticAt 2 ≡ half64
 unfolding logisticAt tableBits ofBits
-half = refl
+half-at-two = refl
 
 pub step : (n : ℕ) → suc n < 264 → Step (logisticAt n) (logisticAt (suc n))
 unfolding logisticAt tableBits

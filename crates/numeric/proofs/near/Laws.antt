@@ -17,7 +17,7 @@ use lib.Ieee.Scale.{finite}
 use Rattle.numeric.specs.Constants.{zero64}
 use Rattle.numeric.specs.Near.{absOf, isNear}
 use Rattle.numeric.proofs.Values.{Number, at-most, of-at-most, not-zero}
-use Rattle.numeric.proofs.Units.{L, unitsOf, plus, minus, sum-units, leq-units}
+use Rattle.numeric.proofs.Units.{L, unitsOf, plus, minus, dist, sum-units, leq-units}
 use Rattle.numeric.proofs.Sign.{Signed, neg-round, round-signed}
 
 -- ---- le is transitive from two values with the sign +
@@ -84,11 +84,8 @@ abs-round false n = abs-plus (round binary64 false n L) (round-signed false n L)
 abs-round true n = ap absOf (sym (neg-round n L)) ∙ abs-neg (round binary64 false n L) ∙ abs-plus (round binary64 false n L) (round-signed false n L)
 
 -- ---- how far apart two signed numbers of units are: x - y
-abbrev gap : ℕ → ℕ → ℕ
-gap u v = u - v + (v - u)
-
 abbrev pub distance : Bool → ℕ → Bool → ℕ → ℕ
-distance s u t v = gap (plus s u + minus t v) (plus t v + minus s u)
+distance s u t v = dist (plus s u + minus t v) (plus t v + minus s u)
 
 over : (u v : ℕ) → u < v → v - u ≡ u - v + (v - u)
 over u v h = omega arith
@@ -96,32 +93,32 @@ over u v h = omega arith
 under : (u v : ℕ) → v ≤ u → u - v ≡ u - v + (v - u)
 under u v h = omega arith
 
-abs-mixed : (s t : Bool) (u v : ℕ) → absOf (cond (ltb u v) (round binary64 t (v - u) L) (round binary64 (s && ltb v u) (u - v) L)) ≡ round binary64 false (gap u v) L
+abs-mixed : (s t : Bool) (u v : ℕ) → absOf (cond (ltb u v) (round binary64 t (v - u) L) (round binary64 (s && ltb v u) (u - v) L)) ≡ round binary64 false (dist u v) L
 abs-mixed s t u v = go (ltb u v) (ltb→lt u v) (nltb→le u v)
   where
-    go : (b : Bool) → (T b → u < v) → (T (not b) → v ≤ u) → absOf (cond b (round binary64 t (v - u) L) (round binary64 (s && ltb v u) (u - v) L)) ≡ round binary64 false (gap u v) L
+    go : (b : Bool) → (T b → u < v) → (T (not b) → v ≤ u) → absOf (cond b (round binary64 t (v - u) L) (round binary64 (s && ltb v u) (u - v) L)) ≡ round binary64 false (dist u v) L
     go true h k = abs-round t (v - u) ∙ ap (λ (n : ℕ). round binary64 false n L) (over u v (h tt))
     go false h k = abs-round (s && ltb v u) (u - v) ∙ ap (λ (n : ℕ). round binary64 false n L) (under u v (k tt))
 
-gap-ff : (u v : ℕ) → gap u v ≡ gap (u + 0) (v + 0)
-gap-ff u v = omega arith
+dist-ff : (u v : ℕ) → dist u v ≡ dist (u + 0) (v + 0)
+dist-ff u v = omega arith
 
-gap-tt : (u v : ℕ) → gap u v ≡ gap (0 + v) (0 + u)
-gap-tt u v = omega arith
+dist-tt : (u v : ℕ) → dist u v ≡ dist (0 + v) (0 + u)
+dist-tt u v = omega arith
 
-gap-ft : (u v : ℕ) → u + v ≡ gap (u + v) (0 + 0)
-gap-ft u v = omega arith
+dist-ft : (u v : ℕ) → u + v ≡ dist (u + v) (0 + 0)
+dist-ft u v = omega arith
 
-gap-tf : (u v : ℕ) → u + v ≡ gap (0 + 0) (v + u)
-gap-tf u v = omega arith
+dist-tf : (u v : ℕ) → u + v ≡ dist (0 + 0) (v + u)
+dist-tf u v = omega arith
 
 -- the difference of ±u and ±v
 abs-diff : (s : Bool) (u : ℕ) (t : Bool) (v : ℕ) → absOf (sum binary64 s u (not t) v L) ≡ round binary64 false (distance s u t v) L
 unfolding sum
-abs-diff false u false v = abs-mixed false true u v ∙ ap (λ (n : ℕ). round binary64 false n L) (gap-ff u v)
-abs-diff true u true v = abs-mixed true false u v ∙ ap (λ (n : ℕ). round binary64 false n L) (gap-tt u v)
-abs-diff false u true v = abs-round false (u + v) ∙ ap (λ (n : ℕ). round binary64 false n L) (gap-ft u v)
-abs-diff true u false v = abs-round true (u + v) ∙ ap (λ (n : ℕ). round binary64 false n L) (gap-tf u v)
+abs-diff false u false v = abs-mixed false true u v ∙ ap (λ (n : ℕ). round binary64 false n L) (dist-ff u v)
+abs-diff true u true v = abs-mixed true false u v ∙ ap (λ (n : ℕ). round binary64 false n L) (dist-tt u v)
+abs-diff false u true v = abs-round false (u + v) ∙ ap (λ (n : ℕ). round binary64 false n L) (dist-ft u v)
+abs-diff true u false v = abs-round true (u + v) ∙ ap (λ (n : ℕ). round binary64 false n L) (dist-tf u v)
 
 -- ---- near, by the distance
 sub-opened : (s : Bool) (m : ℕ) (e : ℤ) (t : Bool) (n : ℕ) (d : ℤ) → sub binary64 (fin s m e) (fin t n d) ≡ add binary64 (fin s m e) (fin (not t) n d)
@@ -132,17 +129,17 @@ flipped : (t : Bool) (n : ℕ) (d : ℤ) → T (fits binary64 (fin t n d)) → T
 unfolding neg
 flipped t n d g = neg-fits binary64 (fin t n d) g
 
-swap : (a b : ℕ) → gap a b ≡ gap b a
+swap : (a b : ℕ) → dist a b ≡ dist b a
 swap a b = omega arith
 
-nowhere : (a : ℕ) → gap a a ≡ 0
+nowhere : (a : ℕ) → dist a a ≡ 0
 nowhere a = omega arith
 
 zero-rounded : round binary64 false 0 L ≡ zero64
 unfolding round
 zero-rounded = refl
 
-shorter : (a a′ b b′ c c′ : ℕ) → a + b′ ≤ b + a′ → b + c′ ≤ c + b′ → gap (b + a′) (a + b′) ≤ gap (c + a′) (a + c′)
+shorter : (a a′ b b′ c c′ : ℕ) → a + b′ ≤ b + a′ → b + c′ ≤ c + b′ → dist (b + a′) (a + b′) ≤ dist (c + a′) (a + c′)
 shorter a a′ b b′ c c′ h k = omega arith
 
 module _ (margin : Float) where

@@ -13,7 +13,7 @@ use lib.Ieee.Exact.{round-exact}
 use lib.Ieee.Back.{whole-unique}
 use lib.Ieee.Nearest.{closest}
 use borrow.Author.Tests.{ltb-false, le-ltb}
-use Rattle.numeric.specs.RoundTiesEven.{whole, roundTiesEven}
+use Rattle.numeric.specs.RoundTiesEven.{wholeFloat, roundTiesEven}
 
 closest-whole : (a : ℕ) → closest a 1 ≡ a
 closest-whole a = ap (λ (z : ℕ). nearest z (compare (a % 1 * 2) 1)) (div-one a) ∙ ap (λ (z : ℕ). nearest a (compare (z * 2) 1)) (mod-one a)
@@ -53,7 +53,7 @@ no-size : (d : ℕ) → 2 ^ 52 * d ≤ 0 → 0 < d → ⊥
 no-size d h k = omega arith
 
 pub large : (s : Bool) (m : ℕ) (e : ℤ) → T (fits binary64 (fin s m e)) → 2 ^ 52 * down e ≤ m * up e → fin s m e ≡ roundTiesEven (fin s m e)
-unfolding roundTiesEven whole
+unfolding roundTiesEven wholeFloat
 large s zero (pos k) f h = absurd (no-size 1 (le-trans h (le-of-eq (zero-mul (2 ^ k)))) (zero-lt-suc 0))
 large s zero (negsuc k) f h = absurd (no-size (2 ^ suc k) h (pow-pos (suc k)))
 large s (suc m) (pos k) f h =

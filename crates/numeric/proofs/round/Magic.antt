@@ -2,9 +2,9 @@
 use mathlib.Core.Path.{_≡_, refl, sym, ap, _∙_, subst}
 use mathlib.Core.Bool.{Bool, true, false, cond, true≢false, false≢true}
 use Prim.Native.Nat.{ℕ, zero, suc, _+_, _-_, _*_, _/_, _%_, _^_, _≤_, _<_, compare, Ordering, Ordering·lt, Ordering·eq, Ordering·gt}
-use native.Mathlib.Nat.{le-trans, le-of-eq, lt-of-lt-of-le, lt-of-le-of-lt, lt-of-not-le, not-le-of-lt, le-add-left, mul-one, mul-comm, mul-assoc, mul-right-comm, add-mul, mul-le-mul-right, mul-lt-mul-of-pos-right, eq-of-mul-eq-mul-right, mul-pos, le-div-iff-mul-le, div-lt-iff-lt-mul, add-mul-div-right, add-mul-mod-self-right, zero-lt-suc, zero-mul, one-mul, suc-add, pow-succ'}
+use native.Mathlib.Nat.{le-trans, le-of-eq, lt-of-lt-of-le, lt-of-le-of-lt, lt-of-not-le, not-le-of-lt, le-add-left, mul-one, mul-comm, mul-assoc, mul-right-comm, add-mul, mul-le-mul-right, mul-lt-mul-of-pos-right, eq-of-mul-eq-mul-right, mul-pos, le-div-iff-mul-le, div-lt-iff-lt-mul, add-mul-div-right, add-mul-mod-self-right, zero-lt-suc, zero-mul, suc-add}
 use native.Mathlib.Omega.{arith}
-use lib.IntN.{ℤ, pos, negsuc}
+use lib.IntN.{ℤ, pos}
 use lib.Dec.{T, ltb, ltb→lt, eqb→eq, lit<}
 use borrow.Author.Tests.{ltb-false}
 use lib.Pow.{pow-add, pow-pos, pow-mono}
@@ -14,7 +14,8 @@ use lib.Ieee.Fits.{round-is, core, up-pos, down-pos, nearest-le}
 use lib.Ieee.Exact.{HasValue, units-val}
 use lib.Ieee.Nearest.{closest, closest-same}
 use lib.Ieee.Scale.{round-same}
-use Rattle.numeric.specs.RoundTiesEven.{whole, roundTiesEven}
+use Rattle.numeric.specs.RoundTiesEven.{wholeFloat, roundTiesEven}
+use Rattle.numeric.proofs.Values.{flat}
 use Rattle.numeric.proofs.Sign.{neg-round}
 
 abbrev W : ℕ
@@ -122,8 +123,8 @@ small c l h = subst (λ (z : ℕ). (c + W) * 2 ^ l < z) (mul-comm (2 ^ 1024) (2 
     twice : (c : ℕ) → c ≤ W → c + W ≤ 2 ^ 53
     twice c h = omega arith
 
-pub positive-arm : (m : ℕ) (e : ℤ) → m * up e < W * down e → sub binary64 (add binary64 (fin false m e) magic) magic ≡ whole false (closest (m * up e) (down e))
-unfolding whole
+pub positive-arm : (m : ℕ) (e : ℤ) → m * up e < W * down e → sub binary64 (add binary64 (fin false m e) magic) magic ≡ wholeFloat false (closest (m * up e) (down e))
+unfolding wholeFloat
 positive-arm m e h =
     let A = m * up e in
     let D = down e in
@@ -156,20 +157,12 @@ below (fin false m e) h k = absurd (never (m * up e * 1) (0 * 1 * down e) (zero-
 
     never : (a b : ℕ) → b ≡ 0 → T (ltb a b) → ⊥
     never a b p t = none a b p (ltb→lt a b t)
-below (fin true m e) h k = ap neg (positive-arm m e (bound m e (ltb→lt (m * up e * 1) (1 * W * down e) h))) ∙ unfold whole in (neg-round (closest (m * up e) (down e)) 1)
+below (fin true m e) h k = ap neg (positive-arm m e (bound m e (ltb→lt (m * up e * 1) (1 * W * down e) h))) ∙ unfold wholeFloat in (neg-round (closest (m * up e) (down e)) 1)
   where
     bound : (m : ℕ) (e : ℤ) → m * up e * 1 < 1 * W * down e → m * up e < W * down e
     bound m e g = subst (λ (z : ℕ). z < W * down e) (mul-one (m * up e)) g
 
 -- ---- a zero
-two-up : (p : ℕ) → 0 < p → 2 * p ≡ 1 → ⊥
-two-up p h e = omega arith
-
-flat : (e : ℤ) → up e * down e ≡ 1 → e ≡ pos 0
-flat (pos zero) h = refl
-flat (pos (suc k)) h = absurd (two-up (2 ^ k) (pow-pos k) (sym (pow-succ' 2 k) ∙ sym (mul-one (2 ^ suc k)) ∙ h))
-flat (negsuc k) h = absurd (two-up (2 ^ k) (pow-pos k) (sym (pow-succ' 2 k) ∙ sym (one-mul (2 ^ suc k)) ∙ h))
-
 pos-case : (a b : ℕ) → b ≡ 0 → 0 < a → ltb b a ≡ false → ⊥
 pos-case a b p h k = let z = ltb-false b a k in clash a b p h z
   where
