@@ -1,6 +1,6 @@
 -- Two finite values that fit, each as a sign and a whole number of units of the smallest value: the order, and the sum.
--- A signed number is a pair of naturals, what is above zero and what is below: `plus s u` and `minus s u`, one of which is 0. So that x ≤ y is plus x + minus y ≤ plus y + minus x, which `omega` reads.
---
+-- A signed number is a pair of naturals, what is above zero and what is below: `plus s u` and `minus s u`, one of which is 0.
+-- So that x ≤ y is plus x + minus y ≤ plus y + minus x, which `omega` reads.
 use mathlib.Core.Path.{_≡_, refl, sym, ap, _∙_}
 use mathlib.Core.Logic.{_⊎_, inl, inr}
 use mathlib.Core.Bool.{Bool, true, false, _&&_, _||_, Bool·beq, cond}
@@ -61,55 +61,72 @@ module _ (s : Bool) (m : ℕ) (e : ℤ) (t : Bool) (n : ℕ) (d : ℤ) (f : T (f
   at-b : b * L ≡ unitsOf n d * P
   at-b = cross (low binary64) n d e (held t n d g .low-enough) ∙ ap (λ (z : ℕ). unitsOf n d * z) (mul-comm (down d) (down e))
 
-  lt-units : ltb a b ≡ ltb (unitsOf m e) (unitsOf n d)
+  abbrev u : ℕ
+  u = unitsOf m e
+
+  abbrev v : ℕ
+  v = unitsOf n d
+
+  L-pos : 0 < L
+  L-pos = pow-pos (low binary64)
+
+  to-lt : a < b → u < v
+  to-lt = lt-to a b u v L P at-a at-b L-pos P-pos
+
+  to-gt : b < a → v < u
+  to-gt = lt-to b a v u L P at-b at-a L-pos P-pos
+
+  lt-units : ltb a b ≡ ltb u v
   lt-units =
-      let u = unitsOf m e in
-      let v = unitsOf n d in
-      same-test (ltb a b) (ltb u v) (λ x. lt→ltb u v (lt-to a b u v L P at-a at-b (pow-pos (low binary64)) P-pos (ltb→lt a b x))) (λ x. lt→ltb a b (lt-from a b u v L P at-a at-b (pow-pos (low binary64)) P-pos (ltb→lt u v x)))
+      same-test (ltb a b) (ltb u v) (λ x. lt→ltb u v (to-lt (ltb→lt a b x)))
+      (λ x. lt→ltb a b (lt-from a b u v L P at-a at-b L-pos P-pos (ltb→lt u v x)))
 
-  gt-units : ltb b a ≡ ltb (unitsOf n d) (unitsOf m e)
+  gt-units : ltb b a ≡ ltb v u
   gt-units =
-      let u = unitsOf m e in
-      let v = unitsOf n d in
-      same-test (ltb b a) (ltb v u) (λ x. lt→ltb v u (lt-to b a v u L P at-b at-a (pow-pos (low binary64)) P-pos (ltb→lt b a x))) (λ x. lt→ltb b a (lt-from b a v u L P at-b at-a (pow-pos (low binary64)) P-pos (ltb→lt v u x)))
+      same-test (ltb b a) (ltb v u) (λ x. lt→ltb v u (to-gt (ltb→lt b a x)))
+      (λ x. lt→ltb b a (lt-from b a v u L P at-b at-a L-pos P-pos (ltb→lt v u x)))
 
-  sum-is : (a + b) * L ≡ (unitsOf m e + unitsOf n d) * P
-  sum-is = add-mul a b L ∙ ap (λ (z : ℕ). z + b * L) at-a ∙ ap (λ (z : ℕ). unitsOf m e * P + z) at-b ∙ sym (add-mul (unitsOf m e) (unitsOf n d) P)
+  sum-is : (a + b) * L ≡ (u + v) * P
+  sum-is = add-mul a b L ∙ (λ i. at-a i + at-b i) ∙ sym (add-mul u v P)
 
-  diff-is : (x y u v : ℕ) → x * L ≡ u * P → y * L ≡ v * P → (x - y) * L ≡ (u - v) * P
-  diff-is x y u v p q =
-      mul-comm (x - y) L ∙ mul-sub L x y ∙ ap (λ (z : ℕ). z - L * y) (mul-comm L x ∙ p) ∙ ap (λ (z : ℕ). u * P - z) (mul-comm L y ∙ q)
-      ∙ sym (mul-comm (u - v) P ∙ mul-sub P u v ∙ ap (λ (z : ℕ). z - P * v) (mul-comm P u) ∙ ap (λ (z : ℕ). u * P - z) (mul-comm P v))
+  diff-is : (x y j k : ℕ) → x * L ≡ j * P → y * L ≡ k * P → (x - y) * L ≡ (j - k) * P
+  diff-is x y j k p q =
+      mul-comm (x - y) L ∙ mul-sub L x y ∙ (λ i. (mul-comm L x ∙ p) i - (mul-comm L y ∙ q) i)
+      ∙ sym (mul-comm (j - k) P ∙ mul-sub P j k ∙ (λ i. mul-comm P j i - mul-comm P k i))
 
-  rounds : (r : Bool) (x u : ℕ) → x * L ≡ u * P → round binary64 r x P ≡ round binary64 r u L
-  rounds r x u p = round-same binary64 r x P u L P-pos (pow-pos (low binary64)) p
+  rounds : (r : Bool) (x k : ℕ) → x * L ≡ k * P → round binary64 r x P ≡ round binary64 r k L
+  rounds r x k p = round-same binary64 r x P k L P-pos L-pos p
 
   -- the sum of two values is that of two whole numbers of units
-  pub sum-units : add binary64 (fin s m e) (fin t n d) ≡ sum binary64 s (unitsOf m e) t (unitsOf n d) L
+  pub sum-units : add binary64 (fin s m e) (fin t n d) ≡ sum binary64 s u t v L
   unfolding add sum
   sum-units =
-      let u = unitsOf m e in
-      let v = unitsOf n d in
-      ap (λ (z : Float). cond (Bool·beq s t) z (cond (ltb a b) (round binary64 t (b - a) P) (round binary64 (s && ltb b a) (a - b) P))) (rounds s (a + b) (u + v) sum-is)
-      ∙ ap (λ (z : Float). cond (Bool·beq s t) (round binary64 s (u + v) L) (cond (ltb a b) z (round binary64 (s && ltb b a) (a - b) P))) (rounds t (b - a) (v - u) (diff-is b a v u at-b at-a))
-      ∙ ap (λ (z : Float). cond (Bool·beq s t) (round binary64 s (u + v) L) (cond (ltb a b) (round binary64 t (v - u) L) z)) (rounds (s && ltb b a) (a - b) (u - v) (diff-is a b u v at-a at-b))
-      ∙ ap (λ (z : Bool). cond (Bool·beq s t) (round binary64 s (u + v) L) (cond z (round binary64 t (v - u) L) (round binary64 (s && ltb b a) (u - v) L))) lt-units
-      ∙ ap (λ (z : Bool). cond (Bool·beq s t) (round binary64 s (u + v) L) (cond (ltb u v) (round binary64 t (v - u) L) (round binary64 (s && z) (u - v) L))) gt-units
+      let both = rounds s (a + b) (u + v) sum-is in
+      let second = rounds t (b - a) (v - u) (diff-is b a v u at-b at-a) in
+      let first = rounds (s && ltb b a) (a - b) (u - v) (diff-is a b u v at-a at-b) ∙ ap (λ (z : Bool). round binary64 (s && z) (u - v) L) gt-units in
+      λ i. cond (Bool·beq s t) (both i) (cond (lt-units i) (second i) (first i))
 
   -- le, in units
-  pub leq-units : T (le (fin s m e) (fin t n d)) → plus s (unitsOf m e) + minus t (unitsOf n d) ≤ plus t (unitsOf n d) + minus s (unitsOf m e)
+  pub leq-units : T (le (fin s m e) (fin t n d)) → plus s u + minus t v ≤ plus t v + minus s u
   unfolding le
-  leq-units h = carry s t (unitsOf m e) (unitsOf n d) (lt-to a b (unitsOf m e) (unitsOf n d) L P at-a at-b (pow-pos (low binary64)) P-pos) (lt-to b a (unitsOf n d) (unitsOf m e) L P at-b at-a (pow-pos (low binary64)) P-pos) (eq-to a b (unitsOf m e) (unitsOf n d) L P at-a at-b (pow-pos (low binary64)) P-pos) (zero-to a (unitsOf m e) at-a) h
+  leq-units h = carry s t u v to-lt to-gt (eq-to a b u v L P at-a at-b L-pos P-pos) (zero-to a u at-a) h
     where
-      zero-to : (x u : ℕ) → x * L ≡ u * P → x ≡ 0 → u ≡ 0
-      zero-to x u p z = eq-of-mul-eq-mul-right P P-pos u 0 (sym p ∙ ap (λ (k : ℕ). k * L) z ∙ zero-mul L ∙ sym (zero-mul P))
+      zero-to : (x k : ℕ) → x * L ≡ k * P → x ≡ 0 → k ≡ 0
+      zero-to x k p z = eq-of-mul-eq-mul-right P P-pos k 0 (sym p ∙ ap (λ (y : ℕ). y * L) z ∙ zero-mul L ∙ sym (zero-mul P))
 
-      carry : (s t : Bool) (u v : ℕ) → (a < b → u < v) → (b < a → v < u) → (a ≡ b → u ≡ v) → (a ≡ 0 → u ≡ 0) → T (leq s a t b) → plus s u + minus t v ≤ plus t v + minus s u
+      carry : (s t : Bool) (u v : ℕ) → (a < b → u < v) → (b < a → v < u) → (a ≡ b → u ≡ v) → (a ≡ 0 → u ≡ 0) → T (leq s a t b)
+          → plus s u + minus t v ≤ plus t v + minus s u
       carry false false u v l g q z h =
-          let k : u ≤ v = elim (or-split (ltb a b) (eqb a b && true) h) [ inl x ↦ le-of-lt (l (ltb→lt a b x)) | inr x ↦ le-of-eq (q (eqb→eq a b (and-l (eqb a b) true x))) ] in
+          let k : u ≤ v = elim (or-split (ltb a b) (eqb a b && true) h) [
+            | inl x ↦ le-of-lt (l (ltb→lt a b x))
+            | inr x ↦ le-of-eq (q (eqb→eq a b (and-l (eqb a b) true x)))
+          ] in
           omega arith
       carry true true u v l g q z h =
-          let k : v ≤ u = elim (or-split (ltb b a) (eqb a b && true) h) [ inl x ↦ le-of-lt (g (ltb→lt b a x)) | inr x ↦ le-of-eq (sym (q (eqb→eq a b (and-l (eqb a b) true x)))) ] in
+          let k : v ≤ u = elim (or-split (ltb b a) (eqb a b && true) h) [
+            | inl x ↦ le-of-lt (g (ltb→lt b a x))
+            | inr x ↦ le-of-eq (sym (q (eqb→eq a b (and-l (eqb a b) true x))))
+          ] in
           omega arith
       carry true false u v l g q z h = omega arith
       carry false true u v l g q z h =
