@@ -1,10 +1,12 @@
--- Sizes: `Bounded x B` says that x is finite and at most the whole number B in size. Each operation's result is bounded by what its exact result is bounded by, as long as that is a whole number up to 2 ^ 53:
+-- Sizes: `Bounded x B` says that x is finite and at most the whole number B in size.
+-- Each operation's result is bounded by what its exact result is bounded by, as long as that is a whole number up to 2 ^ 53:
 -- such a number is a value of the format, and rounding keeps the order.
 use mathlib.Core.Path.{_≡_, refl, sym, ap, _∙_, subst}
 use mathlib.Core.Logic.{inl, inr}
 use mathlib.Core.Bool.{Bool, true, false, _&&_, _||_, Bool·beq, cond, true≢false}
 use Prim.Native.Nat.{ℕ, zero, suc, _+_, _-_, _*_, _^_, _≤_, _<_}
-use native.Mathlib.Nat.{le-trans, le-of-eq, lt-of-le-of-lt, zero-lt-suc, mul-one, one-mul, zero-mul, mul-comm, mul-assoc, mul-right-comm, mul-mul-mul-comm, mul-le-mul, mul-le-mul-right, le-of-mul-le-mul-right, mul-pos, mul-lt-mul-of-pos-right, add-mul, not-suc-le-zero}
+use native.Mathlib.Nat.{le-trans, le-of-eq, lt-of-le-of-lt, zero-lt-suc, mul-one, one-mul, zero-mul, mul-comm, mul-assoc, mul-right-comm, mul-mul-mul-comm}
+use native.Mathlib.Nat.{mul-le-mul, mul-le-mul-right, le-of-mul-le-mul-right, mul-pos, mul-lt-mul-of-pos-right, add-mul, not-suc-le-zero}
 use native.Mathlib.Omega.{arith}
 use lib.IntN.{ℤ, pos}
 use lib.Dec.{T, ltb, eqb, ltb→lt, lt→ltb, eqb→eq, eqb·suc-zero}
@@ -56,7 +58,8 @@ under (fin true m e) y B s h v = absurd (true≢false s)
 under (fin false m e) nan B s h v = absurd v
 under (fin false m e) (inf t) B s h v = absurd v
 under (fin false m e) (fin true n d) B s h v = absurd (true≢false (v .0))
-under (fin false m e) (fin false n d) B s h v = chain (m * up e) (down e) (n * up d) (down d) B (down-pos d) (at-most (m * up e * down d) (n * up d * down e) h) (v .1)
+under (fin false m e) (fin false n d) B s h v =
+    chain (m * up e) (down e) (n * up d) (down d) B (down-pos d) (at-most (m * up e * down d) (n * up d * down e) h) (v .1)
 
 round-up : (num den B : ℕ) → 0 < den → B ≤ 2 ^ 53 → num ≤ B * den → Bounded (round binary64 false num den) B
 round-up num den B D k h =
@@ -65,7 +68,8 @@ round-up num den B D k h =
 
 pub round-bounded : (s : Bool) (num den B : ℕ) → 0 < den → B ≤ 2 ^ 53 → num ≤ B * den → Bounded (round binary64 s num den) B
 round-bounded false num den B D k h = round-up num den B D k h
-round-bounded true num den B D k h = subst (λ (z : Float). Bounded z B) (neg-round num den) (bounded-neg (round binary64 false num den) B (round-up num den B D k h))
+round-bounded true num den B D k h =
+    subst (λ (z : Float). Bounded z B) (neg-round num den) (bounded-neg (round binary64 false num den) B (round-up num den B D k h))
 
 -- ---- the operations
 pub cond-bounded : (b : Bool) (x y : Float) (B : ℕ) → Bounded x B → Bounded y B → Bounded (cond b x y) B
@@ -116,13 +120,16 @@ mul-bounded (inf s) y B C k h g = absurd h
 mul-bounded (fin s m e) nan B C k h g = absurd g
 mul-bounded (fin s m e) (inf t) B C k h g = absurd g
 mul-bounded (fin s m e) (fin t n d) B C k h g =
-    round-bounded (unlike s t) (m * up e * (n * up d)) (down e * down d) (B * C) (mul-pos (down-pos e) (down-pos d)) k (le-trans (mul-le-mul h g) (le-of-eq (mul-mul-mul-comm B (down e) C (down d))))
+    round-bounded (unlike s t) (m * up e * (n * up d)) (down e * down d) (B * C) (mul-pos (down-pos e) (down-pos d)) k
+    (le-trans (mul-le-mul h g) (le-of-eq (mul-mul-mul-comm B (down e) C (down d))))
 
 -- ---- the quotient
 
-div-opened : (s : Bool) (m : ℕ) (e : ℤ) (t : Bool) (n : ℕ) (d : ℤ) → div binary64 (fin s m e) (fin t (suc n) d) ≡ round binary64 (unlike s t) (m * up e * down d) (suc n * up d * down e)
+div-opened : (s : Bool) (m : ℕ) (e : ℤ) (t : Bool) (n : ℕ) (d : ℤ)
+    → div binary64 (fin s m e) (fin t (suc n) d) ≡ round binary64 (unlike s t) (m * up e * down d) (suc n * up d * down e)
 unfolding div
-div-opened s m e t n d = ap (λ (b : Bool). cond b (cond (eqb m 0) nan (inf (unlike s t))) (round binary64 (unlike s t) (m * up e * down d) (suc n * up d * down e))) (eqb·suc-zero n)
+div-opened s m e t n d =
+    ap (λ (b : Bool). cond b (cond (eqb m 0) nan (inf (unlike s t))) (round binary64 (unlike s t) (m * up e * down d) (suc n * up d * down e))) (eqb·suc-zero n)
 
 -- y is no zero, and at least B / C in size
 abbrev Reaches : Float → ℕ → ℕ → Type 0

@@ -1,4 +1,5 @@
--- Rounded addition and subtraction keep the order. `Rounded x p q` says that x is p - q units of the smallest value, rounded to the format: a larger number of units rounds to a value that is no smaller.
+-- Rounded addition and subtraction keep the order.
+-- `Rounded x p q` says that x is p - q units of the smallest value, rounded to the format: a larger number of units rounds to a value that is no smaller.
 --
 use mathlib.Core.Path.{_≡_, refl, sym, ap, _∙_, subst}
 use mathlib.Core.Logic.{_⊎_, inl, inr}
@@ -20,7 +21,10 @@ up-mono : (n k : ℕ) → n ≤ k → T (le (round binary64 false n L) (round bi
 up-mono n k h = round-mono binary64 n L k L (pow-pos (low binary64)) (pow-pos (low binary64)) (mul-le-mul-right L h)
 
 down-mono : (n k : ℕ) → k ≤ n → T (le (round binary64 true n L) (round binary64 true k L))
-down-mono n k h = subst (λ (z : Float). T (le z (round binary64 true k L))) (neg-round n L) (subst (λ (z : Float). T (le (neg (round binary64 false n L)) z)) (neg-round k L) (le-neg (round binary64 false k L) (round binary64 false n L) (up-mono k n h)))
+down-mono n k h =
+    subst (λ (z : Float). T (le z (round binary64 true k L))) (neg-round n L)
+    (subst (λ (z : Float). T (le (neg (round binary64 false n L)) z)) (neg-round k L)
+    (le-neg (round binary64 false k L) (round binary64 false n L) (up-mono k n h)))
 
 zeros : T (le (round binary64 false 0 L) (round binary64 true 0 L))
 unfolding le round
@@ -45,7 +49,8 @@ nothing p q n p′ q′ k a b h = (omega arith, omega arith)
 pub rounded-mono : {x y : Float} (p q p′ q′ : ℕ) → Rounded x p q → Rounded y p′ q′ → p + q′ ≤ p′ + q → T (le x y)
 rounded-mono p q p′ q′ (inl a) (inl b) h = both (a .2) (b .2) (up-mono (a .0) (b .0) (more p q (a .0) p′ q′ (b .0) (a .1) (b .1) h))
 rounded-mono p q p′ q′ (inr a) (inr b) h = both (a .2) (b .2) (down-mono (a .0) (b .0) (fewer p q (a .0) p′ q′ (b .0) (a .1) (b .1) h))
-rounded-mono p q p′ q′ (inr a) (inl b) h = both (a .2) (b .2) (across (round binary64 true (a .0) L) (round binary64 false (b .0) L) (round-signed true (a .0) L) (round-signed false (b .0) L))
+rounded-mono p q p′ q′ (inr a) (inl b) h =
+    both (a .2) (b .2) (across (round binary64 true (a .0) L) (round binary64 false (b .0) L) (round-signed true (a .0) L) (round-signed false (b .0) L))
 rounded-mono p q p′ q′ (inl a) (inr b) h =
     let z = nothing p q (a .0) p′ q′ (b .0) (a .1) (b .1) h in
     both (a .2 ∙ ap (λ (n : ℕ). round binary64 false n L) (z .0)) (b .2 ∙ ap (λ (n : ℕ). round binary64 true n L) (z .1)) zeros
@@ -92,7 +97,8 @@ rounded-sum true u false v = go (ltb u v) (ltb→lt u v) (nltb→le u v) (ltb v 
 ordered : (p q p′ q′ r w : ℕ) → p + q′ ≤ p′ + q → p + r + (q′ + w) ≤ p′ + r + (q + w)
 ordered p q p′ q′ r w h = omega arith
 
-add-mono-fin : (x x′ y : Float) → T (finite x) → T (finite x′) → T (finite y) → T (fits binary64 x) → T (fits binary64 x′) → T (fits binary64 y) → T (le x x′) → T (le (add binary64 x y) (add binary64 x′ y))
+add-mono-fin : (x x′ y : Float) → T (finite x) → T (finite x′) → T (finite y) → T (fits binary64 x) → T (fits binary64 x′) → T (fits binary64 y) → T (le x x′)
+    → T (le (add binary64 x y) (add binary64 x′ y))
 add-mono-fin nan x′ y a b c f g k h = absurd a
 add-mono-fin (inf s) x′ y a b c f g k h = absurd a
 add-mono-fin (fin s m e) nan y a b c f g k h = absurd b

@@ -23,7 +23,8 @@ neg-units : (q k : ℕ) → neg (units binary64 false q k) ≡ units binary64 tr
 unfolding units
 neg-units q k = go (ltb (q * 2 ^ k) (2 ^ (low binary64 + suc (emax binary64))))
   where
-    go : (b : Bool) → neg (cond b (odd (suc (prec binary64)) false q k (low binary64)) (inf false)) ≡ cond b (odd (suc (prec binary64)) true q k (low binary64)) (inf true)
+    go : (b : Bool)
+        → neg (cond b (odd (suc (prec binary64)) false q k (low binary64)) (inf false)) ≡ cond b (odd (suc (prec binary64)) true q k (low binary64)) (inf true)
     go true = neg-odd (suc (prec binary64)) q k (low binary64)
     go false = unfold neg in refl
 

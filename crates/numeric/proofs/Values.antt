@@ -43,7 +43,10 @@ at-most a b t = elim (or-split (ltb a b) (eqb a b && true) t) [ inl x ↦ le-of-
 
 pub of-at-most : (a b : ℕ) → a ≤ b → T (ltb a b || (eqb a b && true))
 of-at-most a b h =
-    elim (eq-or-lt-of-le h) [ inl p ↦ or-r (ltb a b) (eqb a b && true) (and-i (eqb a b) true (eq→eqb p) tt) | inr q ↦ or-l (ltb a b) (eqb a b && true) (lt→ltb a b q) ]
+    elim (eq-or-lt-of-le h) [
+      | inl p ↦ or-r (ltb a b) (eqb a b && true) (and-i (eqb a b) true (eq→eqb p) tt)
+      | inr q ↦ or-l (ltb a b) (eqb a b && true) (lt→ltb a b q)
+    ]
 
 -- what lies between two finite values is finite
 pub finite-between : (lo x hi : Float) → T (finite lo) → T (finite hi) → T (le lo x) → T (le x hi) → T (finite x)

@@ -23,7 +23,8 @@ module _ (k low high n : ℕ) where
 
   pub inside-bracket : {p q : ℕ} → Around p q → T atEnds → Inside k low high (valueNum p q n) (valueDen p q n)
   inside-bracket {p} {q} x t =
-      inside k low high (valueNum lowEnd scale n) (valueDen lowEnd scale n) (valueNum p q n) (valueDen p q n) (valueNum highEnd scale n) (valueDen highEnd scale n)
+      inside k low high (valueNum lowEnd scale n) (valueDen lowEnd scale n) (valueNum p q n) (valueDen p q n)
+      (valueNum highEnd scale n) (valueDen highEnd scale n)
       (valueDen-pos p q n (x .divides))
       (inside-at lowEnd (and-l (atEnd lowEnd) (atEnd highEnd) t))
       (inside-at highEnd (and-r (atEnd lowEnd) (atEnd highEnd) t))

@@ -1,4 +1,5 @@
--- Near, of finite values: it is symmetric, a value is near itself, and of three values in order the middle one is near the first if the last is. The margin may be any value.
+-- Near, of finite values: it is symmetric, a value is near itself, and of three values in order the middle one is near the first if the last is.
+-- The margin may be any value.
 -- All go by the distance of the two values in units of the smallest value, which the difference rounds.
 use mathlib.Core.Path.{_≡_, refl, sym, ap, _∙_, subst}
 use mathlib.Core.Bool.{Bool, true, false, not, _&&_, cond, true≢false}
@@ -64,7 +65,8 @@ le-trans-plus (fin false m e) (fin false n d) (fin true i j) p q h k =
     zeros m (up e) (down e) n (up d) (down d) i (up j) (down j) (down-pos d) (down-pos j) (at-most (m * up e * down d) (n * up d * down e) h) k
 le-trans-plus (fin false m e) (fin false n d) (fin false i j) p q h k =
     of-at-most (m * up e * down j) (i * up j * down e)
-    (through (m * up e) (n * up d) (i * up j) (down e) (down d) (down j) (down-pos d) (at-most (m * up e * down d) (n * up d * down e) h) (at-most (n * up d * down j) (i * up j * down d) k))
+    (through (m * up e) (n * up d) (i * up j) (down e) (down d) (down j) (down-pos d)
+    (at-most (m * up e * down d) (n * up d * down e) h) (at-most (n * up d * down j) (i * up j * down d) k))
 
 -- ---- the size of a rounded number
 abs-neg : (x : Float) → absOf (neg x) ≡ absOf x
@@ -93,10 +95,12 @@ over u v h = omega arith
 under : (u v : ℕ) → v ≤ u → u - v ≡ u - v + (v - u)
 under u v h = omega arith
 
-abs-mixed : (s t : Bool) (u v : ℕ) → absOf (cond (ltb u v) (round binary64 t (v - u) L) (round binary64 (s && ltb v u) (u - v) L)) ≡ round binary64 false (dist u v) L
+abs-mixed : (s t : Bool) (u v : ℕ)
+    → absOf (cond (ltb u v) (round binary64 t (v - u) L) (round binary64 (s && ltb v u) (u - v) L)) ≡ round binary64 false (dist u v) L
 abs-mixed s t u v = go (ltb u v) (ltb→lt u v) (nltb→le u v)
   where
-    go : (b : Bool) → (T b → u < v) → (T (not b) → v ≤ u) → absOf (cond b (round binary64 t (v - u) L) (round binary64 (s && ltb v u) (u - v) L)) ≡ round binary64 false (dist u v) L
+    go : (b : Bool) → (T b → u < v) → (T (not b) → v ≤ u)
+        → absOf (cond b (round binary64 t (v - u) L) (round binary64 (s && ltb v u) (u - v) L)) ≡ round binary64 false (dist u v) L
     go true h k = abs-round t (v - u) ∙ ap (λ (n : ℕ). round binary64 false n L) (over u v (h tt))
     go false h k = abs-round (s && ltb v u) (u - v) ∙ ap (λ (n : ℕ). round binary64 false n L) (under u v (k tt))
 
@@ -163,10 +167,12 @@ module _ (margin : Float) where
   sym-fin (fin s m e) (inf t) p q f g = absurd q
   sym-fin (fin s m e) (fin t n d) p q f g =
       near-units s m e t n d f g
-      ∙ ap (λ (k : ℕ). le (round binary64 false k L) margin) (swap (plus s (unitsOf m e) + minus t (unitsOf n d)) (plus t (unitsOf n d) + minus s (unitsOf m e)))
+      ∙ ap (λ (k : ℕ). le (round binary64 false k L) margin)
+      (swap (plus s (unitsOf m e) + minus t (unitsOf n d)) (plus t (unitsOf n d) + minus s (unitsOf m e)))
       ∙ sym (near-units t n d s m e g f)
 
-  between-fin : (x y z : Float) → T (finite x) → T (finite y) → T (finite z) → T (fits binary64 x) → T (fits binary64 y) → T (fits binary64 z) → T (le x y) → T (le y z) → T (isNear margin z x) → T (isNear margin y x)
+  between-fin : (x y z : Float) → T (finite x) → T (finite y) → T (finite z) → T (fits binary64 x) → T (fits binary64 y) → T (fits binary64 z) → T (le x y)
+      → T (le y z) → T (isNear margin z x) → T (isNear margin y x)
   between-fin nan y z p q r f g h a b c = absurd p
   between-fin (inf s) y z p q r f g h a b c = absurd p
   between-fin (fin s m e) nan z p q r f g h a b c = absurd q
@@ -178,7 +184,8 @@ module _ (margin : Float) where
       let v = unitsOf n d in
       let w = unitsOf i j in
       subst T (sym (near-units t n d s m e g f))
-      (le-less (distance t v s u) (distance o w s u) (shorter (plus s u) (minus s u) (plus t v) (minus t v) (plus o w) (minus o w) (leq-units s m e t n d f g a) (leq-units t n d o i j g h b))
+      (le-less (distance t v s u) (distance o w s u) (shorter (plus s u) (minus s u) (plus t v) (minus t v) (plus o w) (minus o w)
+      (leq-units s m e t n d f g a) (leq-units t n d o i j g h b))
       (subst T (near-units o i j s m e h f) c))
 
   pub near-sym : {x y : Float} → Number x → Number y → isNear margin x y ≡ isNear margin y x

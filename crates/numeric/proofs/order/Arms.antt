@@ -60,7 +60,8 @@ unfolding eq
 zero-is s e =
     let a = 0 * up e * 1 in
     let b = 0 * 1 * down e in
-    and-i (eqb a b) (Bool·beq s false || eqb a 0) (eq→eqb (cross-zero e (pos 0) ∙ sym (cross-zero (pos 0) e))) (or-r (Bool·beq s false) (eqb a 0) (eq→eqb (cross-zero e (pos 0))))
+    and-i (eqb a b) (Bool·beq s false || eqb a 0) (eq→eqb (cross-zero e (pos 0) ∙ sym (cross-zero (pos 0) e)))
+    (or-r (Bool·beq s false) (eqb a 0) (eq→eqb (cross-zero e (pos 0))))
 
 signs : (x y : Float) → eq x y ≡ true → eq x zero64 ≡ false → T (negative x || not (negative y))
 unfolding eq

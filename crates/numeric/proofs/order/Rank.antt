@@ -1,10 +1,13 @@
--- A natural number for each finite value that fits, in the total order: `key`. A value that is not negative has `mid` plus its size in units of the smallest value, and a negative one lies as far below.
+-- A natural number for each finite value that fits, in the total order: `key`.
+-- A value that is not negative has `mid` plus its size in units of the smallest value, and a negative one lies as far below.
 -- `keyed`: totalOrder x y is the test key x ≤ key y. `key-inj`: two values with one key are one value.
 use mathlib.Core.Path.{_≡_, refl, sym, ap, _∙_, subst}
 use mathlib.Core.Logic.{inl, inr}
 use mathlib.Core.Bool.{Bool, true, false, not, _&&_, _||_}
 use Prim.Native.Nat.{ℕ, zero, suc, _+_, _-_, _*_, _%_, _^_, _≤_, _<_, zero-le}
-use native.Mathlib.Nat.{le-of-lt, le-of-eq, le-of-suc-le-suc, eq-or-lt-of-le, lt-of-lt-of-le, lt-of-not-le, lt-irrefl, zero-lt-suc, zero-mul, mul-one, mul-pos, mul-comm, mul-assoc, mul-left-comm, mul-right-comm, mul-lt-mul-of-pos-right, lt-of-mul-lt-mul-right, eq-of-mul-eq-mul-right, pow-succ', pow-suc}
+use native.Mathlib.Nat.{le-of-lt, le-of-eq, le-of-suc-le-suc, eq-or-lt-of-le, lt-of-lt-of-le, lt-of-not-le, lt-irrefl, zero-lt-suc, zero-mul, mul-one}
+use native.Mathlib.Nat.{mul-pos, mul-comm, mul-assoc, mul-left-comm, mul-right-comm, mul-lt-mul-of-pos-right, lt-of-mul-lt-mul-right}
+use native.Mathlib.Nat.{eq-of-mul-eq-mul-right, pow-succ', pow-suc}
 use native.Mathlib.Omega.{arith}
 use lib.IntN.{ℤ, pos, negsuc}
 use lib.Dec.{T, leb, ltb, eqb, leb→le, le→leb, ltb→lt, lt→ltb, eqb→eq}
@@ -83,7 +86,8 @@ held s (suc m) e t =
     record {
       short = ltb→lt (suc m) (2 ^ prec binary64) (and-r A B (and-l (A && B) C (and-l (A && B && C) D t)));
       low-enough = c;
-      below-top = under-top (suc m) e (2 ^ suc (emax binary64)) (low binary64) c (ltb→lt (suc m * up e) (2 ^ suc (emax binary64) * down e) (and-r (A && B && C) D t));
+      below-top =
+          under-top (suc m) e (2 ^ suc (emax binary64)) (low binary64) c (ltb→lt (suc m * up e) (2 ^ suc (emax binary64) * down e) (and-r (A && B && C) D t));
       one-way = ((λ h. absurd (suc-not-zero m h)), (λ _. eqb→eq (suc m % 2) 1 (and-l A B (and-l (A && B) C (and-l (A && B && C) D t)))));
     }
 
@@ -137,9 +141,14 @@ add-le-back c u v h = omega arith
 both-zero : (a b : ℕ) → a + b ≤ 0 → (a ≡ 0) × (b ≡ 0)
 both-zero a b h = (omega arith, omega arith)
 
-module _ (a b u v c : ℕ) (lt-uv : a < b → u < v) (lt-ab : u < v → a < b) (gt-uv : b < a → v < u) (gt-ab : v < u → b < a) (eq-uv : a ≡ b → u ≡ v) (eq-ab : u ≡ v → a ≡ b) (hu : u < c) (hv : v < c) where
+module _ (a b u v c : ℕ) (lt-uv : a < b → u < v) (lt-ab : u < v → a < b) (gt-uv : b < a → v < u) (gt-ab : v < u → b < a) (eq-uv : a ≡ b → u ≡ v)
+    (eq-ab : u ≡ v → a ≡ b) (hu : u < c) (hv : v < c) where
   up-to : T (ord false a false b) → u ≤ v
-  up-to t = elim (or-split (ltb a b) (eqb a b && true && true) t) [ inl x ↦ le-of-lt (lt-uv (ltb→lt a b x)) | inr x ↦ le-of-eq (eq-uv (eqb→eq a b (and-l (eqb a b) true (and-l (eqb a b && true) true x)))) ]
+  up-to t =
+      elim (or-split (ltb a b) (eqb a b && true && true) t) [
+        | inl x ↦ le-of-lt (lt-uv (ltb→lt a b x))
+        | inr x ↦ le-of-eq (eq-uv (eqb→eq a b (and-l (eqb a b) true (and-l (eqb a b && true) true x))))
+      ]
 
   up-from : u ≤ v → T (ord false a false b)
   up-from h = elim (eq-or-lt-of-le h) [
@@ -148,7 +157,11 @@ module _ (a b u v c : ℕ) (lt-uv : a < b → u < v) (lt-ab : u < v → a < b) (
   ]
 
   down-to : T (ord true a true b) → v ≤ u
-  down-to t = elim (or-split (ltb b a) (eqb a b && true && true) t) [ inl x ↦ le-of-lt (gt-uv (ltb→lt b a x)) | inr x ↦ le-of-eq (sym (eq-uv (eqb→eq a b (and-l (eqb a b) true (and-l (eqb a b && true) true x))))) ]
+  down-to t =
+      elim (or-split (ltb b a) (eqb a b && true && true) t) [
+        | inl x ↦ le-of-lt (gt-uv (ltb→lt b a x))
+        | inr x ↦ le-of-eq (sym (eq-uv (eqb→eq a b (and-l (eqb a b) true (and-l (eqb a b && true) true x)))))
+      ]
 
   down-from : v ≤ u → T (ord true a true b)
   down-from h = elim (eq-or-lt-of-le h) [
@@ -160,7 +173,8 @@ module _ (a b u v c : ℕ) (lt-uv : a < b → u < v) (lt-ab : u < v → a < b) (
   minus-plus = let h : 0 ≤ a + b = zero-le in elim (eq-or-lt-of-le h) [
     | inl e ↦
         let z = both-zero a b (le-of-eq (sym e)) in
-        or-r (ltb 0 (a + b)) (eqb a b && (false || eqb a 0) && true) (true-and (eqb a b && eqb a 0) true (true-and (eqb a b) (eqb a 0) (eq→eqb (z .0 ∙ sym (z .1))) (eq→eqb (z .0))) tt)
+        or-r (ltb 0 (a + b)) (eqb a b && (false || eqb a 0) && true)
+        (true-and (eqb a b && eqb a 0) true (true-and (eqb a b) (eqb a 0) (eq→eqb (z .0 ∙ sym (z .1))) (eq→eqb (z .0))) tt)
     | inr l ↦ or-l (ltb 0 (a + b)) (eqb a b && (false || eqb a 0) && true) (lt→ltb 0 (a + b) l)
   ]
 
@@ -168,11 +182,15 @@ module _ (a b u v c : ℕ) (lt-uv : a < b → u < v) (lt-ab : u < v → a < b) (
   plus-minus t = and-r (eqb a b && (false || eqb a 0)) false t
 
   ord-key : (s t : Bool) → ord s a t b ≡ leb (signed c s u) (signed c t v)
-  ord-key false false = same-test (ord false a false b) (leb (c + u) (c + v)) (λ x. le→leb (c + u) (c + v) (add-le c u v (up-to x))) (λ x. up-from (add-le-back c u v (leb→le (c + u) (c + v) x)))
+  ord-key false false =
+      same-test (ord false a false b) (leb (c + u) (c + v)) (λ x. le→leb (c + u) (c + v) (add-le c u v (up-to x)))
+      (λ x. up-from (add-le-back c u v (leb→le (c + u) (c + v) x)))
   ord-key true true =
-      same-test (ord true a true b) (leb (c - suc u) (c - suc v)) (λ x. le→leb (c - suc u) (c - suc v) (neg-order c u v hu hv (down-to x))) (λ x. down-from (neg-order-back c u v hu hv (leb→le (c - suc u) (c - suc v) x)))
+      same-test (ord true a true b) (leb (c - suc u) (c - suc v)) (λ x. le→leb (c - suc u) (c - suc v) (neg-order c u v hu hv (down-to x)))
+      (λ x. down-from (neg-order-back c u v hu hv (leb→le (c - suc u) (c - suc v) x)))
   ord-key true false = same-test (ord true a false b) (leb (c - suc u) (c + v)) (λ x. le→leb (c - suc u) (c + v) (across c u v hu)) (λ x. minus-plus)
-  ord-key false true = same-test (ord false a true b) (leb (c + u) (c - suc v)) (λ x. absurd (plus-minus x)) (λ x. absurd (never c u v hv (leb→le (c + u) (c - suc v) x)))
+  ord-key false true =
+      same-test (ord false a true b) (leb (c + u) (c - suc v)) (λ x. absurd (plus-minus x)) (λ x. absurd (never c u v hv (leb→le (c + u) (c - suc v) x)))
 
 -- ---- the key of a value
 unfoldable pub mid : ℕ
@@ -207,7 +225,8 @@ keyed (fin s m e) (fin t n d) p q f g =
     let hL : 0 < 2 ^ l = pow-pos l in
     let hP : 0 < P = mul-pos (down-pos e) (down-pos d) in
     opened s m e t n d
-    ∙ ord-key a b u v mid (lt-to a b u v (2 ^ l) P pa pb hL hP) (lt-from a b u v (2 ^ l) P pa pb hL hP) (lt-to b a v u (2 ^ l) P pb pa hL hP) (lt-from b a v u (2 ^ l) P pb pa hL hP)
+    ∙ ord-key a b u v mid (lt-to a b u v (2 ^ l) P pa pb hL hP) (lt-from a b u v (2 ^ l) P pa pb hL hP)
+    (lt-to b a v u (2 ^ l) P pb pa hL hP) (lt-from b a v u (2 ^ l) P pb pa hL hP)
     (eq-to a b u v (2 ^ l) P pa pb hL hP) (eq-from a b u v (2 ^ l) P pa pb hL hP) (hx .below-top) (hy .below-top) s t
 
 -- ---- one value for one key

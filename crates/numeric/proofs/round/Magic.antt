@@ -2,7 +2,9 @@
 use mathlib.Core.Path.{_≡_, refl, sym, ap, _∙_, subst}
 use mathlib.Core.Bool.{Bool, true, false, cond, true≢false, false≢true}
 use Prim.Native.Nat.{ℕ, zero, suc, _+_, _-_, _*_, _/_, _%_, _^_, _≤_, _<_, compare, Ordering, Ordering·lt, Ordering·eq, Ordering·gt}
-use native.Mathlib.Nat.{le-trans, le-of-eq, lt-of-lt-of-le, lt-of-le-of-lt, lt-of-not-le, not-le-of-lt, le-add-left, mul-one, mul-comm, mul-assoc, mul-right-comm, add-mul, mul-le-mul-right, mul-lt-mul-of-pos-right, eq-of-mul-eq-mul-right, mul-pos, le-div-iff-mul-le, div-lt-iff-lt-mul, add-mul-div-right, add-mul-mod-self-right, zero-lt-suc, zero-mul, suc-add}
+use native.Mathlib.Nat.{le-trans, le-of-eq, lt-of-lt-of-le, lt-of-le-of-lt, lt-of-not-le, not-le-of-lt, le-add-left, mul-one, mul-comm, mul-assoc}
+use native.Mathlib.Nat.{mul-right-comm, add-mul, mul-le-mul-right, mul-lt-mul-of-pos-right, eq-of-mul-eq-mul-right, mul-pos, le-div-iff-mul-le}
+use native.Mathlib.Nat.{div-lt-iff-lt-mul, add-mul-div-right, add-mul-mod-self-right, zero-lt-suc, zero-mul, suc-add}
 use native.Mathlib.Omega.{arith}
 use lib.IntN.{ℤ, pos}
 use lib.Dec.{T, ltb, ltb→lt, eqb→eq, lit<}
@@ -71,7 +73,8 @@ summed A D hD h =
     round-is binary64 false (A + W * D) D
     ∙ ap (λ (k : ℕ). core binary64 false n D k) (dropped A D l hD h)
     ∙ ap (λ (q : ℕ). units binary64 false q l)
-    (closest-same n (D * 2 ^ l) (A + W * D) D (mul-pos hD (pow-pos l)) hD (mul-assoc (A + W * D) (2 ^ l) D ∙ ap (λ (z : ℕ). (A + W * D) * z) (mul-comm (2 ^ l) D))
+    (closest-same n (D * 2 ^ l) (A + W * D) D (mul-pos hD (pow-pos l)) hD
+    (mul-assoc (A + W * D) (2 ^ l) D ∙ ap (λ (z : ℕ). (A + W * D) * z) (mul-comm (2 ^ l) D))
     ∙ closest-shift A D W (2 ^ 51) hD refl)
 
 add-is : (m : ℕ) (e : ℤ) → add binary64 (fin false m e) magic ≡ round binary64 false (m * up e * 1 + 1 * W * down e) (down e * 1)
@@ -79,7 +82,9 @@ unfolding add sum
 add-is m e = refl
 
 plain : (m : ℕ) (e : ℤ) → round binary64 false (m * up e * 1 + 1 * W * down e) (down e * 1) ≡ round binary64 false (m * up e + W * down e) (down e)
-plain m e = ap (λ (z : ℕ). round binary64 false (z + 1 * W * down e) (down e * 1)) (mul-one (m * up e)) ∙ ap (λ (z : ℕ). round binary64 false (m * up e + W * down e) z) (mul-one (down e))
+plain m e =
+    ap (λ (z : ℕ). round binary64 false (z + 1 * W * down e) (down e * 1)) (mul-one (m * up e))
+    ∙ ap (λ (z : ℕ). round binary64 false (m * up e + W * down e) z) (mul-one (down e))
 
 -- ---- the difference
 pick : (a b c : ℕ) → b ≤ a → sum binary64 false a true b c ≡ round binary64 false (a - b) c
@@ -111,19 +116,23 @@ diff (fin false m e) c h =
     sub-is m e
     ∙ pick (m * up e * 1) (1 * W * D) (D * 1) (k .0)
     ∙ ap (λ (z : ℕ). round binary64 false z (D * 1)) (k .1)
-    ∙ round-same binary64 false (c * D) (D * 1) c 1 (subst (λ (z : ℕ). 0 < z) (sym (mul-one D)) (down-pos e)) (zero-lt-suc 0) (mul-one (c * D) ∙ ap (λ (z : ℕ). c * z) (sym (mul-one D)))
+    ∙ round-same binary64 false (c * D) (D * 1) c 1 (subst (λ (z : ℕ). 0 < z) (sym (mul-one D)) (down-pos e)) (zero-lt-suc 0)
+    (mul-one (c * D) ∙ ap (λ (z : ℕ). c * z) (sym (mul-one D)))
 
 -- ---- both
 closest-le : (A D : ℕ) → 0 < D → A < W * D → closest A D ≤ W
 closest-le A D hD h = le-trans (nearest-le (A / D) (compare (A % D * 2) D)) (div-lt-iff-lt-mul hD .1 h)
 
 small : (c l : ℕ) → c ≤ W → (c + W) * 2 ^ l < 2 ^ (l + 1024)
-small c l h = subst (λ (z : ℕ). (c + W) * 2 ^ l < z) (mul-comm (2 ^ 1024) (2 ^ l) ∙ sym (pow-add 2 l 1024)) (mul-lt-mul-of-pos-right (lt-of-le-of-lt (twice c h) (lit< tt)) (pow-pos l))
+small c l h =
+    subst (λ (z : ℕ). (c + W) * 2 ^ l < z) (mul-comm (2 ^ 1024) (2 ^ l) ∙ sym (pow-add 2 l 1024))
+    (mul-lt-mul-of-pos-right (lt-of-le-of-lt (twice c h) (lit< tt)) (pow-pos l))
   where
     twice : (c : ℕ) → c ≤ W → c + W ≤ 2 ^ 53
     twice c h = omega arith
 
-pub positive-arm : (m : ℕ) (e : ℤ) → m * up e < W * down e → sub binary64 (add binary64 (fin false m e) magic) magic ≡ wholeFloat false (closest (m * up e) (down e))
+pub positive-arm : (m : ℕ) (e : ℤ) → m * up e < W * down e
+    → sub binary64 (add binary64 (fin false m e) magic) magic ≡ wholeFloat false (closest (m * up e) (down e))
 unfolding wholeFloat
 positive-arm m e h =
     let A = m * up e in
@@ -131,7 +140,8 @@ positive-arm m e h =
     let c = closest A D in
     let s : add binary64 (fin false m e) magic ≡ units binary64 false (c + W) (low binary64) = add-is m e ∙ plain m e ∙ summed A D (down-pos e) h in
     ap (λ (z : Float). sub binary64 z magic) s
-    ∙ diff (units binary64 false (c + W) (low binary64)) c (units-val binary64 false (c + W) (low binary64) (small c (low binary64) (closest-le A D (down-pos e) h)))
+    ∙ diff (units binary64 false (c + W) (low binary64)) c
+    (units-val binary64 false (c + W) (low binary64) (small c (low binary64) (closest-le A D (down-pos e) h)))
 
 -- ---- the three arms of the code, for an x between -2 ^ 52 and 2 ^ 52
 pub above : (x : Float) → T (lt x magic) → lt (fin false 0 (pos 0)) x ≡ true → sub binary64 (add binary64 x magic) magic ≡ roundTiesEven x
@@ -145,7 +155,8 @@ above (fin false m e) h k = positive-arm m e (bound m e (ltb→lt (m * up e * 1)
     bound : (m : ℕ) (e : ℤ) → m * up e * 1 < 1 * W * down e → m * up e < W * down e
     bound m e g = subst (λ (z : ℕ). z < W * down e) (mul-one (m * up e)) g
 
-pub below : (x : Float) → T (lt (fin true 1 (pos 52)) x) → lt x (fin false 0 (pos 0)) ≡ true → neg (sub binary64 (add binary64 (neg x) magic) magic) ≡ roundTiesEven x
+pub below : (x : Float) → T (lt (fin true 1 (pos 52)) x) → lt x (fin false 0 (pos 0)) ≡ true
+    → neg (sub binary64 (add binary64 (neg x) magic) magic) ≡ roundTiesEven x
 unfolding lt roundTiesEven neg
 below nan h k = absurd h
 below (inf true) h k = absurd h
@@ -157,7 +168,8 @@ below (fin false m e) h k = absurd (never (m * up e * 1) (0 * 1 * down e) (zero-
 
     never : (a b : ℕ) → b ≡ 0 → T (ltb a b) → ⊥
     never a b p t = none a b p (ltb→lt a b t)
-below (fin true m e) h k = ap neg (positive-arm m e (bound m e (ltb→lt (m * up e * 1) (1 * W * down e) h))) ∙ unfold wholeFloat in (neg-round (closest (m * up e) (down e)) 1)
+below (fin true m e) h k =
+    ap neg (positive-arm m e (bound m e (ltb→lt (m * up e * 1) (1 * W * down e) h))) ∙ unfold wholeFloat in (neg-round (closest (m * up e) (down e)) 1)
   where
     bound : (m : ℕ) (e : ℤ) → m * up e * 1 < 1 * W * down e → m * up e < W * down e
     bound m e g = subst (λ (z : ℕ). z < W * down e) (mul-one (m * up e)) g

@@ -2,7 +2,8 @@
 use mathlib.Core.Path.{_≡_, refl, sym, ap, _∙_, subst}
 use mathlib.Core.Bool.{Bool, true, false, not, cond}
 use Prim.Native.Nat.{ℕ, suc, _+_, _-_, _*_, _/_, _%_, _^_, _≤_, _<_}
-use native.Mathlib.Nat.{le-trans, le-of-eq, lt-of-lt-of-le, lt-of-le-of-lt, lt-of-not-le, lt-irrefl, mul-one, mul-assoc, mul-right-comm, mul-le-mul-right, mul-lt-mul-of-pos-right, lt-of-mul-lt-mul-right, eq-of-mul-eq-mul-right, le-add-right, mod-lt}
+use native.Mathlib.Nat.{le-trans, le-of-eq, lt-of-lt-of-le, lt-of-le-of-lt, lt-of-not-le, lt-irrefl, mul-one, mul-assoc, mul-right-comm, mul-le-mul-right}
+use native.Mathlib.Nat.{mul-lt-mul-of-pos-right, lt-of-mul-lt-mul-right, eq-of-mul-eq-mul-right, le-add-right, mod-lt}
 use native.Mathlib.Omega.{arith}
 use lib.IntN.{ℤ, pos}
 use lib.Dec.{T, ltb, eqb, ltb→lt}
@@ -73,13 +74,16 @@ value-low v f z =
     let r = read-back v f in
     let t = digitField v in
     let e : odd (prec binary64) (r .0) t 0 (low binary64) ≡ v = sym (at-zero (r .0) t) ∙ ap (λ (x : ℕ). ofFields binary64 (r .0) x t) (sym z) ∙ r .1 in
-    subst (λ (n : ℕ). Equals v n (2 ^ low binary64)) (mul-one t) (subst (λ (w : Float). Equals w (t * 2 ^ 0) (2 ^ low binary64)) e (odd-val (prec binary64) (r .0) t 0 (low binary64)))
+    subst (λ (n : ℕ). Equals v n (2 ^ low binary64)) (mul-one t)
+    (subst (λ (w : Float). Equals w (t * 2 ^ 0) (2 ^ low binary64)) e (odd-val (prec binary64) (r .0) t 0 (low binary64)))
 
-value-high : (v : Float) → T (fits binary64 v) → T (finite v) → (k : ℕ) → expField v ≡ suc k → Equals v ((hid binary64 + digitField v) * 2 ^ k) (2 ^ low binary64)
+value-high : (v : Float) → T (fits binary64 v) → T (finite v) → (k : ℕ) → expField v ≡ suc k
+    → Equals v ((hid binary64 + digitField v) * 2 ^ k) (2 ^ low binary64)
 value-high v f h k z =
     let r = read-back v f in
     let t = digitField v in
-    let e : odd (prec binary64) (r .0) (hid binary64 + t) k (low binary64) ≡ v = at-suc (r .0) k t v (ap (λ (x : ℕ). ofFields binary64 (r .0) x t) (sym z) ∙ r .1) h in
+    let e : odd (prec binary64) (r .0) (hid binary64 + t) k (low binary64) ≡ v =
+    at-suc (r .0) k t v (ap (λ (x : ℕ). ofFields binary64 (r .0) x t) (sym z) ∙ r .1) h in
     subst (λ (w : Float). Equals w ((hid binary64 + t) * 2 ^ k) (2 ^ low binary64)) e (odd-val (prec binary64) (r .0) (hid binary64 + t) k (low binary64))
 
 -- ---- a size n / 2 ^ l below 2 ^ 53
@@ -92,7 +96,8 @@ size-under (inf s) n l h e = absurd h
 size-under (fin s m x) n l h e =
     lt-of-mul-lt-mul-right (down x)
     (subst (λ (z : ℕ). z < 2 ^ (53 + l) * down x) e
-    (lt-of-lt-of-le (mul-lt-mul-of-pos-right h (pow-pos l)) (le-of-eq (mul-right-comm (2 ^ 53) (down x) (2 ^ l) ∙ ap (λ (z : ℕ). z * down x) (sym (pow-add 2 53 l))))))
+    (lt-of-lt-of-le (mul-lt-mul-of-pos-right h (pow-pos l))
+    (le-of-eq (mul-right-comm (2 ^ 53) (down x) (2 ^ l) ∙ ap (λ (z : ℕ). z * down x) (sym (pow-add 2 53 l))))))
 
 small-exp : (d k l : ℕ) → 2 ^ 52 ≤ d → d * 2 ^ k < 2 ^ (53 + l) → 52 + k < 53 + l
 small-exp d k l h g = pow-lt-back (52 + k) (53 + l) (lt-of-le-of-lt (le-trans (le-of-eq (pow-add 2 52 k)) (mul-le-mul-right (2 ^ k) h)) g)
@@ -103,7 +108,8 @@ shorten nan n k s l p e = e
 shorten (inf t) n k s l p e = e
 shorten (fin t m x) n k s l p e =
     eq-of-mul-eq-mul-right (2 ^ k) (pow-pos k) (m * up x * 2 ^ s) (n * down x)
-    (mul-assoc (m * up x) (2 ^ s) (2 ^ k) ∙ ap (λ (z : ℕ). m * up x * z) (sym (pow-add 2 s k) ∙ ap (λ (z : ℕ). 2 ^ z) p) ∙ e ∙ mul-right-comm n (2 ^ k) (down x))
+    (mul-assoc (m * up x) (2 ^ s) (2 ^ k) ∙ ap (λ (z : ℕ). m * up x * z) (sym (pow-add 2 s k) ∙ ap (λ (z : ℕ). 2 ^ z) p) ∙ e
+    ∙ mul-right-comm n (2 ^ k) (down x))
 
 room : (k : ℕ) → 52 + k < 53 + 1074 → suc k ≤ 1075
 room k h = omega arith
@@ -135,7 +141,9 @@ module _ (v : Float) (f : T (fits binary64 v)) (w : Within v) where
     high = value-high v f (within-finite v w) (expField v - 1) (pred-is (expField v) n)
 
     exp-lt : 52 + (expField v - 1) < 53 + 1074
-    exp-lt = small-exp (2 ^ 52 + digitField v) (expField v - 1) 1074 (le-add-right (2 ^ 52) (digitField v)) (size-under v ((2 ^ 52 + digitField v) * 2 ^ (expField v - 1)) 1074 w high)
+    exp-lt =
+        small-exp (2 ^ 52 + digitField v) (expField v - 1) 1074 (le-add-right (2 ^ 52) (digitField v))
+        (size-under v ((2 ^ 52 + digitField v) * 2 ^ (expField v - 1)) 1074 w high)
 
     pub exp-room : expField v ≤ 1075
     exp-room = subst (λ (z : ℕ). z ≤ 1075) (sym (pred-is (expField v) n)) (room (expField v - 1) exp-lt)
@@ -144,5 +152,7 @@ module _ (v : Float) (f : T (fits binary64 v)) (w : Within v) where
     scaled-high = record {
       few = few-high (digitField v) rest-lt;
       low = shift-le (expField v) n;
-      value = shorten v (2 ^ 52 + digitField v) (expField v - 1) (1075 - expField v) 1074 (shift-is (expField v - 1) (expField v) exp-lt (pred-is (expField v) n)) high;
+      value =
+          shorten v (2 ^ 52 + digitField v) (expField v - 1) (1075 - expField v) 1074
+          (shift-is (expField v - 1) (expField v) exp-lt (pred-is (expField v) n)) high;
     }

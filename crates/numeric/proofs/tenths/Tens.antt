@@ -2,7 +2,8 @@
 use mathlib.Core.Path.{_≡_, refl, sym, ap, _∙_, subst}
 use mathlib.Core.Bool.{true, false}
 use Prim.Native.Nat.{ℕ, zero, suc, _+_, _-_, _*_, _/_, _%_, _^_, _≤_, _<_}
-use native.Mathlib.Nat.{le-refl, le-trans, le-of-eq, le-of-suc-le-suc, le-antisymm, lt-of-lt-of-le, lt-of-le-of-lt, mul-one, one-mul, mul-assoc, mul-right-comm, mul-le-mul-right, le-of-mul-le-mul-right, zero-mul, suc-mul, mul-pos, div-le-self, div-eq-of-lt, div-lt-iff-lt-mul, zero-lt-suc}
+use native.Mathlib.Nat.{le-refl, le-trans, le-of-eq, le-of-suc-le-suc, le-antisymm, lt-of-lt-of-le, lt-of-le-of-lt, mul-one, one-mul, mul-assoc, mul-right-comm}
+use native.Mathlib.Nat.{mul-le-mul-right, le-of-mul-le-mul-right, zero-mul, suc-mul, mul-pos, div-le-self, div-eq-of-lt, div-lt-iff-lt-mul, zero-lt-suc}
 use native.Mathlib.Omega.{arith}
 use lib.IntN.{pos, negℤ, _-ℤ_, +ℤ-idl}
 use lib.Dec.{ltb, lit<}
@@ -105,17 +106,21 @@ pub down-case : (v : Float) (D s : ℕ) → Within v → ScaledOf v D s → lt v
 unfolding lt tenthsOf
 down-case nan D s w r h = absurd w
 down-case (inf t) D s w r h = absurd w
-down-case (fin false m e) D s w r h = ap pos (div-same (10 * D) (2 ^ s) (10 * (m * up e)) (down e) (pow-pos s) (down-pos e) (scale m (up e) (2 ^ s) (down e) D (r .value)))
+down-case (fin false m e) D s w r h =
+    ap pos (div-same (10 * D) (2 ^ s) (10 * (m * up e)) (down e) (pow-pos s) (down-pos e) (scale m (up e) (2 ^ s) (down e) D (r .value)))
 down-case (fin true m e) D s w r h =
     let z : m * up e ≡ 0 = sym (mul-one (m * up e)) ∙ sum-zero (m * up e * 1) (0 * 1 * down e) h in
     let d : D ≡ 0 = no-size (m * up e * 2 ^ s) D (down e) (ap (λ (x : ℕ). x * 2 ^ s) z ∙ zero-mul (2 ^ s)) (down-pos e) (r .value) in
-    ap pos (ap (λ (x : ℕ). 10 * x / 2 ^ s) d ∙ div-eq-of-lt (pow-pos s)) ∙ sym (ap (λ (x : ℕ). negℤ (pos x)) (ceiling-zero (10 * (m * up e)) (down e) (down-pos e) (ap (λ (x : ℕ). 10 * x) z)))
+    ap pos (ap (λ (x : ℕ). 10 * x / 2 ^ s) d ∙ div-eq-of-lt (pow-pos s))
+    ∙ sym (ap (λ (x : ℕ). negℤ (pos x)) (ceiling-zero (10 * (m * up e)) (down e) (down-pos e) (ap (λ (x : ℕ). 10 * x) z)))
 
 pub up-case : (v : Float) (D s : ℕ) → Within v → ScaledOf v D s → lt v (fin false 0 (pos 0)) ≡ true → negℤ (pos (ceiling (10 * D) (2 ^ s))) ≡ tenthsOf v
 unfolding lt tenthsOf
 up-case nan D s w r h = absurd w
 up-case (inf t) D s w r h = absurd w
-up-case (fin true m e) D s w r h = ap (λ (x : ℕ). negℤ (pos x)) (ceiling-same (10 * D) (2 ^ s) (10 * (m * up e)) (down e) (pow-pos s) (down-pos e) (scale m (up e) (2 ^ s) (down e) D (r .value)))
+up-case (fin true m e) D s w r h =
+    ap (λ (x : ℕ). negℤ (pos x))
+    (ceiling-same (10 * D) (2 ^ s) (10 * (m * up e)) (down e) (pow-pos s) (down-pos e) (scale m (up e) (2 ^ s) (down e) D (r .value)))
 up-case (fin false m e) D s w r h = absurd (none (m * up e * 1) (0 * 1 * down e) (zero-mul (down e)) (ltb-true (m * up e * 1) (0 * 1 * down e) h))
   where
     none : (a b : ℕ) → b ≡ 0 → a < b → ⊥

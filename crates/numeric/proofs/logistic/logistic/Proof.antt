@@ -19,7 +19,9 @@ shared-slice-read-result c = omega (arith, ap length (c .before .before .pre) �
 
 returns : tie.Need-returns
 unfolding logisticTable logisticAt tableBits
-returns c = ap (λ (t : List Float). getD t (c .before .before .args .n) nan) (c .before .before .pre) ∙ mapped-at (ofBits binary64) 0 nan tableBits (c .before .before .args .n) (search needs)
+returns c =
+    ap (λ (t : List Float). getD t (c .before .before .args .n) nan) (c .before .before .pre)
+    ∙ mapped-at (ofBits binary64) 0 nan tableBits (c .before .before .args .n) (search needs)
 
 returns-2 : tie.Need-returns-2
 unfolding logisticAt tableBits

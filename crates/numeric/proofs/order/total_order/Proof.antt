@@ -9,11 +9,13 @@ returns c = less (c .before .args .a) (c .before .args .b) (c .if1 .taken)
 
 returns-2 : tie.Need-returns-2
 unfolding ofBits
-returns-2 c = zeros (c .before .before .before .args .a) (c .before .before .before .args .b) (c .before .before .if1 .left) (c .before .if2 .taken) (c .if3 .taken)
+returns-2 c =
+    zeros (c .before .before .before .args .a) (c .before .before .before .args .b) (c .before .before .if1 .left) (c .before .if2 .taken) (c .if3 .taken)
 
 returns-3 : tie.Need-returns-3
 unfolding ofBits
-returns-3 c = equal-apart (c .before .before .before .args .a) (c .before .before .before .args .b) (c .before .before .if1 .left) (c .before .if2 .taken) (c .if3 .left)
+returns-3 c =
+    equal-apart (c .before .before .before .args .a) (c .before .before .before .args .b) (c .before .before .if1 .left) (c .before .if2 .taken) (c .if3 .left)
 
 returns-4 : tie.Need-returns-4
 returns-4 c = neither (c .before .before .args .a) (c .before .before .args .b) (c .before .if1 .left) (c .if2 .left)

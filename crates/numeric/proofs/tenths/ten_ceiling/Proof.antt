@@ -21,13 +21,21 @@ above-zero : (d : ℕ) → (d ≡ 0 → ⊥) → 0 < 10 * d
 above-zero d h = omega arith
 
 returns : tie.Need-returns
-returns c = record { equal = sym (ceiling-zero (10 * c .before .args .digits) (2 ^ c .before .args .shift) (pow-pos (c .before .args .shift)) (ap (λ (z : ℕ). 10 * z) (c .if1 .taken))); small = lit< tt }
+returns c =
+    record {
+      equal = sym (ceiling-zero (10 * c .before .args .digits) (2 ^ c .before .args .shift) (pow-pos (c .before .args .shift))
+          (ap (λ (z : ℕ). 10 * z) (c .if1 .taken)));
+      small = lit< tt;
+    }
 
 returns-2 : tie.Need-returns-2
 returns-2 c =
     let d = c .before .before .args .digits in
     let s = c .before .before .args .shift in
-    record { equal = sym (ceiling-one (10 * d) (2 ^ s) (above-zero d (c .before .if1 .left)) (le-of-lt (ten-lt d s (c .before .before .pre) (c .if2 .taken)))); small = lit< tt }
+    record {
+      equal = sym (ceiling-one (10 * d) (2 ^ s) (above-zero d (c .before .if1 .left)) (le-of-lt (ten-lt d s (c .before .before .pre) (c .if2 .taken))));
+      small = lit< tt;
+    }
 
 sub-result : tie.Need-sub-result
 sub-result c =
@@ -38,7 +46,8 @@ add-result : tie.Need-add-result
 add-result c =
     let d = c .before .before .args .digits in
     let s = c .before .before .args .shift in
-    subst (λ (z : ℕ). Fits w64 (10 * d + (z - 1))) (sym (unit-is s (c .if2 .left))) record { fits = wide (10 * d + (2 ^ s - 1)) (sum-lt d (2 ^ s) (c .before .before .pre) (unit-le s (c .if2 .left))) }
+    subst (λ (z : ℕ). Fits w64 (10 * d + (z - 1))) (sym (unit-is s (c .if2 .left)))
+    record { fits = wide (10 * d + (2 ^ s - 1)) (sum-lt d (2 ^ s) (c .before .before .pre) (unit-le s (c .if2 .left))) }
   where
     wide : (n : ℕ) → n < 2 ^ 58 → n < 2 ^ 64
     wide n h = omega arith
@@ -49,7 +58,11 @@ returns-3 c =
     let d = c .before .before .args .digits in
     let s = c .before .before .args .shift in
     subst (λ (z : ℕ). CutTo (ceiling (10 * d) (2 ^ s)) ((10 * d + (z - 1)) / 2 ^ s)) (sym (unit-is s (c .if2 .left)))
-    record { equal = refl; small = lt-of-le-of-lt (div-le-self (10 * d + (2 ^ s - 1)) (2 ^ s)) (sum-lt d (2 ^ s) (c .before .before .pre) (unit-le s (c .if2 .left))) }
+    record {
+      equal = refl;
+      small = lt-of-le-of-lt (div-le-self (10 * d + (2 ^ s - 1)) (2 ^ s))
+          (sum-lt d (2 ^ s) (c .before .before .pre) (unit-le s (c .if2 .left)));
+    }
 
 pub ten-ceiling-spec : {M : Type 1} → statement M
 ten-ceiling-spec = tie.close (tie.spec returns returns-2 (λ c. search needs) (λ c. search needs) sub-result add-result (λ c. search needs) returns-3)

@@ -21,7 +21,9 @@ minus-is : (q : ℕ) → q < 2 ^ 58 → pos 0 -ℤ toZ w64 q ≡ negℤ (pos q)
 minus-is q h = ap (λ (z : ℤ). pos 0 -ℤ z) (read q h) ∙ zero-minus q
 
 sub-result : tie.Need-sub-result
-sub-result c = subst (SFits w64) (sym (minus-is (c .ten-ceiling .result) (c .ten-ceiling .ensures .small))) (minus-fits (c .ten-ceiling .result) (c .ten-ceiling .ensures .small))
+sub-result c =
+    subst (SFits w64) (sym (minus-is (c .ten-ceiling .result) (c .ten-ceiling .ensures .small)))
+    (minus-fits (c .ten-ceiling .result) (c .ten-ceiling .ensures .small))
 
 returns : tie.Need-returns
 unfolding ofBits
@@ -32,7 +34,8 @@ returns c =
     ap (λ (z : ℤ). toZ w64 (ofZ w64 z)) (minus-is q (c .ten-ceiling .ensures .small))
     ∙ toZ-ofZ w64 (negℤ (pos q)) (minus-fits q (c .ten-ceiling .ensures .small))
     ∙ ap (λ (z : ℕ). negℤ (pos z)) (c .ten-ceiling .ensures .equal)
-    ∙ up-case x (c .before .before .size-of .result .digits) (c .before .before .size-of .result .shift) (within x (start .pre)) (c .before .before .size-of .ensures) (c .before .if1 .taken)
+    ∙ up-case x (c .before .before .size-of .result .digits) (c .before .before .size-of .result .shift) (within x (start .pre))
+    (c .before .before .size-of .ensures) (c .before .if1 .taken)
 
 returns-2 : tie.Need-returns-2
 unfolding ofBits
@@ -41,7 +44,10 @@ returns-2 c =
     let x = start .args .x in
     read (c .ten-floor .result) (c .ten-floor .ensures .small)
     ∙ ap pos (c .ten-floor .ensures .equal)
-    ∙ down-case x (c .before .before .size-of .result .digits) (c .before .before .size-of .result .shift) (within x (start .pre)) (c .before .before .size-of .ensures) (c .before .if1 .left)
+    ∙ down-case x (c .before .before .size-of .result .digits) (c .before .before .size-of .result .shift) (within x (start .pre))
+    (c .before .before .size-of .ensures) (c .before .if1 .left)
 
 pub tenths-spec : {M : Type 1} → statement M
-tenths-spec = tie.close (tie.spec (λ c κs. search needs) (λ c κs. search needs) (λ c. search needs) sub-result returns (λ c κs. search needs) (λ c. search needs) returns-2)
+tenths-spec =
+    tie.close
+    (tie.spec (λ c κs. search needs) (λ c κs. search needs) (λ c. search needs) sub-result returns (λ c κs. search needs) (λ c. search needs) returns-2)
