@@ -1,4 +1,5 @@
--- Sizes for the crates above: an object's sum is at most 5, and with ratios in range a colour value is finite, so no NaN. Each formula is bounded by what its parts are.
+-- Sizes for the crates above: an object's sum is at most 5, and with ratios in range a colour value is finite, so no NaN.
+-- Each formula is bounded by what its parts are.
 use mathlib.Core.Bool.{Bool, true, false, cond}
 use Prim.Native.Nat.{ℕ, _+_, _*_, _^_, _≤_}
 use native.Mathlib.Nat.{mul-pos, zero-lt-suc}
@@ -35,7 +36,8 @@ halved (fin s m e) h = round-bounded (unlike s false) (m * up e * 1) (down e * 2
 
 pub mono-bounded : (place : ℕ) (alt : Float) → Bounded alt 2 → Bounded (monoValue place alt) 1
 unfolding monoValue
-mono-bounded place alt h = halved (mul binary64 (logisticAt place) alt) (mul-bounded (logisticAt place) alt 1 2 (leb→le 2 (2 ^ 53) tt) (logistic-bounded place) h)
+mono-bounded place alt h =
+    halved (mul binary64 (logisticAt place) alt) (mul-bounded (logisticAt place) alt 1 2 (leb→le 2 (2 ^ 53) tt) (logistic-bounded place) h)
 
 add-if-bounded : (first : Bool) (sum x : Float) (B C : ℕ) → B ≤ B + C → B + C ≤ 2 ^ 53 → Bounded sum B → Bounded x C → Bounded (addIf first sum x) (B + C)
 unfolding addIf
@@ -53,7 +55,8 @@ sum-bounded o =
     let h = hit-bounded (o .interval) in
     let a = alt-bounded (o .outer) hit h in
     let m = add-if-bounded (o .streak) zero64 mono 0 1 (leb→le 0 1 tt) (leb→le 1 (2 ^ 53) tt) (leb→le 0 0 tt) (mono-bounded (o .inner) alt a) in
-    add-if-bounded (o .hit) with-alt hit 3 2 (leb→le 3 5 tt) (leb→le 5 (2 ^ 53) tt) (add-if-bounded (o .pattern) with-mono alt 1 2 (leb→le 1 3 tt) (leb→le 3 (2 ^ 53) tt) m a) h
+    add-if-bounded (o .hit) with-alt hit 3 2 (leb→le 3 5 tt) (leb→le 5 (2 ^ 53) tt)
+    (add-if-bounded (o .pattern) with-mono alt 1 2 (leb→le 1 3 tt) (leb→le 3 (2 ^ 53) tt) m a) h
 
 -- ---- ratios in range, that is from 2 ^ -24 to 2 ^ 24
 below-highest : (r : Float) → T (positive r) → T (le r greatestRatio) → Bounded r (2 ^ 24)
@@ -77,7 +80,8 @@ either : (b : Bool) (x y : Float) (B : ℕ) → Bounded x B → Bounded y B → 
 either true x y B h g = h
 either false x y B h g = g
 
-module _ (tolerance : Float) (idx : ℕ) (c p : Float) (c-lo : T (le leastRatio c)) (c-hi : T (le c greatestRatio)) (p-lo : T (le leastRatio p)) (p-hi : T (le p greatestRatio)) where
+module _ (tolerance : Float) (idx : ℕ) (c p : Float) (c-lo : T (le leastRatio c)) (c-hi : T (le c greatestRatio)) (p-lo : T (le leastRatio p))
+    (p-hi : T (le p greatestRatio)) where
   pub penalty-bounded : Bounded (ratioPenalty tolerance idx c p) (2 ^ 24 + 1)
   unfolding ratioPenalty
   penalty-bounded =
@@ -86,7 +90,8 @@ module _ (tolerance : Float) (idx : ℕ) (c p : Float) (c-lo : T (le leastRatio 
       let last = cond (ltb idx 4) one64 (lowered p) in
       let near = cond (isNear tolerance one64 (div binary64 c p)) (lowered c) last in
       either (ltb idx 2) one64 near B u
-      (either (isNear tolerance one64 (div binary64 c p)) (lowered c) last B (lowered-bounded c c-lo c-hi) (either (ltb idx 4) one64 (lowered p) B u (lowered-bounded p p-lo p-hi)))
+      (either (isNear tolerance one64 (div binary64 c p)) (lowered c) last B (lowered-bounded c c-lo c-hi)
+      (either (ltb idx 4) one64 (lowered p) B u (lowered-bounded p p-lo p-hi)))
 
   -- 5 * (2 ^ 24 + 1), below 2 ^ 27
   pub colour-bounded : (o : Standing) → Bounded (mul binary64 (objectSum o) (ratioPenalty tolerance idx c p)) 83886085

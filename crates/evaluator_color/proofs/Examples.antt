@@ -19,14 +19,16 @@ standing interval outer inner streak pattern hit = record { interval = interval;
 unfoldable hundredth : Float
 hundredth = round binary64 false 1 100
 
--- ---- document 01's example d, whose idx is 0: by the definitions, and as 01 writes it
+-- ---- document 01's example d, whose idx is 0: by the definitions, and term by term
 shown-d : toBits binary64 (mul binary64 (objectSum (standing 17 0 0 true true true)) (ratioPenalty hundredth 0 one64 one64)) ≡ 0x4013ee42c8384268
 unfolding objectSum hitValue altValue monoValue addIf logisticAt tableBits ratioPenalty lowered hundredth isNear ofBits toBits round add sub mul div le
 shown-d = refl
 
--- "T(0) × (T(0) × 2) × 0.5, plus T(0) × 2, plus 2, rounded in order"
+-- T(0) × (T(0) × 2) × 0.5 and T(0) × 2 and 2, summed in this order
 shown-d-terms : toBits binary64
-    (add binary64 (add binary64 (mul binary64 (mul binary64 (logisticAt 0) (mul binary64 (logisticAt 0) two64)) half64) (mul binary64 (logisticAt 0) two64)) two64) ≡ 0x4013ee42c8384268
+    (add binary64
+    (add binary64 (mul binary64 (mul binary64 (logisticAt 0) (mul binary64 (logisticAt 0) two64)) half64) (mul binary64 (logisticAt 0) two64)) two64)
+    ≡ 0x4013ee42c8384268
 unfolding logisticAt tableBits ofBits toBits add mul
 shown-d-terms = refl
 

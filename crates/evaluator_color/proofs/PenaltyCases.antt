@@ -1,5 +1,5 @@
 -- The ratio penalty by what its three tests found.
-use mathlib.Core.Path.{_≡_, sym, ap, _∙_}
+use mathlib.Core.Path.{_≡_}
 use mathlib.Core.Bool.{Bool, cond}
 use Prim.Native.Nat.{ℕ}
 use lib.Dec.{ltb}
@@ -12,7 +12,4 @@ module _ (tolerance : Float) (idx : ℕ) (c p : Float) where
   pub tested : (r s t : Bool) → ltb idx 2 ≡ r → isNear tolerance one64 (div binary64 c p) ≡ s → ltb idx 4 ≡ t
       → cond r one64 (cond s (lowered c) (cond t one64 (lowered p))) ≡ ratioPenalty tolerance idx c p
   unfolding ratioPenalty
-  tested r s t h k l =
-      sym (ap (λ (b : Bool). cond b one64 (cond (isNear tolerance one64 (div binary64 c p)) (lowered c) (cond (ltb idx 4) one64 (lowered p)))) h
-      ∙ ap (λ (b : Bool). cond r one64 (cond b (lowered c) (cond (ltb idx 4) one64 (lowered p)))) k
-      ∙ ap (λ (b : Bool). cond r one64 (cond s (lowered c) (cond b one64 (lowered p)))) l)
+  tested r s t h k l = rw (h, k, l)

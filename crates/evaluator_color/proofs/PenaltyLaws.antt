@@ -1,4 +1,5 @@
--- Why the original's `smootherstep` line is never reached: its second comparison is of the object idx - 2 with itself, and a ratio in range divided by itself is 1.0, which is near 1.0.
+-- Why the original's `smootherstep` line is never reached: its second comparison is of the object idx - 2 with itself, and a ratio in range divided by itself
+-- is 1.0, which is near 1.0.
 -- Its quotient's fraction is 1 / 1, and equal fractions round alike.
 use mathlib.Core.Path.{_≡_, refl, ap, _∙_}
 use mathlib.Core.Bool.{Bool, true, false, cond}

@@ -21,18 +21,10 @@ module _ (threshold a b c : Float) where
   pub three-tested : (p q r : Bool) → similar threshold a b ≡ p → similar threshold a c ≡ q → similar threshold b c ≡ r
       → p || (q || r) ≡ somePair threshold (a ∷ b ∷ c ∷ [])
   unfolding somePair similarTo
-  three-tested p q r h k l =
-      sym (three-or (similar threshold a b) (similar threshold a c) (similar threshold b c)
-      ∙ ap (λ (z : Bool). z || (similar threshold a c || similar threshold b c)) h
-      ∙ ap (λ (z : Bool). p || (z || similar threshold b c)) k
-      ∙ ap (λ (z : Bool). p || (q || z)) l)
+  three-tested p q r h k l = rw (h, k, l) (sym (three-or p q r))
 
-  pub four-tested : (d : Float) (p q r u : Bool) → similar threshold a b ≡ p → similar threshold a c ≡ q → similar threshold a d ≡ r → somePair threshold (b ∷ c ∷ d ∷ []) ≡ u
-      → p || (q || (r || u)) ≡ somePair threshold (a ∷ b ∷ c ∷ d ∷ [])
+  pub four-tested : (d : Float) (p q r u : Bool) → similar threshold a b ≡ p → similar threshold a c ≡ q → similar threshold a d ≡ r
+      → somePair threshold (b ∷ c ∷ d ∷ []) ≡ u → p || (q || (r || u)) ≡ somePair threshold (a ∷ b ∷ c ∷ d ∷ [])
   unfolding somePair similarTo
   four-tested d p q r u h k l m =
-      sym (four-or (similar threshold a b) (similar threshold a c) (similar threshold a d) (somePair threshold (b ∷ c ∷ d ∷ []))
-      ∙ ap (λ (z : Bool). z || (similar threshold a c || (similar threshold a d || somePair threshold (b ∷ c ∷ d ∷ [])))) h
-      ∙ ap (λ (z : Bool). p || (z || (similar threshold a d || somePair threshold (b ∷ c ∷ d ∷ [])))) k
-      ∙ ap (λ (z : Bool). p || (q || (z || somePair threshold (b ∷ c ∷ d ∷ [])))) l
-      ∙ ap (λ (z : Bool). p || (q || (r || z))) m)
+      rw (h, k, l) (sym (four-or p q r (somePair threshold (b ∷ c ∷ d ∷ [])) ∙ ap (λ (z : Bool). p || (q || (r || z))) m))

@@ -1,4 +1,5 @@
--- Size of the penalty for the crates above: with a duration up to 2 ^ 25 in size and a window from 1.0 to 1000.0 it is finite, so no NaN. Each formula is bounded by what its parts are.
+-- Size of the penalty for the crates above: with a duration up to 2 ^ 25 in size and a window from 1.0 to 1000.0 it is finite, so no NaN.
+-- Each formula is bounded by what its parts are.
 use mathlib.Core.Bool.{true, false, not, cond}
 use mathlib.Core.List.{List}
 use Prim.Native.Nat.{ℕ, _+_, _*_, _^_}
@@ -15,7 +16,8 @@ use Rattle.numeric.proofs.ConstantLaws.{eight-tenths-bounded}
 use Rattle.numeric.proofs.Bounded.{Bounded, AtLeast, bounded-number, cond-bounded, sub-bounded, mul-bounded, div-bounded}
 use Rattle.grouping_same_rhythm.specs.declared.own.Own.{Own}
 use Rattle.grouping_same_rhythm.specs.declared.owns.Recent.{Recent}
-use Rattle.evaluator_rhythm.specs.RepeatedInterval.{present, somePair, walkPenalty, newestFirst, smaller, larger, durationPenalty, repeatedIntervalPenalty}
+use Rattle.evaluator_rhythm.specs.RepeatedInterval.{present, somePair, walkPenalty, newestFirst, smaller, larger, durationPenalty}
+use Rattle.evaluator_rhythm.specs.RepeatedInterval.{repeatedIntervalPenalty}
 
 -- ---- the walks: 0.8 or 1.0
 one-bounded : Bounded one64 1
@@ -74,8 +76,12 @@ module _ (threshold : Float) (owns : Recent) (notes : ℕ) (duration window : Fl
   pub penalty-fits : T (fits binary64 (repeatedIntervalPenalty threshold owns notes duration window))
   unfolding repeatedIntervalPenalty
   penalty-fits =
-      mul-fits binary64 (smaller (walkPenalty threshold 3 (newestFirst owns)) (cond (ltb notes 6) (walkPenalty threshold 4 (newestFirst owns)) one64)) (durationPenalty duration window)
+      mul-fits binary64 (smaller (walkPenalty threshold 3 (newestFirst owns)) (cond (ltb notes 6) (walkPenalty threshold 4 (newestFirst owns)) one64))
+      (durationPenalty duration window)
 
-  pub penalty-no-nan : Bounded duration (2 ^ 25) → T (le one64 window) → T (le window thousand64) → T (not (isNan (repeatedIntervalPenalty threshold owns notes duration window)))
+  pub penalty-no-nan : Bounded duration (2 ^ 25) → T (le one64 window) → T (le window thousand64)
+      → T (not (isNan (repeatedIntervalPenalty threshold owns notes duration window)))
   penalty-no-nan d lo hi =
-      number-no-nan (bounded-number (repeatedIntervalPenalty threshold owns notes duration window) (2 ^ 26 + 1) penalty-fits (penalty-bounded d (window-at-least window lo hi)))
+      number-no-nan
+      (bounded-number (repeatedIntervalPenalty threshold owns notes duration window) (2 ^ 26 + 1) penalty-fits
+      (penalty-bounded d (window-at-least window lo hi)))

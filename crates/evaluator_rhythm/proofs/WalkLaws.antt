@@ -6,7 +6,6 @@ use Prim.Native.Nat.{ℕ, zero, suc, _≤_, _<_}
 use native.Mathlib.Nat.{le-of-eq}
 use native.Mathlib.Omega.{arith}
 use borrow.Author.Tests.{lt-ltb, le-ltb}
-use lib.Dec.{ltb}
 use lib.ListN.{length, getD, take}
 use lib.Ieee.{Float}
 use Rattle.numeric.specs.Constants.{one64, eightTenths}
@@ -33,9 +32,7 @@ present-fewer (suc k) (suc j) (Millis x ∷ owns) h e = let g = present-fewer k 
 
 pub walk-absent : (threshold : Float) (k j : ℕ) (owns : List Own) → j < k → getD owns j Absent ≡ Absent → one64 ≡ walkPenalty threshold k owns
 unfolding walkPenalty
-walk-absent threshold k j owns h e =
-    let xs = present (take k owns) in
-    sym (ap (λ (b : Bool). cond b one64 (cond (somePair threshold xs) eightTenths one64)) (lt-ltb (length xs) k (present-fewer k j owns h e)))
+walk-absent threshold k j owns h e = rw (lt-ltb (length (present (take k owns))) k (present-fewer k j owns h e))
 
 -- own intervals that all exist, with their numbers of milliseconds
 pub data Existing : List Own → List Float → Type 0 where
@@ -48,10 +45,7 @@ present-all none = refl
 present-all (next {own} {owns} {x} {xs} h r) = ap (λ (o : Own). present (o ∷ owns)) h ∙ ap (λ (l : List Float). x ∷ l) (present-all r)
 
 -- b is what the search for a similar pair found
-pub walk-existing : (threshold : Float) (k : ℕ) (owns : List Own) {xs : List Float} {b : Bool} → Existing (take k owns) xs → length xs ≡ k → b ≡ somePair threshold xs
-    → cond b eightTenths one64 ≡ walkPenalty threshold k owns
+pub walk-existing : (threshold : Float) (k : ℕ) (owns : List Own) {xs : List Float} {b : Bool} → Existing (take k owns) xs → length xs ≡ k
+    → b ≡ somePair threshold xs → cond b eightTenths one64 ≡ walkPenalty threshold k owns
 unfolding walkPenalty
-walk-existing threshold k owns {xs} {b} r l h =
-    sym (ap (λ (ys : List Float). cond (ltb (length ys) k) one64 (cond (somePair threshold ys) eightTenths one64)) (present-all r)
-    ∙ ap (λ (z : Bool). cond z one64 (cond (somePair threshold xs) eightTenths one64)) (le-ltb (length xs) k (le-of-eq (sym l)))
-    ∙ ap (λ (z : Bool). cond z eightTenths one64) (sym h))
+walk-existing threshold k owns {xs} {b} r l h = rw (present-all r, le-ltb (length xs) k (le-of-eq (sym l)), ← h)

@@ -1,6 +1,6 @@
--- Document 01, evaluators/rhythm.rs, `repeated_interval_penalty`: "threshold 0.1. Walk 3 groups back from a group, itself included; if all 3 exist with own intervals and some pair
--- newer ÷ older is within 0.1 of 1.0, 0.8, else 1.0. The same with 4 if the group has fewer than 6 notes, else 1.0. The smaller, times the larger of
--- 1.0 − duration × 2.0 / window and 0.5, duration being last start minus first." The 0.1 is a parameter, the threshold, as in the source.
+-- The penalty of a rhythm group that repeats an interval: evaluators/rhythm.rs, `repeated_interval_penalty`.
+-- A group and those before it are walked, three and then four of them, in search of two own intervals that are alike;
+-- the longer the group lasts, the smaller is the result. The threshold is a parameter, as in the source.
 use Prim.Native.Nat.{ℕ, _≤_}
 use mathlib.Core.Bool.{Bool, false, cond, _||_}
 use mathlib.Core.List.{List, [], _∷_}
@@ -19,7 +19,7 @@ present [] = []
 present (Absent ∷ owns) = present owns
 present (Millis x ∷ owns) = x ∷ present owns
 
--- "newer ÷ older is within 0.1 of 1.0"
+-- the quotient of two own intervals is near 1.0
 unfoldable pub similar : Float → Float → Float → Bool
 similar threshold newer older = isNear threshold one64 (div binary64 newer older)
 
@@ -28,15 +28,16 @@ unfoldable pub similarTo : Float → Float → List Float → Bool
 similarTo threshold newer [] = false
 similarTo threshold newer (older ∷ rest) = similar threshold newer older || similarTo threshold newer rest
 
--- "some pair", the newest first
+-- some one with some older one, the newest first
 unfoldable pub somePair : Float → List Float → Bool
 somePair threshold [] = false
 somePair threshold (newer ∷ older) = similarTo threshold newer older || somePair threshold older
 
--- the walk over k own intervals, the newest first
+-- the walk over k own intervals, the newest first: where one of them is missing there is nothing to repeat
 unfoldable pub walkPenalty : Float → ℕ → List Own → Float
 walkPenalty threshold k owns =
-    cond (ltb (length (present (take k owns))) k) one64 (cond (somePair threshold (present (take k owns))) eightTenths one64)
+    let walked = present (take k owns) in
+    cond (ltb (length walked) k) one64 (cond (somePair threshold walked) eightTenths one64)
 
 -- what a walk is asked for
 pub record ThreeOrFour (k : ℕ) : Type 0 where
@@ -53,13 +54,13 @@ smaller x y = cond (le x y) x y
 unfoldable pub larger : Float → Float → Float
 larger x y = cond (le y x) x y
 
--- "the larger of 1.0 − duration × 2.0 / window and 0.5"
+-- 1.0 less twice the duration's part of the window, and 0.5 at least
 unfoldable pub durationPenalty : Float → Float → Float
 durationPenalty duration window = larger (sub binary64 one64 (div binary64 (mul binary64 duration two64) window)) half64
 
--- of a group with this many notes
+-- of a group with this many notes, from its first start to its last: with six notes the longer walk is left out
 unfoldable pub repeatedIntervalPenalty : Float → Recent → ℕ → Float → Float → Float
 repeatedIntervalPenalty threshold owns notes duration window =
-    mul binary64
-    (smaller (walkPenalty threshold 3 (newestFirst owns)) (cond (ltb notes 6) (walkPenalty threshold 4 (newestFirst owns)) one64))
-    (durationPenalty duration window)
+    let three = walkPenalty threshold 3 (newestFirst owns) in
+    let four = cond (ltb notes 6) (walkPenalty threshold 4 (newestFirst owns)) one64 in
+    mul binary64 (smaller three four) (durationPenalty duration window)

@@ -29,14 +29,16 @@ pub record StandingAlike (limit : ℕ) (kinds : List ℕ) (i : ℕ) (kinds′ : 
   pub pattern : isFirst (patternOf kinds) i ≡ isFirst (patternOf kinds′) i′
   pub hit : isFirst (hitOf kinds) i ≡ isFirst (hitOf kinds′) i′
 
-standing-alike : {limit : ℕ} {kinds : List ℕ} {i : ℕ} {kinds′ : List ℕ} {i′ : ℕ} → StandingAlike limit kinds i kinds′ i′ → standingAt limit kinds i ≡ standingAt limit kinds′ i′
+standing-alike : {limit : ℕ} {kinds : List ℕ} {i : ℕ} {kinds′ : List ℕ} {i′ : ℕ} → StandingAlike limit kinds i kinds′ i′
+    → standingAt limit kinds i ≡ standingAt limit kinds′ i′
 unfolding standingAt
 standing-alike e t = record { interval = e .interval t; outer = e .outer t; inner = e .inner t; streak = e .streak t; pattern = e .pattern t; hit = e .hit t }
 
 -- from object 4 on the penalty hangs on the two ratios alone
 penalty-late : (tolerance : Float) (i j : ℕ) (c p : Float) → 4 ≤ i → 4 ≤ j → ratioPenalty tolerance i c p ≡ ratioPenalty tolerance j c p
 penalty-late tolerance i j c p h k =
-    sym (tested tolerance i c p false _ false (le-ltb i 2 (omega arith)) refl (le-ltb i 4 h)) ∙ tested tolerance j c p false _ false (le-ltb j 2 (omega arith)) refl (le-ltb j 4 k)
+    sym (tested tolerance i c p false _ false (le-ltb i 2 (omega arith)) refl (le-ltb i 4 h))
+    ∙ tested tolerance j c p false _ false (le-ltb j 2 (omega arith)) refl (le-ltb j 4 k)
 
 -- the value, from object 4 on, where the two ratios are the same too
 pub colour-alike : {limit : ℕ} (tolerance : Float) {kinds : List ℕ} (ratios : List Float) {i : ℕ} {kinds′ : List ℕ} (ratios′ : List Float) {i′ : ℕ}

@@ -31,7 +31,8 @@ module _ (s : Settings) (c : Chart) (beside : ℕ) (accepted : verdict c beside 
   good = accepted-good c beside accepted
 
   value-is : (i : ℕ) → i < size c
-      → getD (valuesOf s c) i nan ≡ mul binary64 (objectSum (standingAt (s .limit) (c .kinds) i)) (ratioPenalty (s .tolerance) i (getD (c .ratios) i nan) (getD (c .ratios) (i - 2) nan))
+      → getD (valuesOf s c) i nan ≡ mul binary64 (objectSum (standingAt (s .limit) (c .kinds) i))
+      (ratioPenalty (s .tolerance) i (getD (c .ratios) i nan) (getD (c .ratios) (i - 2) nan))
   unfolding colourAt
   value-is i h = value-of (s .limit) (s .tolerance) (c .kinds) (c .ratios) i h
 
@@ -43,11 +44,13 @@ module _ (s : Settings) (c : Chart) (beside : ℕ) (accepted : verdict c beside 
       let r = ratio-at i h in
       let p = ratio-at (i - 2) (omega arith) in
       subst (λ (x : Float). Bounded x largestColour) (sym (value-is i h))
-      (formulas.colour-bounded (s .tolerance) i (getD (c .ratios) i nan) (getD (c .ratios) (i - 2) nan) (r .0) (r .1) (p .0) (p .1) (standingAt (s .limit) (c .kinds) i))
+      (formulas.colour-bounded (s .tolerance) i (getD (c .ratios) i nan) (getD (c .ratios) (i - 2) nan) (r .0) (r .1) (p .0) (p .1)
+      (standingAt (s .limit) (c .kinds) i))
 
   pub value-number : (i : ℕ) → i < size c → Number (getD (valuesOf s c) i nan)
   value-number i h =
-      bounded-number (getD (valuesOf s c) i nan) largestColour (subst (λ (x : Float). T (fits binary64 x)) (sym (value-is i h)) (mul-fits binary64 _ _)) (value-bounded i h)
+      bounded-number (getD (valuesOf s c) i nan) largestColour (subst (λ (x : Float). T (fits binary64 x)) (sym (value-is i h)) (mul-fits binary64 _ _))
+      (value-bounded i h)
 
   pub value-no-nan : (i : ℕ) → i < size c → T (not (isNan (getD (valuesOf s c) i nan)))
   value-no-nan i h = number-no-nan (value-number i h)

@@ -1,6 +1,6 @@
 -- How an object stands in its groups, put together from what was read in the tables; and the list of values, element by element.
-use mathlib.Core.Path.{_≡_, sym, ap, _∙_}
-use mathlib.Core.Bool.{Bool, true, cond, not}
+use mathlib.Core.Path.{_≡_}
+use mathlib.Core.Bool.{true, not}
 use mathlib.Core.List.{List}
 use Prim.Native.Nat.{ℕ, _-_, _<_}
 use borrow.Author.Tests.{eq-eqb, ne-eqb}
@@ -15,12 +15,11 @@ use Rattle.evaluator_values.specs.Passes.{StandingIs}
 -- ---- the first object of a group
 pub start-first : (numbers : List ℕ) (i : ℕ) → i ≡ 0 → true ≡ isFirst numbers i
 unfolding isFirst
-start-first numbers i e = sym (ap (λ (b : Bool). cond b true (not (eqb (getD numbers i 0) (getD numbers (i - 1) 0)))) (eq-eqb i 0 e))
+start-first numbers i e = rw (eq-eqb i 0 e)
 
 pub change-first : (numbers : List ℕ) (i x y : ℕ) → (i ≡ 0 → ⊥) → x ≡ getD numbers i 0 → y ≡ getD numbers (i - 1) 0 → not (eqb x y) ≡ isFirst numbers i
 unfolding isFirst
-change-first numbers i x y h p q =
-    (λ t. not (eqb (p t) (q t))) ∙ sym (ap (λ (b : Bool). cond b true (not (eqb (getD numbers i 0) (getD numbers (i - 1) 0)))) (ne-eqb i 0 h))
+change-first numbers i x y h p q = rw (ne-eqb i 0 h) (λ t. not (eqb (p t) (q t)))
 
 pub standing-is : {limit : ℕ} {kinds : List ℕ} {i : ℕ} {r : Standing} → StandingIs limit kinds i r → r ≡ standingAt limit kinds i
 unfolding standingAt

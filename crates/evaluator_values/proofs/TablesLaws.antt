@@ -10,7 +10,8 @@ use Rattle.grouping_marks.proofs.OverLaws.{getD-part}
 use Rattle.grouping_marks.proofs.FillLaws.{getD-gathered}
 use Rattle.grouping_color.specs.MonoStreak.{streakOf}
 use Rattle.grouping_color.specs.Preprocessor.{hitIntervals, streakPlaceOf, patternOf, patternPlaceOf, hitOf, intervalOf}
-use Rattle.grouping_color.proofs.BoundLaws.{streakPlaceOf-looked, patternOf-looked, patternPlaceOf-looked, hitOf-looked, intervalOf-looked, length-streakOf, length-patternOf, length-hitOf, streak-below, patternOf-below, hitOf-below}
+use Rattle.grouping_color.proofs.BoundLaws.{streakPlaceOf-looked, patternOf-looked, patternPlaceOf-looked, hitOf-looked, intervalOf-looked, length-streakOf}
+use Rattle.grouping_color.proofs.BoundLaws.{length-patternOf, length-hitOf, streak-below, patternOf-below, hitOf-below}
 use Rattle.grouping_preprocessor.specs.Passes.{Regions, Tables}
 use Rattle.grouping_preprocessor.specs.declared.Counts.{Counts}
 use Rattle.evaluator_values.specs.Passes.{Tabled, ObjectIn, NumbersAt}
@@ -40,7 +41,8 @@ tabled {limit} {kinds} r t = record {
 
 -- ---- what is looked up
 -- entry s of a table of m places from place a on, where s is the object's number
-entry-is : (w : List ℕ) (a m : ℕ) (table idx answer : List ℕ) (i s : ℕ) → part a m w ≡ table → gathered table idx ≡ answer → i < length idx → s < m → s ≡ getD idx i 0
+entry-is : (w : List ℕ) (a m : ℕ) (table idx answer : List ℕ) (i s : ℕ) → part a m w ≡ table → gathered table idx ≡ answer → i < length idx → s < m
+    → s ≡ getD idx i 0
     → getD w (a + s) 0 ≡ getD answer i 0
 entry-is w a m table idx answer i s t g h r e =
     sym (getD-part a m w s 0 r) ∙ (λ j. getD (t j) (e j) 0) ∙ sym (getD-gathered table idx i h) ∙ ap (λ (l : List ℕ). getD l i 0) g
@@ -71,7 +73,11 @@ module _ {kinds w : List ℕ} {k : Counts} {i : ℕ} (o : ObjectIn kinds w k i) 
   hit-in = omega (arith, hit-is, hitOf-below kinds i (o .within), o .tabled .tables .count-h)
 
   pub numbers-are : NumbersAt kinds k i
-      (record { streak = getD w i 0; pattern = getD w (3 * length kinds + getD w i 0) 0; hit = getD w (length kinds + getD w (3 * length kinds + getD w i 0) 0) 0 })
+      (record {
+        streak = getD w i 0;
+        pattern = getD w (3 * length kinds + getD w i 0) 0;
+        hit = getD w (length kinds + getD w (3 * length kinds + getD w i 0) 0) 0;
+      })
   numbers-are = record { streaks = streak-is; patterns = pattern-is; hits = hit-is; in-streaks = streak-in; in-patterns = pattern-in; in-hits = hit-in }
 
   module _ {r : Numbers} (a : NumbersAt kinds k i r) where

@@ -1,4 +1,4 @@
--- Document 01, "Colour: one f64 per object": the colour value of each object of a chart.
+-- The colour value of each object of a chart (document 01, the call colour).
 use Prim.Native.Nat.{ℕ, _-_}
 use mathlib.Core.Bool.{Bool, true, cond, not}
 use mathlib.Core.List.{List}
@@ -29,10 +29,11 @@ standingAt limit kinds i = record {
   hit = isFirst (hitOf kinds) i;
 }
 
--- "The sum is multiplied by the ratio penalty", with "c its ratio and p that of idx − 2"
+-- its sum times its ratio penalty, which goes by its own ratio and that of the object two before
 unfoldable pub colourAt : ℕ → Float → List ℕ → List Float → ℕ → Float
 colourAt limit tolerance kinds ratios i =
-    mul binary64 (objectSum (standingAt limit kinds i)) (ratioPenalty tolerance i (getD ratios i nan) (getD ratios (i - 2) nan))
+    mul binary64 (objectSum (standingAt limit kinds i))
+    (ratioPenalty tolerance i (getD ratios i nan) (getD ratios (i - 2) nan))
 
 unfoldable pub colourValues : ℕ → Float → List ℕ → List Float → List Float
 colourValues limit tolerance kinds ratios = tabulate (colourAt limit tolerance kinds ratios) (length kinds)

@@ -67,7 +67,7 @@ fn standing_at(kind: &[u8], w: &[u16], k: Counts, idx: ObjectIndex) -> Standing
     }
 }
 
-// The ratio of the object two before. Below object 2 there is none, and the first stands in: the penalty does not read it.
+// The ratio of the object two before. Below object 2 there is none, and the first stands in: the penalty reads none.
 fn earlier_ratio(ratio: &[f64], idx: ObjectIndex) -> f64
     requires { ⌜ idx .0 < length (now ratio) ⌝ }
     ensures { λ r. ⌜ r ≡ getD (now (ratio .entry)) (idx .0 - 2) nan ⌝ }

@@ -1,6 +1,7 @@
--- IEEE 754-2019, 5.3.1, roundToIntegralTiesToEven(x): the whole number nearest to x, and where two are as near the even one.
+-- IEEE 754-2019, 5.3.1, roundToIntegralTiesToEven(x): the whole number nearest to x, of two as near the even one.
 -- A result of zero has the sign of x; an infinity and a NaN come back.
--- The kit's `closest a b` is the whole number nearest to the fraction a / b, at a tie the even one; x is m * up e / down e in size.
+-- The kit's `closest a b` is the whole number nearest to the fraction a / b, at a tie the even one;
+-- x is m * up e / down e in size.
 use mathlib.Core.Bool.{Bool}
 use Prim.Native.Nat.{ℕ, _*_}
 use lib.Ieee.{Float, nan, inf, fin, binary64, up, down, round}

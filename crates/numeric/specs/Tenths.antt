@@ -1,5 +1,6 @@
--- Document 01, stretch: "the largest whole number not above ten times that mean, exactly". Nothing is rounded.
--- A finite x is m * up e / down e in size. For a negative x the largest whole number not above 10 x is minus the smallest one not below 10 |x|.
+-- A value in tenths, downwards, from the exact product with ten (document 01, stretch).
+-- A finite x is m * up e / down e in size. For a negative x the largest whole number not above 10 x is minus
+-- the smallest one not below 10 |x|.
 use mathlib.Core.Bool.{true, false}
 use mathlib.Core.Path.{_≡_}
 use Prim.Native.Nat.{ℕ, _+_, _-_, _*_, _/_, _^_, _≤_, _<_}

@@ -276,7 +276,8 @@ pub fn table() -> [f64; 264]
     T
 }
 
-// T(n) for a step below 264, and +0.0 from there on. The caller makes the table and lends it: `T[n]` here would build it anew at each call.
+// T(n) for a step below 264, and +0.0 from there on. The caller makes the table and lends it: `T[n]` here would
+// build it anew at each call.
 pub fn logistic(table: &[f64], n: usize) -> f64
     requires { ⌜ now table ≡ logisticTable ⌝ }
     ensures { λ r. ⌜ r ≡ logisticAt n ⌝ }

@@ -18,7 +18,8 @@ returns : tie.Need-returns
 unfolding ofBits
 returns c =
     let at-hit = c .before .before .before .before .before in
-    summed (at-hit .before .before .args .o) (at-hit .hit-value .ensures) (c .before .before .before .before .alt-value .ensures) (c .before .before .before .mono-value .ensures)
+    summed (at-hit .before .before .args .o) (at-hit .hit-value .ensures)
+    (c .before .before .before .before .alt-value .ensures) (c .before .before .before .mono-value .ensures)
     (c .before .before .add-if .ensures) (c .before .add-if2 .ensures) (c .add-if3 .ensures)
 
 pub object-sum-spec : {M : Type 1} → statement M

@@ -24,7 +24,8 @@ returns-3 c =
     let first = second .before .before in
     let x = first .before .before .args in
     three-tested (x .threshold) (x .a) (x .b) (x .c) false false _
-    (sym (first .before .is-similar .ensures) ∙ first .if1 .left) (sym (second .before .is-similar2 .ensures) ∙ second .if2 .left) (sym (c .is-similar3 .ensures))
+    (sym (first .before .is-similar .ensures) ∙ first .if1 .left) (sym (second .before .is-similar2 .ensures) ∙ second .if2 .left)
+    (sym (c .is-similar3 .ensures))
 
 pub similar-three-spec : {M : Type 1} → statement M
 similar-three-spec =

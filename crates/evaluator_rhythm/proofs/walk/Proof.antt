@@ -11,7 +11,8 @@ use Rattle.evaluator_rhythm.proofs.walk.Statement.{statement}
 use Rattle.evaluator_rhythm.proofs.walk.Tie as tie
 
 -- a walk whose k is known
-known : (threshold r : Float) (owns : Recent) (k n : ℕ) → k ≡ n → r ≡ walkPenalty threshold n (newestFirst owns) → r ≡ walkPenalty threshold k (newestFirst owns)
+known : (threshold r : Float) (owns : Recent) (k n : ℕ) → k ≡ n → r ≡ walkPenalty threshold n (newestFirst owns)
+    → r ≡ walkPenalty threshold k (newestFirst owns)
 known threshold r owns k n e = subst (λ (j : ℕ). r ≡ walkPenalty threshold j (newestFirst owns)) (sym e)
 
 returns : tie.Need-returns
@@ -48,7 +49,8 @@ returns-5 : tie.Need-returns-5
 unfolding newestFirst ofBits
 returns-5 c =
     let s = c .before .before .before .before .before .before .before .before .before .before .before .before in
-    walk-absent (s .args .threshold) (s .args .k) 3 (newestFirst (s .args .owns)) (omega (arith, s .pre, c .before .before .if1 .left)) (c .enum-told4 .given .1)
+    walk-absent (s .args .threshold) (s .args .k) 3 (newestFirst (s .args .owns)) (omega (arith, s .pre, c .before .before .if1 .left))
+    (c .enum-told4 .given .1)
 
 returns-6 : tie.Need-returns-6
 unfolding newestFirst
@@ -62,7 +64,8 @@ returns-6 c =
     known (x .threshold) _ (x .owns) (x .k) 4 (omega (arith, s .pre, fourth .before .before .if1 .left))
     (c .penalty-if2 .ensures
     ∙ walk-existing (x .threshold) 4 (newestFirst (x .owns))
-    (next (newest .newest .given .1) (next (second .second .given .1) (next (third .third .given .1) (next (fourth .fourth .given .1) none)))) refl (c .before .similar-four .ensures))
+    (next (newest .newest .given .1) (next (second .second .given .1) (next (third .third .given .1) (next (fourth .fourth .given .1) none)))) refl
+    (c .before .similar-four .ensures))
 
 pub walk-spec : {M : Type 1} → statement M
 walk-spec =

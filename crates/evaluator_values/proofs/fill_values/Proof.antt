@@ -20,19 +20,33 @@ loop-holds : tie.Need-loop-holds Inv-loop μ-loop
 loop-holds c = fill-start-front _ _ _ (length-values _ _ _ _) (c .before .before .before .before .before .pre .1)
 
 value-at-requires : tie.Need-value-at-requires Inv-loop μ-loop
-value-at-requires c κs = (c .before .before .before .before .before .before .before .pre .0, c .loop-test .taken)
+value-at-requires c κs =
+    let loop = c .before .before in
+    let start = loop .before .before .before .before .before in
+    (start .pre .0, c .loop-test .taken)
 
 mul-value : tie.Need-mul-value Inv-loop μ-loop
-mul-value c = omega (arith, c .before .before .before .before .before .before .before .before .pre .0 .tabled .regions)
+mul-value c =
+    let loop = c .before .before .before in
+    let start = loop .before .before .before .before .before in
+    omega (arith, start .pre .0 .tabled .regions)
 
 slice-write-value : tie.Need-slice-write-value Inv-loop μ-loop
-slice-write-value c = omega (arith, c .before .before .before .before .before .before .before .before .pre .1)
+slice-write-value c =
+    let loop = c .before .before .before in
+    let start = loop .before .before .before .before .before in
+    omega (arith, start .pre .1)
 
 add-i : tie.Need-add-i Inv-loop μ-loop
-add-i c = omega (arith, c .before .before .before .before .before .before .before .before .pre .0 .tabled .regions)
+add-i c =
+    let loop = c .before .before .before in
+    let start = loop .before .before .before .before .before in
+    omega (arith, start .pre .0 .tabled .regions)
 
 loop-again : tie.Need-loop-again Inv-loop μ-loop
-loop-again c = fill-turn-front nan (c .before .before .loop .inv) (c .before .loop-test .taken) (c .value-at .ensures ∙ sym (value-of _ _ _ _ _ (c .before .loop-test .taken)))
+loop-again c =
+    fill-turn-front nan (c .before .before .loop .inv) (c .before .loop-test .taken)
+    (c .value-at .ensures ∙ sym (value-of _ _ _ _ _ (c .before .loop-test .taken)))
 
 same-length : tie.Need-same-length Inv-loop μ-loop
 same-length c = c .before .loop .inv .long

@@ -31,8 +31,8 @@ between (inf false) h k = absurd k
 between (fin true m e) h k = bound m e h
 between (fin false m e) h k = bound m e k
 
-pub within : (v : Float) → InTenthsRange v → Within v
-within v r = between v (r .above) (r .below)
+pub range-within : (v : Float) → InTenthsRange v → Within v
+range-within v r = between v (r .above) (r .below)
 
 pub no-nan : (v : Float) → Within v → T (not (isNan v))
 unfolding isNan

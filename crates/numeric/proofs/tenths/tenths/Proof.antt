@@ -9,7 +9,7 @@ use lib.Ieee.{ofBits}
 use mir.Syntax.{w64}
 use mir.Val.{SFits, toZ, ofZ}
 use mir.ValLaws.{toZ-pos, toZ-ofZ}
-use Rattle.numeric.proofs.tenths.Size.{within}
+use Rattle.numeric.proofs.tenths.Size.{range-within}
 use Rattle.numeric.proofs.tenths.Tens.{up-case, down-case, minus-fits, zero-minus}
 use Rattle.numeric.proofs.tenths.tenths.Statement.{statement}
 use Rattle.numeric.proofs.tenths.tenths.Tie as tie
@@ -34,7 +34,7 @@ returns c =
     ap (λ (z : ℤ). toZ w64 (ofZ w64 z)) (minus-is q (c .ten-ceiling .ensures .small))
     ∙ toZ-ofZ w64 (negℤ (pos q)) (minus-fits q (c .ten-ceiling .ensures .small))
     ∙ ap (λ (z : ℕ). negℤ (pos z)) (c .ten-ceiling .ensures .equal)
-    ∙ up-case x (c .before .before .size-of .result .digits) (c .before .before .size-of .result .shift) (within x (start .pre))
+    ∙ up-case x (c .before .before .size-of .result .digits) (c .before .before .size-of .result .shift) (range-within x (start .pre))
     (c .before .before .size-of .ensures) (c .before .if1 .taken)
 
 returns-2 : tie.Need-returns-2
@@ -44,7 +44,7 @@ returns-2 c =
     let x = start .args .x in
     read (c .ten-floor .result) (c .ten-floor .ensures .small)
     ∙ ap pos (c .ten-floor .ensures .equal)
-    ∙ down-case x (c .before .before .size-of .result .digits) (c .before .before .size-of .result .shift) (within x (start .pre))
+    ∙ down-case x (c .before .before .size-of .result .digits) (c .before .before .size-of .result .shift) (range-within x (start .pre))
     (c .before .before .size-of .ensures) (c .before .if1 .left)
 
 pub tenths-spec : {M : Type 1} → statement M
