@@ -1,4 +1,4 @@
-// The table T: T(n) is the f64 nearest to 1 / (1 + e^(e (n - 2))). tools/logistic_table.py makes it.
+// The table T of 1 / (1 + e^(e (n - 2))) at the steps n, each rounded to f64. tools/logistic_table.py makes it.
 ghost use mathlib.Core.Path.{_≡_};
 ghost use Rattle.numeric.specs.Logistic.{logisticTable, logisticAt};
 

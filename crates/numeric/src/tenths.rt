@@ -53,7 +53,7 @@ fn ten_ceiling(digits: u64, shift: u64) -> u64
     (10 * digits + ((1u64 << shift) - 1)) >> shift
 }
 
-// The largest whole number not above ten times x.
+// Ten times x, downwards to a whole number.
 pub fn tenths(x: f64) -> i64
     requires { ⌜ InTenthsRange x ⌝ }
     ensures { λ r. ⌜ r ≡ tenthsOf x ⌝ }

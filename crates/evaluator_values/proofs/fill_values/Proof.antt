@@ -19,29 +19,21 @@ abbrev μ-loop : tie.MeasureT-loop
 loop-holds : tie.Need-loop-holds Inv-loop μ-loop
 loop-holds c = fill-start-front _ _ _ (length-values _ _ _ _) (c .before .before .before .before .before .pre .1)
 
+-- what was lent, as a turn of the loop has it
+abbrev start : tie.In-loop Inv-loop μ-loop → tie.Start Inv-loop μ-loop
+start c = c .before .before .before .before .before .before .before
+
 value-at-requires : tie.Need-value-at-requires Inv-loop μ-loop
-value-at-requires c κs =
-    let loop = c .before .before in
-    let start = loop .before .before .before .before .before in
-    (start .pre .0, c .loop-test .taken)
+value-at-requires c κs = (start c .pre .0, c .loop-test .taken)
 
 mul-value : tie.Need-mul-value Inv-loop μ-loop
-mul-value c =
-    let loop = c .before .before .before in
-    let start = loop .before .before .before .before .before in
-    omega (arith, start .pre .0 .tabled .regions)
+mul-value c = omega (arith, start (c .before) .pre .0 .tabled .regions)
 
 slice-write-value : tie.Need-slice-write-value Inv-loop μ-loop
-slice-write-value c =
-    let loop = c .before .before .before in
-    let start = loop .before .before .before .before .before in
-    omega (arith, start .pre .1)
+slice-write-value c = omega (arith, start (c .before) .pre .1)
 
 add-i : tie.Need-add-i Inv-loop μ-loop
-add-i c =
-    let loop = c .before .before .before in
-    let start = loop .before .before .before .before .before in
-    omega (arith, start .pre .0 .tabled .regions)
+add-i c = omega (arith, start (c .before) .pre .0 .tabled .regions)
 
 loop-again : tie.Need-loop-again Inv-loop μ-loop
 loop-again c =
