@@ -46,7 +46,7 @@ long-as old e = ap length e ∙ length-ordered old
 
 -- ---- cases
 
-alike-same : {x y : Float} → Number x → Number y → alike x y ≡ true → x ≡ y
+pub alike-same : {x y : Float} → Number x → Number y → alike x y ≡ true → x ≡ y
 unfolding alike
 alike-same {x} {y} p q e =
     let t : T (alike x y) = subst T (sym e) tt in
