@@ -1,12 +1,9 @@
--- What the steps of `sort` promise before heap sort is asked: whether the values rise or fall, and that they are turned round.
-use Prim.Native.Nat.{ℕ, _-_, _<_}
-use mathlib.Core.Path.{_≡_}
+-- What the steps of `sort` answer before heap sort is asked: whether the values rise, and whether they fall. Values that fall are turned round by exchanges, and
+-- tested: nothing is promised of where each one then stands.
 use mathlib.Core.Bool.{Bool, true, not, _&&_}
 use mathlib.Core.List.{List, [], _∷_}
-use lib.ListN.{length, getD}
-use lib.Ieee.{Float, nan}
+use lib.Ieee.{Float}
 use Rattle.numeric.specs.TotalOrder.{totalOrder}
-use Rattle.grouping_sort.specs.Heap.{Shuffled}
 
 -- the test holds of each value and the next one
 unfoldable pub neighbours : (Float → Float → Bool) → List Float → Bool
@@ -24,8 +21,3 @@ behind x y = not (totalOrder x y)
 -- each value stands behind the next one
 unfoldable pub falling : List Float → Bool
 falling values = neighbours behind values
-
--- what `reverse` promises: each value at its mirrored place, by exchanges
-pub record Reversed (old new : List Float) : Type 0 where
-  pub shuffled : Shuffled (length old) old new
-  pub mirrored : (k : ℕ) → k < length old → getD new k nan ≡ getD old (length old - 1 - k) nan

@@ -9,7 +9,7 @@ use Rattle.grouping_sort.proofs.sort.Tie as tie
 returns : tie.Need-returns
 returns c =
     let s = c .before .before .before .before .before .before .before in
-    turned-rising (slice-numbers (s .before .pre) (s .slice-known .given)) (c .before .before .before .before .before .turn-if-falling .ensures) (sym (c .before .rises .ensures) ∙ c .if1 .taken)
+    turned-rising (slice-numbers (s .before .pre) (s .slice-known .given)) (c .before .before .before .before .before .turn-if-falling .ensures) (sym (c .before .is-rising .ensures) ∙ c .if1 .taken)
 
 heap-sort-requires : tie.Need-heap-sort-requires
 heap-sort-requires c κs =

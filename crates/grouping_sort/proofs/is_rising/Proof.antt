@@ -8,8 +8,8 @@ use borrow.Author.Tests.{not-true, not-false}
 use Rattle.numeric.specs.TotalOrder.{totalOrder}
 use Rattle.grouping_sort.specs.Sort.{rising}
 use Rattle.grouping_sort.proofs.RunLaws.{Testing, testing-fails, testing-turn, testing-end}
-use Rattle.grouping_sort.proofs.rises.Statement.{statement}
-use Rattle.grouping_sort.proofs.rises.Tie as tie
+use Rattle.grouping_sort.proofs.is_rising.Statement.{statement}
+use Rattle.grouping_sort.proofs.is_rising.Tie as tie
 
 abbrev Inv-loop : tie.InvT-loop
 Inv-loop values i₀ i = Testing totalOrder values i
@@ -35,8 +35,8 @@ returns-2 : tie.Need-returns-2 Inv-loop μ-loop
 unfolding rising
 returns-2 c = testing-end (c .before .loop .inv) (c .loop-test .left)
 
-pub rises-spec : {M : Type 1} → statement M
-rises-spec =
+pub is-rising-spec : {M : Type 1} → statement M
+is-rising-spec =
     tie.close
     (tie.spec
     Inv-loop

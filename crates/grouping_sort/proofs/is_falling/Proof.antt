@@ -7,8 +7,8 @@ use borrow.Author.Needs.{needs}
 use mathlib.Core.Bool.{not}
 use Rattle.grouping_sort.specs.Sort.{behind, falling}
 use Rattle.grouping_sort.proofs.RunLaws.{Testing, testing-fails, testing-turn, testing-end}
-use Rattle.grouping_sort.proofs.falls.Statement.{statement}
-use Rattle.grouping_sort.proofs.falls.Tie as tie
+use Rattle.grouping_sort.proofs.is_falling.Statement.{statement}
+use Rattle.grouping_sort.proofs.is_falling.Tie as tie
 
 abbrev Inv-loop : tie.InvT-loop
 Inv-loop values i₀ i = Testing behind values i
@@ -35,8 +35,8 @@ returns-2 : tie.Need-returns-2 Inv-loop μ-loop
 unfolding falling
 returns-2 c = testing-end (c .before .loop .inv) (c .loop-test .left)
 
-pub falls-spec : {M : Type 1} → statement M
-falls-spec =
+pub is-falling-spec : {M : Type 1} → statement M
+is-falling-spec =
     tie.close
     (tie.spec
     Inv-loop
