@@ -10,7 +10,7 @@ use lib.Dec.{T}
 use lib.ListN.{length, getD}
 use lib.Ieee.{Float, nan}
 use Rattle.numeric.specs.TotalOrder.{totalOrder}
-use Rattle.grouping_sort.specs.Heap.{Before, swapped, Shuffled, same, more, Child, Heap, Parent, LaterChild, Sinkable, Sunk, Heaped}
+use Rattle.grouping_sort.specs.passes.Heap.{Before, swapped, Shuffled, same, more, Child, Heap, Parent, LaterChild, Sinkable, Sunk, Heaped}
 use Rattle.grouping_sort.proofs.InsertLaws.{equal, rank, rank-le, rank-of-not, of-rank, Numbers}
 use Rattle.grouping_sort.proofs.OrderedLaws.{number-at, all-finite, numbers-swapped}
 use Rattle.grouping_sort.proofs.ShuffleLaws.{before-by, length-swapped, swapped-first, swapped-second, swapped-other, length-shuffled, shuffled-on, numbers-shuffled}

@@ -11,7 +11,7 @@ use lib.Seq.{lt-length-set, getD-set-same, getD-set-other}
 use lib.Ieee.{Float, nan, fits, binary64}
 use Rattle.numeric.proofs.Values.{Number}
 use Rattle.grouping_sort.specs.Ordered.{insert, ordered, AllFinite}
-use Rattle.grouping_sort.specs.Heap.{Before, swapped}
+use Rattle.grouping_sort.specs.passes.Heap.{Before, swapped}
 use Rattle.grouping_sort.proofs.InsertLaws.{equal, rank-le, Numbers, none, also, numbers-insert, length-insert, insert-here, insert-commute, insert-undo}
 
 -- ---- numbers by their places

@@ -12,8 +12,8 @@ use lib.Ieee.{Float, nan}
 use lib.Ieee.Fits.{and-l, and-r}
 use Rattle.numeric.specs.TotalOrder.{totalOrder}
 use Rattle.grouping_sort.specs.Ordered.{insert, ordered}
-use Rattle.grouping_sort.specs.Heap.{swapped, Shuffled, same, more, Two}
-use Rattle.grouping_sort.specs.Sort.{neighbours, rising}
+use Rattle.grouping_sort.specs.passes.Heap.{swapped, Shuffled, same, more, Two}
+use Rattle.grouping_sort.specs.passes.Sort.{neighbours, rising}
 use Rattle.grouping_sort.proofs.InsertLaws.{rank-le, insert-here, Numbers, none, also}
 use Rattle.grouping_sort.proofs.ShuffleLaws.{length-shuffled, numbers-shuffled, ordered-shuffled}
 

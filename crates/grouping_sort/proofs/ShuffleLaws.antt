@@ -11,7 +11,7 @@ use lib.Seq.{lt-length-set, getD-set-same, getD-set-other}
 use lib.Ieee.{Float, nan}
 use Rattle.numeric.specs.TotalOrder.{totalOrder}
 use Rattle.grouping_sort.specs.Ordered.{ordered}
-use Rattle.grouping_sort.specs.Heap.{swapped, Shuffled, same, more}
+use Rattle.grouping_sort.specs.passes.Heap.{swapped, Shuffled, same, more}
 use Rattle.grouping_sort.proofs.InsertLaws.{equal, Numbers}
 use Rattle.grouping_sort.proofs.OrderedLaws.{numbers-swapped, ordered-swapped}
 

@@ -7,7 +7,7 @@ use native.Mathlib.Omega.{arith}
 use lib.ListN.{length, getD}
 use lib.Ieee.{Float, nan}
 use Rattle.grouping_sort.specs.Ordered.{ordered}
-use Rattle.grouping_sort.specs.Heap.{Before, swapped, Shuffled, same, more, Heap, Two, Sinkable, Sunk, Heaped}
+use Rattle.grouping_sort.specs.passes.Heap.{Before, swapped, Shuffled, same, more, Heap, Two, Sinkable, Sunk, Heaped}
 use Rattle.grouping_sort.proofs.InsertLaws.{either, equal, Numbers}
 use Rattle.grouping_sort.proofs.OrderedLaws.{all-finite, numbers-swapped, ordered-same}
 use Rattle.grouping_sort.proofs.ShuffleLaws.{before-by, length-swapped, swapped-second, swapped-other}

@@ -1,9 +1,9 @@
 // Sorting by the total order, in linear time where the values rise or fall already.
 ghost use mathlib.Core.Path.{_≡_};
 ghost use lib.ListN.{length};
-ghost use Rattle.grouping_sort.specs.Heap.{Shuffled};
+ghost use Rattle.grouping_sort.specs.passes.Heap.{Shuffled};
 ghost use Rattle.grouping_sort.specs.Ordered.{ordered, AllFinite};
-ghost use Rattle.grouping_sort.specs.Sort.{rising, falling};
+ghost use Rattle.grouping_sort.specs.passes.Sort.{rising, falling};
 use crate::heap::heap_sort;
 use crate::heap::swap;
 use numeric::order::total_order;

@@ -5,7 +5,7 @@ use mathlib.Core.Path.{refl, sym, ap, _∙_}
 use lib.ListN.{length}
 use borrow.Author.Needs.{needs}
 use mathlib.Core.Bool.{not}
-use Rattle.grouping_sort.specs.Sort.{behind, falling}
+use Rattle.grouping_sort.specs.passes.Sort.{behind, falling}
 use Rattle.grouping_sort.proofs.RunLaws.{Testing, testing-fails, testing-turn, testing-end}
 use Rattle.grouping_sort.proofs.is_falling.Statement.{statement}
 use Rattle.grouping_sort.proofs.is_falling.Tie as tie

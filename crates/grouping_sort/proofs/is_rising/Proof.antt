@@ -6,7 +6,7 @@ use lib.ListN.{length}
 use borrow.Author.Needs.{needs}
 use borrow.Author.Tests.{not-true, not-false}
 use Rattle.numeric.specs.TotalOrder.{totalOrder}
-use Rattle.grouping_sort.specs.Sort.{rising}
+use Rattle.grouping_sort.specs.passes.Sort.{rising}
 use Rattle.grouping_sort.proofs.RunLaws.{Testing, testing-fails, testing-turn, testing-end}
 use Rattle.grouping_sort.proofs.is_rising.Statement.{statement}
 use Rattle.grouping_sort.proofs.is_rising.Tie as tie

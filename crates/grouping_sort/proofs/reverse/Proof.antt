@@ -2,7 +2,7 @@
 use Prim.Native.Nat.{_-_}
 use native.Mathlib.Omega.{arith}
 use mathlib.Core.Path.{refl}
-use Rattle.grouping_sort.specs.Heap.{same}
+use Rattle.grouping_sort.specs.passes.Heap.{same}
 use Rattle.grouping_sort.proofs.RunLaws.{Turning, turning-two, turning-turn, turning-long, turning-end}
 use Rattle.grouping_sort.proofs.reverse.Statement.{statement}
 use Rattle.grouping_sort.proofs.reverse.Tie as tie
