@@ -11,7 +11,7 @@ use lib.Seq.{drop-cons, getD-drop}
 use lib.Ieee.{Float, nan}
 use Rattle.grouping_marks.specs.Marks.{groupNumbers}
 use Rattle.grouping_marks.proofs.NumberLaws.{number-opens, numbers-rise, numbers-shift}
-use Rattle.grouping_interval.specs.IntervalGrouping.{rises, marksAfter, intervalMarks}
+use Rattle.grouping_interval.specs.IntervalGrouping.{isRise, marksAfter, intervalMarks}
 use Rattle.grouping_interval.proofs.IntervalLaws.{marks-rise, marks-neither, length-marks}
 use Rattle.grouping_chart.specs.Notes.{noteDeltas}
 use Rattle.agreement.specs.CommonTail.{Counterparts, lastOf, CommonTail}
@@ -127,7 +127,7 @@ opens-by-mark margin deltas p l e = record {
 }
 
 pub landmark-opens : (margin : Float) (deltas : List Float) (t i : ℕ) → RhythmLandmark margin deltas t i → OpensAt margin deltas i ⊎ OpensAt margin deltas (i + 1)
-landmark-opens margin deltas t i m = by (rises margin (getD deltas i nan) (getD deltas (i + 1) nan)) refl
+landmark-opens margin deltas t i m = by (isRise margin (getD deltas i nan) (getD deltas (i + 1) nan)) refl
   where
     v : Float
     v = getD deltas i nan
@@ -149,7 +149,7 @@ landmark-opens margin deltas t i m = by (rises margin (getD deltas i nan) (getD 
     mark : (k : ℕ) (ms : List ℕ) → drop i (intervalMarks margin deltas) ≡ ms → getD (intervalMarks margin deltas) (i + k) 0 ≡ getD ms k 0
     mark k ms e = sym (getD-drop i (intervalMarks margin deltas) k 0) ∙ ap (λ (l : List ℕ). getD l k 0) e
 
-    by : (b : Bool) → rises margin v w ≡ b → OpensAt margin deltas i ⊎ OpensAt margin deltas (i + 1)
+    by : (b : Bool) → isRise margin v w ≡ b → OpensAt margin deltas i ⊎ OpensAt margin deltas (i + 1)
     by true r =
         inr (subst (OpensAt margin deltas) (sym (add-one i))
         (opens-by-mark margin deltas i (omega (arith, m .next-there))

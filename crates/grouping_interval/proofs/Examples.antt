@@ -6,7 +6,7 @@ use Prim.Native.Nat.{ℕ}
 use lib.IntN.{pos}
 use lib.Ieee.{Float, fin, binary64, round, add, sub, le, lt, ofInt, ofBits}
 use Rattle.numeric.specs.Near.{absOf, isNear}
-use Rattle.grouping_interval.specs.IntervalGrouping.{rises, marksAfter, intervalMarks}
+use Rattle.grouping_interval.specs.IntervalGrouping.{isRise, marksAfter, intervalMarks}
 
 -- 5.0
 margin : Float
@@ -46,5 +46,5 @@ examples =
 
 -- every list comes out as it says
 examples-right : map (λ (e : Example). intervalMarks margin (e .deltas)) examples ≡ map (λ (e : Example). e .marks) examples
-unfolding examples margin whole intervalMarks marksAfter rises isNear absOf add sub le lt ofInt ofBits round
+unfolding examples margin whole intervalMarks marksAfter isRise isNear absOf add sub le lt ofInt ofBits round
 examples-right = refl

@@ -9,7 +9,7 @@ use lib.Seq.{drop-cons, length-take-le}
 use lib.Ieee.{Float, nan}
 use borrow.Author.Tests.{lt-ltb}
 use Rattle.numeric.specs.Near.{isNear}
-use Rattle.grouping_interval.specs.IntervalGrouping.{rises, marksAfter, intervalMarks}
+use Rattle.grouping_interval.specs.IntervalGrouping.{isRise, marksAfter, intervalMarks}
 use Rattle.grouping_interval.proofs.IntervalLaws.{marks-near}
 
 pick : (n r : Bool) (k : ℕ) (a b c z : List ℕ) → drop k a ≡ z → drop k b ≡ z → drop k c ≡ z → drop k (cond n a (cond r b c)) ≡ z
@@ -22,11 +22,11 @@ after-sync : (margin last u v w : Float) (xs rest : List Float) → isNear margi
 unfolding marksAfter
 after-sync margin last u v w [] rest e = ap (drop 1) (marks-near margin true last u v (w ∷ rest) e)
 after-sync margin last u v w (x ∷ []) rest e =
-    pick (isNear margin x u) (rises margin x u) 2 (0 ∷ marksAfter margin true x (u ∷ v ∷ w ∷ rest)) (0 ∷ 1 ∷ marksAfter margin true u (v ∷ w ∷ rest))
+    pick (isNear margin x u) (isRise margin x u) 2 (0 ∷ marksAfter margin true x (u ∷ v ∷ w ∷ rest)) (0 ∷ 1 ∷ marksAfter margin true u (v ∷ w ∷ rest))
     (1 ∷ marksAfter margin true x (u ∷ v ∷ w ∷ rest)) (marksAfter margin true u (v ∷ w ∷ rest))
     (after-sync margin x u v w [] rest e) refl (after-sync margin x u v w [] rest e)
 after-sync margin last u v w (x ∷ y ∷ xs) rest e =
-    pick (isNear margin x y) (rises margin x y) (suc (suc (suc (length xs)))) (0 ∷ marksAfter margin true x (y ∷ xs ++ u ∷ v ∷ w ∷ rest))
+    pick (isNear margin x y) (isRise margin x y) (suc (suc (suc (length xs)))) (0 ∷ marksAfter margin true x (y ∷ xs ++ u ∷ v ∷ w ∷ rest))
     (0 ∷ 1 ∷ marksAfter margin true y (xs ++ u ∷ v ∷ w ∷ rest)) (1 ∷ marksAfter margin true x (y ∷ xs ++ u ∷ v ∷ w ∷ rest)) (marksAfter margin true u (v ∷ w ∷ rest))
     (after-sync margin x u v w (y ∷ xs) rest e) (after-sync margin y u v w xs rest e) (after-sync margin x u v w (y ∷ xs) rest e)
 

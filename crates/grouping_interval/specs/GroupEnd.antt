@@ -8,14 +8,14 @@ use lib.Dec.{ltb}
 use lib.ListN.{length, drop, getD}
 use lib.Ieee.{Float, nan}
 use Rattle.numeric.specs.Near.{isNear}
-use Rattle.grouping_interval.specs.IntervalGrouping.{rises, marksAfter}
+use Rattle.grouping_interval.specs.IntervalGrouping.{isRise, marksAfter}
 
 -- how many more values a group takes of those behind `last`, which it took. `many` says that there are more than two values in all.
 unfoldable pub grow : Float → Bool → Float → List Float → ℕ
-unfolding rises
+unfolding isRise
 grow margin many last [] = 0
 grow margin many last (v ∷ []) = cond (many && isNear margin v last) 1 0
-grow margin many last (v ∷ w ∷ rest) = cond (isNear margin v w) (suc (grow margin many v (w ∷ rest))) (cond (rises margin v w) 1 0)
+grow margin many last (v ∷ w ∷ rest) = cond (isNear margin v w) (suc (grow margin many v (w ∷ rest))) (cond (isRise margin v w) 1 0)
 
 -- the position after the group that took the value just before position i
 unfoldable pub endAfter : Float → List Float → ℕ → ℕ

@@ -10,8 +10,8 @@ use lib.Ieee.{Float, binary64, add, lt}
 use Rattle.numeric.specs.Near.{isNear}
 
 -- "value(i + 1) > value(i) + 5.0"
-unfoldable pub rises : Float → Float → Float → Bool
-rises margin v w = lt (add binary64 v margin) w
+unfoldable pub isRise : Float → Float → Float → Bool
+isRise margin v w = lt (add binary64 v margin) w
 
 -- the marks of the values behind one that a group took, which is `last`: 1 opens a group, 0 continues it. `many` says that there are more than two values in all.
 unfoldable pub marksAfter : Float → Bool → Float → List Float → List ℕ
@@ -19,7 +19,7 @@ marksAfter margin many last [] = []
 marksAfter margin many last (v ∷ []) = cond (many && isNear margin v last) 0 1 ∷ []
 marksAfter margin many last (v ∷ w ∷ rest) =
     cond (isNear margin v w) (0 ∷ marksAfter margin many v (w ∷ rest))
-    (cond (rises margin v w) (0 ∷ 1 ∷ marksAfter margin many w rest) (1 ∷ marksAfter margin many v (w ∷ rest)))
+    (cond (isRise margin v w) (0 ∷ 1 ∷ marksAfter margin many w rest) (1 ∷ marksAfter margin many v (w ∷ rest)))
 
 -- which values open a group
 unfoldable pub intervalMarks : Float → List Float → List ℕ

@@ -18,7 +18,7 @@ use Rattle.grouping_marks.proofs.NumberLaws.{countFrom, count-all, count-over, 
 use Rattle.grouping_chart.specs.Object.{isNote}
 use Rattle.grouping_chart.specs.Notes.{noteDeltas}
 use Rattle.grouping_chart.proofs.NoteLaws.{deltas-at, deltas-over}
-use Rattle.grouping_interval.specs.IntervalGrouping.{rises, marksAfter, intervalMarks}
+use Rattle.grouping_interval.specs.IntervalGrouping.{isRise, marksAfter, intervalMarks}
 use Rattle.grouping_interval.proofs.IntervalLaws.{marks-near, marks-rise, marks-neither, marks-one, marks-none, marks-first, length-marks}
 use Rattle.grouping_interval.proofs.GroupLaws.{marks-all}
 use Rattle.grouping_notes.specs.declared.Counting.{Counting}
@@ -41,12 +41,12 @@ module _ (margin : Float) (c : Counting) (d : Float) where
     unfolding counted
     counted-near p e = rw (ne-eqb _ _ n, p, e)
 
-    pub counted-rise : c .pending ≡ true → isNear margin (c .next) d ≡ false → rises margin (c .next) d ≡ true
+    pub counted-rise : c .pending ≡ true → isNear margin (c .next) d ≡ false → isRise margin (c .next) d ≡ true
         → record { notes = c .notes + 1; groups = c .groups + 1; last = d; next = d; pending = false } ≡ counted margin c d
     unfolding counted
     counted-rise p e r = rw (ne-eqb _ _ n, p, e, r)
 
-    pub counted-neither : c .pending ≡ true → isNear margin (c .next) d ≡ false → rises margin (c .next) d ≡ false
+    pub counted-neither : c .pending ≡ true → isNear margin (c .next) d ≡ false → isRise margin (c .next) d ≡ false
         → record { notes = c .notes + 1; groups = c .groups + 1; last = c .next; next = d; pending = true } ≡ counted margin c d
     unfolding counted
     counted-neither p e r = rw (ne-eqb _ _ n, p, e, r)
@@ -112,7 +112,7 @@ module _ (margin : Float) (c : Counting) (d : Float) (ds : List Float) (h : Begu
       ∙ sym k
       ∙ ap (λ (n : ℕ). countFrom (c .groups) (marksAfter margin (ltb 2 n) (c .last) (cond (c .pending) (c .next ∷ d ∷ ds) (d ∷ ds)))) n
 
-  meets-more : (p n r : Bool) → c .pending ≡ p → isNear margin (c .next) d ≡ n → rises margin (c .next) d ≡ r → Meets margin c (d ∷ ds)
+  meets-more : (p n r : Bool) → c .pending ≡ p → isNear margin (c .next) d ≡ n → isRise margin (c .next) d ≡ r → Meets margin c (d ∷ ds)
   unfolding many
   meets-more false n r p e f =
       meets-on _ (counted-next margin c d (h .some-notes) p) (record { some-notes = λ z. omega arith; some-groups = h .some-groups }) (rw p)
@@ -128,7 +128,7 @@ module _ (margin : Float) (c : Counting) (d : Float) (ds : List Float) (h : Begu
 
 meets : (margin : Float) (c : Counting) (ds : List Float) → Begun c → Meets margin c ds
 meets margin c [] h = meets-none margin c h
-meets margin c (d ∷ ds) h = meets-more margin c d ds h (λ c′ b. meets margin c′ ds b) (c .pending) (isNear margin (c .next) d) (rises margin (c .next) d) refl refl refl
+meets margin c (d ∷ ds) h = meets-more margin c d ds h (λ c′ b. meets margin c′ ds b) (c .pending) (isNear margin (c .next) d) (isRise margin (c .next) d) refl refl refl
 
 -- all the notes, counted from none
 pub counted-all : (margin : Float) (ds : List Float) → groupsCounted margin (after (counted margin) counting₀ ds) ≡ groupCount (intervalMarks margin ds)
@@ -149,9 +149,9 @@ counted-all margin (d ∷ ds) =
 counted-grows : (margin : Float) (c : Counting) (d : Float) → c .groups ≤ c .notes
     → (counted margin c d .notes ≤ c .notes + 1) × (counted margin c d .groups ≤ counted margin c d .notes)
 unfolding counted
-counted-grows margin c d h = by (eqb (c .notes) 0) (c .pending) (isNear margin (c .next) d) (rises margin (c .next) d) refl refl refl refl
+counted-grows margin c d h = by (eqb (c .notes) 0) (c .pending) (isNear margin (c .next) d) (isRise margin (c .next) d) refl refl refl refl
   where
-    by : (z p n r : Bool) → eqb (c .notes) 0 ≡ z → c .pending ≡ p → isNear margin (c .next) d ≡ n → rises margin (c .next) d ≡ r
+    by : (z p n r : Bool) → eqb (c .notes) 0 ≡ z → c .pending ≡ p → isNear margin (c .next) d ≡ n → isRise margin (c .next) d ≡ r
         → (counted margin c d .notes ≤ c .notes + 1) × (counted margin c d .groups ≤ counted margin c d .notes)
     by true p n r a b e f = rw a (omega arith)
     by false false n r a b e f = rw (a, b) (omega arith)

@@ -6,7 +6,7 @@ use lib.Dec.{eqb, ltb}
 use lib.Ieee.{Float}
 use Rattle.numeric.specs.Constants.{zero}
 use Rattle.numeric.specs.Near.{isNear}
-use Rattle.grouping_interval.specs.IntervalGrouping.{rises}
+use Rattle.grouping_interval.specs.IntervalGrouping.{isRise}
 use Rattle.grouping_notes.specs.declared.Counting.{Counting}
 
 -- no note yet
@@ -19,7 +19,7 @@ counted margin c d =
     cond (eqb (c .notes) 0) (record { notes = 1; groups = 1; last = d; next = d; pending = false })
     (cond (c .pending)
     (cond (isNear margin (c .next) d) (record { notes = c .notes + 1; groups = c .groups; last = c .next; next = d; pending = true })
-    (cond (rises margin (c .next) d) (record { notes = c .notes + 1; groups = c .groups + 1; last = d; next = d; pending = false })
+    (cond (isRise margin (c .next) d) (record { notes = c .notes + 1; groups = c .groups + 1; last = d; next = d; pending = false })
     (record { notes = c .notes + 1; groups = c .groups + 1; last = c .next; next = d; pending = true })))
     (record { notes = c .notes + 1; groups = c .groups; last = c .last; next = d; pending = true }))
 

@@ -14,6 +14,6 @@ pub record Places (values : List Float) (group : List ℕ) : Type 0 where
   pub room : length values ≤ length group
 
 -- each value's group number is over the front of what was `old` and is now `new`, and r is how many groups there are
-pub record Grouped (margin : Float) (values : List Float) (old new : List ℕ) (r : ℕ) : Type 0 where
+pub record GroupedByInterval (margin : Float) (values : List Float) (old new : List ℕ) (r : ℕ) : Type 0 where
   pub numbers : new ≡ over (groupNumbers (intervalMarks margin values)) old
   pub count : r ≡ groupCount (intervalMarks margin values)
