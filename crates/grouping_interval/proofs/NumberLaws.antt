@@ -17,9 +17,13 @@ use Rattle.grouping_interval.proofs.GroupLaws.{marks-all, marks-at, end
 -- the numbers from `at` on, where `number` groups end before it
 pub record Numbering (margin : Float) (values : List Float) (number at : ℕ) : Type 0 where
   pub left : drop at (groupNumbers (intervalMarks margin values)) ≡ numbersFrom number (marksFrom margin (ltb 2 (length values)) (drop at values))
+  pub few : number ≤ at
 
 pub numbering-start : (margin : Float) (values : List Float) → Numbering margin values 0 0
-numbering-start margin values = record { left = numbers-all (intervalMarks margin values) ∙ ap (numbersFrom 0) (marks-all margin values) }
+numbering-start margin values = record {
+  left = numbers-all (intervalMarks margin values) ∙ ap (numbersFrom 0) (marks-all margin values);
+  few = omega arith;
+}
 
 module _ {margin : Float} {values : List Float} {number at : ℕ} (x : Numbering margin values number at) (h : at < length values)
     (end : ℕ) (e : end ≡ groupEnd margin values at) where
@@ -50,6 +54,7 @@ module _ {margin : Float} {values : List Float} {number at : ℕ} (x : Numbering
             ∙ sym (drop-drop (end - at) at numbers)
             ∙ ap (drop (end - at)) here-on
             ∙ drop-at (replicate (end - at) number) behind (end - at) (length-replicate (end - at) number);
+        few = omega (arith, x .few);
       }
 
   pub numbering-here : (g : ℕ) → at ≤ g → g < end → getD (groupNumbers (intervalMarks margin values)) g 0 ≡ number

@@ -7,12 +7,12 @@ use lib.Ieee.{Float, nan, inf, binary64, sub}
 use Rattle.numeric.specs.Constants.{zero}
 use Rattle.numeric.specs.Near.{isNear}
 use Rattle.grouping_marks.specs.Parted.{parted}
-use Rattle.grouping_chart.specs.Notes.{noteObjects, noteDeltas}
+use Rattle.grouping_interval.specs.Notes.{noteObjects, ofNotes}
 use Rattle.grouping_interval.specs.IntervalGrouping.{intervalMarks}
 
 -- which notes open a rhythm group
 unfoldable pub rhythmMarks : Float → List ℕ → List Float → List ℕ
-rhythmMarks margin kinds deltas = intervalMarks margin (noteDeltas kinds deltas)
+rhythmMarks margin kinds deltas = intervalMarks margin (ofNotes kinds deltas)
 
 -- the objects of each group
 unfoldable pub groupObjects : Float → List ℕ → List Float → List (List ℕ)
@@ -20,7 +20,7 @@ groupObjects margin kinds deltas = parted (rhythmMarks margin kinds deltas) (not
 
 -- and their deltas
 unfoldable pub groupDeltas : Float → List ℕ → List Float → List (List Float)
-groupDeltas margin kinds deltas = parted (rhythmMarks margin kinds deltas) (noteDeltas kinds deltas)
+groupDeltas margin kinds deltas = parted (rhythmMarks margin kinds deltas) (ofNotes kinds deltas)
 
 -- what stands first in each group
 unfoldable pub firstsOf : List (List ℕ) → List ℕ

@@ -2,9 +2,9 @@
 use native.Mathlib.Omega.{arith}
 use borrow.Author.Needs.{needs}
 use mathlib.Core.Path.{sym, _∙_}
-use Rattle.grouping_notes.proofs.CountLaws.{counted-first, counted-next, counted-near}
-use Rattle.grouping_notes.proofs.count_note.Statement.{statement}
-use Rattle.grouping_notes.proofs.count_note.Tie as tie
+use Rattle.grouping_interval.proofs.CountLaws.{counted-first, counted-next, counted-near}
+use Rattle.grouping_interval.proofs.notes.count_note.Statement.{statement}
+use Rattle.grouping_interval.proofs.notes.count_note.Tie as tie
 
 returns : tie.Need-returns
 returns c = counted-first _ _ _ (c .if1 .taken)

@@ -1,10 +1,10 @@
 -- Each arm is the case of `counted` that its test names.
 use mathlib.Core.Path.{_∙_}
 use native.Mathlib.Omega.{arith}
 use Rattle.grouping_interval.proofs.IntervalLaws.{isRise-by}
-use Rattle.grouping_notes.proofs.CountLaws.{counted-rise, counted-neither}
-use Rattle.grouping_notes.proofs.count_change.Statement.{statement}
-use Rattle.grouping_notes.proofs.count_change.Tie as tie
+use Rattle.grouping_interval.proofs.CountLaws.{counted-rise, counted-neither}
+use Rattle.grouping_interval.proofs.notes.count_change.Statement.{statement}
+use Rattle.grouping_interval.proofs.notes.count_change.Tie as tie
 
 returns : tie.Need-returns
 returns c =

@@ -16,13 +16,13 @@ use Rattle.grouping_marks.proofs.WalkLaws.{after-none, after-first}
 use Rattle.grouping_marks.proofs.MarksLaws.{count-none}
 use Rattle.grouping_marks.proofs.NumberLaws.{countFrom, count-all, count-over, count-same, count-new}
 use Rattle.grouping_chart.specs.Object.{isNote}
-use Rattle.grouping_chart.specs.Notes.{noteDeltas}
-use Rattle.grouping_chart.proofs.NoteLaws.{deltas-at, deltas-over}
+use Rattle.grouping_interval.specs.Notes.{ofNotes}
+use Rattle.grouping_interval.proofs.NoteLaws.{of-notes-step, of-notes-over}
 use Rattle.grouping_interval.specs.IntervalGrouping.{isRise, marksAfter, intervalMarks}
 use Rattle.grouping_interval.proofs.IntervalLaws.{marks-near, marks-rise, marks-neither, marks-one, marks-none, marks-first, length-marks}
 use Rattle.grouping_interval.proofs.GroupLaws.{marks-all}
-use Rattle.grouping_notes.specs.declared.Counting.{Counting}
-use Rattle.grouping_notes.specs.Counting.{counting₀, counted, groupsCounted}
+use Rattle.grouping_interval.specs.declared.notes.Counting.{Counting}
+use Rattle.grouping_interval.specs.passes.Counting.{counting₀, counted, groupsCounted}
 
 -- ---- the cases of a further note
 
@@ -162,7 +162,7 @@ counted-grows margin c d h = by (eqb (c .notes) 0) (c .pending) (isNear margin (
 -- the notes left, counted on from c, give what all of them give
 pub record Counts (margin : Float) (ks : List ℕ) (ds : List Float) (c : Counting) (i : ℕ) : Type 0 where
   pub whole : length ds ≡ length ks
-  pub left : after (counted margin) c (noteDeltas (drop i ks) (drop i ds)) ≡ after (counted margin) counting₀ (noteDeltas ks ds)
+  pub left : after (counted margin) c (ofNotes (drop i ks) (drop i ds)) ≡ after (counted margin) counting₀ (ofNotes ks ds)
   pub groups-le : c .groups ≤ c .notes
   pub notes-le : c .notes ≤ i
   pub upto : i ≤ length ks
@@ -177,7 +177,7 @@ module _ {margin : Float} {ks : List ℕ} {ds : List Float} {c : Counting} {i : 
       let g : (r .notes ≤ c .notes + 1) × (r .groups ≤ r .notes) = rw e (counted-grows margin c (getD ds i nan) (x .groups-le)) in
       record {
         whole = x .whole;
-        left = rw e (sym (ap (after (counted margin) c) (deltas-at ks i true ds h (x .whole) n) ∙ after-first (counted margin) c (getD ds i nan) _) ∙ x .left);
+        left = rw e (sym (ap (after (counted margin) c) (of-notes-step ks i true ds h (x .whole) n) ∙ after-first (counted margin) c (getD ds i nan) _) ∙ x .left);
         groups-le = omega (arith, g);
         notes-le = omega (arith, g, x .notes-le);
         upto = omega arith;
@@ -186,13 +186,13 @@ module _ {margin : Float} {ks : List ℕ} {ds : List Float} {c : Counting} {i : 
   pub counts-pass : i < length ks → isNote (getD ks i 0) ≡ false → Counts margin ks ds c (i + 1)
   counts-pass h n = record {
     whole = x .whole;
-    left = sym (ap (after (counted margin) c) (deltas-at ks i false ds h (x .whole) n)) ∙ x .left;
+    left = sym (ap (after (counted margin) c) (of-notes-step ks i false ds h (x .whole) n)) ∙ x .left;
     groups-le = x .groups-le;
     notes-le = omega (arith, x .notes-le);
     upto = omega arith;
   }
 
-  pub counts-end : length ks ≤ i → groupsCounted margin c ≡ groupCount (intervalMarks margin (noteDeltas ks ds))
+  pub counts-end : length ks ≤ i → groupsCounted margin c ≡ groupCount (intervalMarks margin (ofNotes ks ds))
   counts-end h =
-      let e : c ≡ after (counted margin) counting₀ (noteDeltas ks ds) = sym (ap (after (counted margin) c) (deltas-over ks i ds h) ∙ after-none (counted margin) c) ∙ x .left in
-      ap (groupsCounted margin) e ∙ counted-all margin (noteDeltas ks ds)
+      let e : c ≡ after (counted margin) counting₀ (ofNotes ks ds) = sym (ap (after (counted margin) c) (of-notes-over ks i ds h) ∙ after-none (counted margin) c) ∙ x .left in
+      ap (groupsCounted margin) e ∙ counted-all margin (ofNotes ks ds)

@@ -6,8 +6,8 @@ use lib.Dec.{eqb, ltb}
 use lib.Ieee.{Float}
 use Rattle.numeric.specs.Constants.{zero}
 use Rattle.numeric.specs.Near.{isNear}
 use Rattle.grouping_interval.specs.IntervalGrouping.{isRise}
-use Rattle.grouping_notes.specs.declared.Counting.{Counting}
+use Rattle.grouping_interval.specs.declared.notes.Counting.{Counting}
 
 -- no note yet
 unfoldable pub counting₀ : Counting

@@ -5,10 +5,10 @@ use Prim.Native.Nat.{_-_}
 use mathlib.Core.Path.{sym, _∙_}
 use lib.ListN.{length}
 use lib.Ieee.{ofBits}
-use Rattle.grouping_notes.specs.Counting.{counting₀}
-use Rattle.grouping_notes.proofs.CountLaws.{Counts, counts-start, counts-note, counts-pass, counts-end}
-use Rattle.grouping_notes.proofs.count_groups.Statement.{statement}
-use Rattle.grouping_notes.proofs.count_groups.Tie as tie
+use Rattle.grouping_interval.specs.passes.Counting.{counting₀}
+use Rattle.grouping_interval.proofs.CountLaws.{Counts, counts-start, counts-note, counts-pass, counts-end}
+use Rattle.grouping_interval.proofs.notes.count_groups.Statement.{statement}
+use Rattle.grouping_interval.proofs.notes.count_groups.Tie as tie
 
 abbrev Inv-loop : tie.InvT-loop
 Inv-loop kind delta margin c₀ i₀ c i = Counts margin kind delta c i

@@ -4,9 +4,9 @@ use borrow.Author.Needs.{needs}
 use Prim.Native.Nat.{_-_}
 use mathlib.Core.Path.{sym, _∙_}
 use lib.ListN.{length}
-use Rattle.grouping_notes.proofs.ListLaws.{Listing, listing-start, listing-note, listing-pass, listing-end}
-use Rattle.grouping_notes.proofs.list_notes.Statement.{statement}
-use Rattle.grouping_notes.proofs.list_notes.Tie as tie
+use Rattle.grouping_interval.proofs.ListLaws.{Listing, listing-start, listing-note, listing-pass, listing-end}
+use Rattle.grouping_interval.proofs.notes.list_notes.Statement.{statement}
+use Rattle.grouping_interval.proofs.notes.list_notes.Tie as tie
 
 abbrev Inv-loop : tie.InvT-loop
 Inv-loop kind delta objects₀ values₀ j₀ i₀ objects values j i = Listing kind delta objects₀ objects values₀ values j i

@@ -2,10 +2,10 @@
 ghost use mathlib.Core.Path.{_≡_};
 ghost use lib.ListN.{length};
 ghost use Rattle.grouping_marks.specs.Marks.{groupCount};
-ghost use Rattle.grouping_chart.specs.Notes.{noteDeltas};
+ghost use Rattle.grouping_interval.specs.Notes.{ofNotes};
 ghost use Rattle.grouping_interval.specs.IntervalGrouping.{intervalMarks};
-ghost use Rattle.grouping_notes.specs.Notes.{NotesRoom, NotesListed};
-ghost use Rattle.grouping_notes.specs.Counting.{SumsFit, Change, counted, groupsCounted};
+ghost use Rattle.grouping_interval.specs.Notes.{NotesRoom, NotesListed};
+ghost use Rattle.grouping_interval.specs.passes.Counting.{SumsFit, Change, counted, groupsCounted};
 use grouping_chart::object::is_note;
 use numeric::near::near;
 
@@ -117,7 +117,7 @@ fn groups_counted(c: Counting, margin: f64) -> usize
 // How many rhythm groups a chart's notes make. Nothing is written.
 pub fn count_groups(kind: &[u8], delta: &[f64], margin: f64) -> usize
     requires { ⌜ length (now delta) ≡ length (now kind) ⌝ }
-    ensures { λ r. ⌜ r ≡ groupCount (intervalMarks margin (noteDeltas (now (kind .entry)) (now (delta .entry)))) ⌝ }
+    ensures { λ r. ⌜ r ≡ groupCount (intervalMarks margin (ofNotes (now (kind .entry)) (now (delta .entry)))) ⌝ }
 {
     let mut c = Counting {
         notes: 0,

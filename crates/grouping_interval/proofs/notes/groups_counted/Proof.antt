@@ -3,9 +3,9 @@ use native.Mathlib.Omega.{arith}
 use borrow.Author.Needs.{needs}
 use mathlib.Core.Path.{sym, _∙_}
 use mathlib.Core.Bool.{true, false}
-use Rattle.grouping_notes.proofs.CountLaws.{ended-open, ended-few, ended-many}
-use Rattle.grouping_notes.proofs.groups_counted.Statement.{statement}
-use Rattle.grouping_notes.proofs.groups_counted.Tie as tie
+use Rattle.grouping_interval.proofs.CountLaws.{ended-open, ended-few, ended-many}
+use Rattle.grouping_interval.proofs.notes.groups_counted.Statement.{statement}
+use Rattle.grouping_interval.proofs.notes.groups_counted.Tie as tie
 
 returns : tie.Need-returns
 returns c = ended-few _ _ (c .before .before .before .if1 .taken) (c .before .if2 .taken)
