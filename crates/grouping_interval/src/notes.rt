@@ -6,28 +6,33 @@ ghost use Rattle.grouping_interval.specs.Notes.{ofNotes};
 ghost use Rattle.grouping_interval.specs.IntervalGrouping.{intervalMarks};
 ghost use Rattle.grouping_interval.specs.Notes.{NotesRoom, NotesListed};
 ghost use Rattle.grouping_interval.specs.passes.Counting.{SumsFit, Change, counted, groupsCounted};
+use grouping_chart::object::NoteIndex;
+use grouping_chart::object::ObjectIndex;
 use grouping_chart::object::is_note;
 use numeric::near::near;
 
 // Puts each note's object number and delta in front. The result is how many notes there are.
 pub fn list_notes(kind: &[u8], delta: &[f64], objects: &mut [u16], values: &mut [f64]) -> usize
     requires { ⌜ NotesRoom (now kind) (now delta) (now objects) (now values) ⌝ }
-    ensures { λ r. ⌜ NotesListed (now (kind .entry)) (now (delta .entry)) (now (objects .entry)) (now (objects .exit)) (now (values .entry)) (now (values .exit)) r ⌝ }
+    ensures { λ r. ⌜ NotesListed (now (kind .entry)) (now (delta .entry))
+        (now (objects .entry)) (now (objects .exit)) (now (values .entry)) (now (values .exit)) r ⌝ }
 {
-    let mut j = 0;
-    let mut i = 0;
-    while i < kind.len() {
+    let mut note = NoteIndex(0);
+    let mut object = ObjectIndex(0);
+    while object.0 < kind.len() {
+        let i = object.0;
         let k = kind[i];
         if is_note(k) {
+            let j = note.0;
             objects[j] = i as u16;
             values[j] = delta[i];
-            j += 1;
-            i += 1;
+            note = NoteIndex(j + 1);
+            object = ObjectIndex(i + 1);
         } else {
-            i += 1;
+            object = ObjectIndex(i + 1);
         }
     }
-    j
+    note.0
 }
 
 // The groups of the notes seen so far. While `pending`, it is not known yet whether the last note, of delta `next`, is taken by the group that took `last`.
