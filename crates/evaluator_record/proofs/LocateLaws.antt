@@ -20,7 +20,9 @@ use Rattle.grouping_interval.specs.IntervalGrouping.{intervalMarks}
 use Rattle.grouping_interval.specs.Notes.{NotesListed}
 use Rattle.grouping_same_rhythm.specs.SameRhythm.{groupObjects, groupDeltas, firstsOf}
 use Rattle.grouping_same_rhythm.specs.Own.{ownsOf}
-use Rattle.grouping_same_rhythm.specs.Passes.{GroupThere, ReachedIs, FirstsRoom, FirstsListed, settledUpTo, recentOf}
+use Rattle.grouping_same_rhythm.specs.Own.{recentOf}
+use Rattle.grouping_same_rhythm.specs.passes.Groups.{FirstsRoom, FirstsListed}
+use Rattle.grouping_same_rhythm.specs.passes.Owns.{GroupThere, ReachedIs, settledUpTo}
 use Rattle.grouping_same_rhythm.specs.declared.owns.Reached.{Reached}
 use Rattle.grouping_same_rhythm.proofs.MadeLaws.{rhythmMarks-made, groupObjects-made, groupDeltas-made}
 use Rattle.grouping_rhythm.specs.Rhythm.{groupsIn}

@@ -10,7 +10,7 @@ use Rattle.grouping_marks.specs.Over.{over, part, Write, write, written}
 use Rattle.grouping_interval.specs.Notes.{noteObjects, ofNotes}
 use Rattle.grouping_same_rhythm.specs.SameRhythm.{groupObjects, groupDeltas, firstsOf, groupIntervals}
 use Rattle.grouping_same_rhythm.specs.SamePatterns.{patternOf}
-use Rattle.grouping_same_rhythm.specs.Passes.{settledUpTo}
+use Rattle.grouping_same_rhythm.specs.passes.Owns.{settledUpTo}
 use Rattle.grouping_rhythm.specs.Rhythm.{groupsIn}
 use Rattle.evaluator_record.specs.Record.{objectsIn, ownsAt, durationOf, recordOf}
 use Rattle.evaluator_record.specs.declared.GroupRecord.{GroupRecord}

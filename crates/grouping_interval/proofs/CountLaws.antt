@@ -1,4 +1,5 @@
--- Notes counted one by one make as many groups as their marks: the groups so far, with the marks of what is pending and of the deltas left, give the groups of all.
+-- Notes counted one by one make as many groups as their marks: the groups so far, with the marks of what is pending and of the deltas left, give the groups of
+-- all.
 use mathlib.Core.Path.{_≡_, refl, sym, ap, _∙_}
 use mathlib.Core.Bool.{Bool, true, false, cond, _&&_}
 use mathlib.Core.List.{List, [], _∷_}

@@ -22,13 +22,13 @@ record Example : Type 0 where
 
 examples : List Example
 examples =
-    -- "deltas 100 100 100: one group"
+    -- three alike are one group
     record { deltas = whole 100 ∷ whole 100 ∷ whole 100 ∷ []; marks = 1 ∷ 0 ∷ 0 ∷ [] }
-    -- "100 100 200: two then one"
+    -- two alike, and one that differs
     ∷ record { deltas = whole 100 ∷ whole 100 ∷ whole 200 ∷ []; marks = 1 ∷ 0 ∷ 1 ∷ [] }
-    -- "100 200 100: three"
+    -- no two alike: a group each
     ∷ record { deltas = whole 100 ∷ whole 200 ∷ whole 100 ∷ []; marks = 1 ∷ 1 ∷ 1 ∷ [] }
-    -- "two notes, any deltas: two groups"
+    -- two notes are two groups, whatever their deltas
     ∷ record { deltas = whole 100 ∷ whole 100 ∷ []; marks = 1 ∷ 1 ∷ [] }
     ∷ record { deltas = whole 100 ∷ whole 200 ∷ []; marks = 1 ∷ 1 ∷ [] }
     -- one note, and none

@@ -155,7 +155,8 @@ module _ (margin : Float) (values : List Float) (at : ℕ) where
   end-within h =
       omega (arith, grown h, grow-le margin (ltb 2 (length values)) (getD values at nan) (drop (suc at) values), length-drop (suc at) values)
 
-  -- the marks from a group's first value on: 1 and zeros up to the group's end, and the marks from there on, where the next value, if one is left, opens a group
+  -- the marks from a group's first value on: 1 and zeros up to the group's end, and the marks from there on, where the next value, if one is left, opens a
+  -- group
   pub marks-at : at < length values → marksFrom margin (ltb 2 (length values)) (drop at values)
       ≡ 1 ∷ replicate (groupEnd margin values at - at - 1) 0 ++ marksFrom margin (ltb 2 (length values)) (drop (groupEnd margin values at) values)
   unfolding marksFrom

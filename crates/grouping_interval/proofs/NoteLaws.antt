@@ -1,4 +1,5 @@
--- A chart's notes as the numbers of their objects and as their deltas: how many there are, where they stand, and both lists from object i on, one object at a time.
+-- A chart's notes as the numbers of their objects and as their deltas: how many there are, where they stand, and both lists from object i on, one object at a
+-- time.
 use mathlib.Core.Path.{_≡_, refl, ap, _∙_}
 use mathlib.Core.Bool.{Bool, true, false, cond}
 use mathlib.Core.List.{List, [], _∷_, _++_}

@@ -1,4 +1,5 @@
--- Behind two near values, with a third behind them, the walk stands inside a group, whatever came before: so the marks from the second on hang on the values from the first on alone.
+-- Behind two near values, with a third behind them, the walk stands inside a group, whatever came before: so the marks from the second on hang on the values
+-- from the first on alone.
 use mathlib.Core.Path.{_≡_, refl, sym, ap, _∙_}
 use mathlib.Core.Bool.{Bool, true, false, cond}
 use mathlib.Core.List.{List, [], _∷_, _++_}

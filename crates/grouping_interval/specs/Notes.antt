@@ -1,5 +1,5 @@
--- A chart's notes, its hits at the centre and the rim: which objects they are, and what a list with an element for each object has for them
--- (01, object.rs). Then what `list_notes` asks and leaves.
+-- A chart's notes, its hits at the centre and the rim: which objects they are, and what a list with an element for each
+-- object has for them (01, object.rs). Then what `list_notes` asks and leaves.
 use mathlib.Core.Path.{_≡_}
 use Prim.Native.Nat.{ℕ, _+_, _≤_}
 use mathlib.Core.Bool.{cond}
@@ -31,7 +31,8 @@ pub record NotesRoom (kinds : List ℕ) (deltas : List Float) (objects : List �
   pub objects-room : length kinds ≤ length objects
   pub values-room : length kinds ≤ length values
 
--- each note's object over the front of one slice, its delta over the front of another, and r is how many notes there are
+-- each note's object over the front of one slice, its delta over the front of another, and r is how many notes there
+-- are
 pub record NotesListed (kinds : List ℕ) (deltas : List Float) (objects₀ objects : List ℕ)
     (values₀ values : List Float) (r : ℕ) : Type 0 where
   pub numbers : objects ≡ over (noteObjects kinds) objects₀

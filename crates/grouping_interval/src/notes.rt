@@ -35,7 +35,8 @@ pub fn list_notes(kind: &[u8], delta: &[f64], objects: &mut [u16], values: &mut 
     note.0
 }
 
-// The groups of the notes seen so far. While `pending`, it is not known yet whether the last note, of delta `next`, is taken by the group that took `last`.
+// The groups of the notes seen so far. While `pending`, it is not known yet whether the last note, of delta `next`, is
+// taken by the group that took `last`.
 pub struct Counting {
     pub notes: usize,
     pub groups: usize,

@@ -1,5 +1,5 @@
--- Distinct values, of an ordered list: lengths, and the loop of `distinct_values`. Its invariant: the first k + 1 places have what is kept of the values before i,
--- places past them are as they were, and what is to come follows from the last value kept and the values from i on.
+-- Distinct values, of an ordered list: lengths, and the loop of `distinct_values`. Its invariant: the first k + 1 places have what is kept of the values before
+-- i, places past them are as they were, and what is to come follows from the last value kept and the values from i on.
 use mathlib.Core.Path.{_≡_, refl, sym, ap, _∙_, subst}
 use mathlib.Core.Bool.{Bool, true, false, cond}
 use mathlib.Core.List.{List, [], _∷_, _++_}

@@ -13,7 +13,7 @@ use borrow.Author.Tests.{eq-eqb, ne-eqb}
 use Rattle.numeric.specs.Near.{isNear}
 use Rattle.numeric.specs.TotalOrder.{totalOrder}
 use Rattle.grouping_normalizer.specs.Normalizer.{alike, holds, middle, middleOf, setsAfter, sets}
-use Rattle.grouping_normalizer.specs.Sets.{running, setEnd, SetEnd}
+use Rattle.grouping_normalizer.specs.passes.Sets.{running, setEnd, SetEnd}
 
 -- ---- cases of the definitions
 

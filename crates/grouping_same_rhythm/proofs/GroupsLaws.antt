@@ -21,7 +21,7 @@ use Rattle.grouping_interval.specs.GroupEnd.{groupEnd, marksFrom}
 use Rattle.grouping_interval.proofs.IntervalLaws.{length-marks}
 use Rattle.grouping_interval.proofs.EndLaws.{end-after, marks-all, parted-end, parted-past}
 use Rattle.grouping_same_rhythm.specs.SameRhythm.{firstsOf, startsOf, between, intervalsAfter, intervalsOf}
-use Rattle.grouping_same_rhythm.specs.Passes.{FirstsRoom, FirstsListed}
+use Rattle.grouping_same_rhythm.specs.passes.Groups.{FirstsRoom, FirstsListed}
 
 -- ---- the intervals
 

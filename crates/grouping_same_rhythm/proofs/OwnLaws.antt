@@ -14,7 +14,7 @@ use Rattle.grouping_normalizer.proofs.DistinctLaws.{few-left}
 use Rattle.grouping_same_rhythm.specs.declared.own.Own.{Own}
 use Rattle.grouping_same_rhythm.specs.declared.own.Own.the-variants.{Absent, Millis}
 use Rattle.grouping_same_rhythm.specs.Own.{modalDelta, snapped, ratioOf}
-use Rattle.grouping_same_rhythm.specs.Passes.{settled, Modal}
+use Rattle.grouping_same_rhythm.specs.passes.Owns.{settled, Modal}
 
 -- ---- found
 

@@ -11,7 +11,7 @@ use Rattle.grouping_same_rhythm.specs.declared.own.Own.{Own}
 use Rattle.grouping_same_rhythm.specs.declared.own.Own.the-variants.{Absent}
 use Rattle.grouping_same_rhythm.specs.declared.owns.Recent.{Recent}
 use Rattle.grouping_same_rhythm.specs.Own.{modalDelta, snapped, ownsAfter, ownsOf}
-use Rattle.grouping_same_rhythm.specs.Passes.{ownBefore, recentOf}
+use Rattle.grouping_same_rhythm.specs.Own.{ownBefore, recentOf}
 
 -- the own intervals of the four groups before group k
 unfoldable pub recentBefore : List Own → ℕ → Recent

@@ -19,7 +19,7 @@ use Rattle.grouping_same_rhythm.specs.declared.own.Own.{Own}
 use Rattle.grouping_same_rhythm.specs.declared.own.Own.the-variants.{Absent}
 use Rattle.grouping_same_rhythm.specs.declared.owns.Recent.{Recent}
 use Rattle.grouping_same_rhythm.specs.Own.{modalDelta, snapped, ownsOf}
-use Rattle.grouping_same_rhythm.specs.Passes.{settled, Modal, settledUpTo, GroupThere, ReachedIs}
+use Rattle.grouping_same_rhythm.specs.passes.Owns.{settled, Modal, settledUpTo, GroupThere, ReachedIs}
 use Rattle.grouping_same_rhythm.proofs.OwnsLaws.{Known, known-start, known-turn, known-end}
 use Rattle.grouping_same_rhythm.proofs.OwnsWalk.{groupsFrom, groups-all, groups-next, as-they-are, Notes, Walk, walk-start, walk-open, walk-turn}
 

@@ -1,4 +1,5 @@
--- Document 01, same_rhythm_hit_object_grouping.rs: the rhythm groups of a chart's notes, and "Interval: start minus previous start, 0.0 if within 5.0, infinity for the first."
+-- The rhythm groups of a chart's notes, by the deltas, and the groups' intervals, by where they start
+-- (01, same_rhythm_hit_object_grouping.rs).
 use Prim.Native.Nat.{ℕ}
 use mathlib.Core.Bool.{false, cond}
 use mathlib.Core.List.{List, [], _∷_, map}
@@ -30,7 +31,7 @@ firstsOf groups = map (λ (group : List ℕ). getD group 0 0) groups
 unfoldable pub startsOf : List Float → List ℕ → List Float
 startsOf starts objects = map (λ (i : ℕ). getD starts i nan) objects
 
--- "start minus previous start, 0.0 if within 5.0"
+-- from one group's start to the next one's, and 0.0 where the two are near
 unfoldable pub between : Float → Float → Float → Float
 between margin previous start = cond (isNear margin start previous) zero (sub binary64 start previous)
 
@@ -39,11 +40,12 @@ unfoldable pub intervalsAfter : Float → Float → List Float → List Float
 intervalsAfter margin previous [] = []
 intervalsAfter margin previous (start ∷ starts) = between margin previous start ∷ intervalsAfter margin start starts
 
--- "infinity for the first"
+-- of all groups: the first has none before it, and infinity stands for it
 unfoldable pub intervalsOf : Float → List Float → List Float
 intervalsOf margin [] = []
 intervalsOf margin (start ∷ starts) = inf false ∷ intervalsAfter margin start starts
 
 -- each group's interval
 unfoldable pub groupIntervals : Float → List ℕ → List Float → List Float → List Float
-groupIntervals margin kinds starts deltas = intervalsOf margin (startsOf starts (firstsOf (groupObjects margin kinds deltas)))
+groupIntervals margin kinds starts deltas =
+    intervalsOf margin (startsOf starts (firstsOf (groupObjects margin kinds deltas)))

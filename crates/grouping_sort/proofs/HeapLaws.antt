@@ -1,4 +1,5 @@
--- The later child, and the loops of `sink` and `heapify`. While a value sinks, all is a heap but for its place `at`, and what stands above `at` is not before what stands below it.
+-- The later child, and the loops of `sink` and `heapify`. While a value sinks, all is a heap but for its place `at`, and what stands above `at` is not before
+-- what stands below it.
 use mathlib.Core.Path.{_≡_, refl, sym, ap, _∙_, subst}
 use mathlib.Core.Logic.{_≢_, ⊎-elim}
 use mathlib.Core.Bool.{true, false}

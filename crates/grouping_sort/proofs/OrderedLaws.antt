@@ -1,4 +1,5 @@
--- The laws of `ordered`. To exchange two values changes nothing of it, since to put v in the place of w is to insert v and undo the insertion of w; an ascending list is ordered.
+-- The laws of `ordered`. To exchange two values changes nothing of it, since to put v in the place of w is to insert v and undo the insertion of w; an
+-- ascending list is ordered.
 use mathlib.Core.Path.{_≡_, refl, sym, ap, _∙_}
 use mathlib.Core.Logic.{⊎-elim}
 use mathlib.Core.List.{List, [], _∷_}

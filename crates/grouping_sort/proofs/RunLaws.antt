@@ -1,4 +1,5 @@
--- The linear steps of `sort`. The loops of `rises` and `falls` test what the values from i on say; a rising list is ordered; to turn a list round is to exchange.
+-- The linear steps of `sort`. The loops of `rises` and `falls` test what the values from i on say; a rising list is ordered; to turn a list round is to
+-- exchange.
 use mathlib.Core.Path.{_≡_, refl, sym, ap, _∙_, subst}
 use mathlib.Core.Bool.{Bool, true, false, _&&_}
 use mathlib.Core.List.{List, [], _∷_}

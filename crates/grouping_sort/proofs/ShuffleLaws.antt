@@ -1,4 +1,5 @@
--- What exchanges of values do to a list: what stands at each place, that the values of the places below `end` stay among themselves, and that `ordered` stays as it is.
+-- What exchanges of values do to a list: what stands at each place, that the values of the places below `end` stay among themselves, and that `ordered` stays
+-- as it is.
 use mathlib.Core.Path.{_≡_, refl, sym, ap, _∙_, subst}
 use mathlib.Core.Logic.{_≢_, ⊎-elim}
 use mathlib.Core.List.{List}

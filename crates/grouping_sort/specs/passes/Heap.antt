@@ -1,4 +1,5 @@
--- What the steps of heap sort ask and promise. The heap lies in the first `end` places of a slice: the children of place p are the places 2p + 1 and 2p + 2.
+-- What the steps of heap sort ask and promise. The heap lies in the first `end` places of a slice: the children of
+-- place p are the places 2p + 1 and 2p + 2.
 use Prim.Native.Nat.{ℕ, _+_, _*_, _≤_, _<_}
 use mathlib.Core.List.{List}
 use lib.Dec.{T}
@@ -18,7 +19,8 @@ swapped i j values = set (set values i (getD values j nan)) j (getD values i nan
 -- `new` is `old` after exchanges among the first `end` places
 pub data Shuffled (end : ℕ) : List Float → List Float → Type 0 where
   same : {values : List Float} → Shuffled end values values
-  more : {old new : List Float} {i j : ℕ} → Shuffled end old new → i < end → j < end → Shuffled end old (swapped i j new)
+  more : {old new : List Float} {i j : ℕ}
+      → Shuffled end old new → i < end → j < end → Shuffled end old (swapped i j new)
 
 -- c is one of the two children of place p
 pub record Child (p c : ℕ) : Type 0 where

@@ -1,5 +1,5 @@
--- What the steps of `sort` answer before heap sort is asked: whether the values rise, and whether they fall. Values that fall are turned round by exchanges, and
--- tested: nothing is promised of where each one then stands.
+-- What the steps of `sort` answer before heap sort is asked: whether the values rise, and whether they fall. Values
+-- that fall are turned round by exchanges, and tested: nothing is promised of where each one then stands.
 use mathlib.Core.Bool.{Bool, true, not, _&&_}
 use mathlib.Core.List.{List, [], _∷_}
 use lib.Ieee.{Float}

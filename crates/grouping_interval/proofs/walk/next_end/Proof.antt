@@ -1,5 +1,6 @@
--- `walk::next_end` meets its contract: a walk of its MIR, by hand. A walk is made of the slice and the number in a local, `step` moves it on, and the number is read. All that the proof knows of `step` is that it meets its contract.
--- In a local of a body MIR erases the lifetime of the struct's type, so a value is shown to have the type at `erased`: what the struct owns does not say the lifetime's name.
+-- `walk::next_end` meets its contract: a walk of its MIR, by hand. A walk is made of the slice and the number in a local, `step` moves it on, and the number is
+-- read. All that the proof knows of `step` is that it meets its contract. In a local of a body MIR erases the lifetime of the struct's type, so a value is
+-- shown to have the type at `erased`: what the struct owns does not say the lifetime's name.
 use mathlib.Core.Path.{_≡_, refl, ap}
 use Prim.Native.Nat.{ℕ, _<_, _^_}
 use mathlib.Core.List.{List, [], _∷_}

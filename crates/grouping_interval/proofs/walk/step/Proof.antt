@@ -1,5 +1,6 @@
--- `walk::step` meets its contract: a walk of its MIR, by hand. The struct is taken apart, `group_end` is called on the slice, the margin and the number, and a struct is made anew of the slice and the result.
--- The struct is Copy: what it owns is had twice, one copy is kept whole for the exit and for the result, and of the other what values owns goes to the callee, beside the lifetime's token, which comes back.
+-- `walk::step` meets its contract: a walk of its MIR, by hand. The struct is taken apart, `group_end` is called on the slice, the margin and the number, and a
+-- struct is made anew of the slice and the result. The struct is Copy: what it owns is had twice, one copy is kept whole for the exit and for the result, and
+-- of the other what values owns goes to the callee, beside the lifetime's token, which comes back.
 use mathlib.Core.Path.{_≡_, refl, ap}
 use Prim.Native.Nat.{ℕ, _<_, _^_}
 use mathlib.Core.List.{[], _∷_}

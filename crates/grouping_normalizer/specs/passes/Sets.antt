@@ -1,5 +1,4 @@
--- Where a set of the normaliser ends. Document 01, delta_time_normalizer.rs: "a set runs while within 5.0 of its first value".
--- The law that ties it to the sets is `sets-at`, in proofs/SetLaws.antt.
+-- Where a set of the normaliser ends. The law that ties it to the sets is `sets-at`, in proofs/SetLaws.antt.
 use mathlib.Core.Path.{_≡_}
 use Prim.Native.Nat.{ℕ, suc, _+_, _≤_, _<_}
 use mathlib.Core.Bool.{cond}
