@@ -63,7 +63,8 @@ module _ (margin : Float) (c : Counting) where
   unfolding groupsCounted
   ended-few p h = rw (p, le-ltb _ _ h)
 
-  pub ended-many : (b : Bool) → c .pending ≡ true → 2 < c .notes → isNear margin (c .next) (c .last) ≡ b → cond b (c .groups) (c .groups + 1) ≡ groupsCounted margin c
+  pub ended-many : (b : Bool) → c .pending ≡ true → 2 < c .notes → isNear margin (c .next) (c .last) ≡ b
+      → cond b (c .groups) (c .groups + 1) ≡ groupsCounted margin c
   unfolding groupsCounted
   ended-many b p h e = rw (p, lt-ltb _ _ h, e)
 
@@ -122,14 +123,18 @@ module _ (margin : Float) (c : Counting) (d : Float) (ds : List Float) (h : Begu
       (rw p (ap (countFrom (c .groups)) (marks-near margin many (c .last) (c .next) d ds e) ∙ count-same (c .groups) _ (h .some-groups)))
   meets-more true false true p e f =
       meets-on _ (counted-rise margin c d (h .some-notes) p e f) (record { some-notes = λ z. omega arith; some-groups = omega arith })
-      (rw p (ap (countFrom (c .groups)) (marks-rise margin many (c .last) (c .next) d ds e f) ∙ count-same (c .groups) _ (h .some-groups) ∙ count-new (c .groups) _))
+      (rw p
+      (ap (countFrom (c .groups)) (marks-rise margin many (c .last) (c .next) d ds e f)
+      ∙ count-same (c .groups) _ (h .some-groups)
+      ∙ count-new (c .groups) _))
   meets-more true false false p e f =
       meets-on _ (counted-neither margin c d (h .some-notes) p e f) (record { some-notes = λ z. omega arith; some-groups = omega arith })
       (rw p (ap (countFrom (c .groups)) (marks-neither margin many (c .last) (c .next) d ds e f) ∙ count-new (c .groups) _))
 
 meets : (margin : Float) (c : Counting) (ds : List Float) → Begun c → Meets margin c ds
 meets margin c [] h = meets-none margin c h
-meets margin c (d ∷ ds) h = meets-more margin c d ds h (λ c′ b. meets margin c′ ds b) (c .pending) (isNear margin (c .next) d) (isRise margin (c .next) d) refl refl refl
+meets margin c (d ∷ ds) h =
+    meets-more margin c d ds h (λ c′ b. meets margin c′ ds b) (c .pending) (isNear margin (c .next) d) (isRise margin (c .next) d) refl refl refl
 
 -- all the notes, counted from none
 pub counted-all : (margin : Float) (ds : List Float) → groupsCounted margin (after (counted margin) counting₀ ds) ≡ groupCount (intervalMarks margin ds)
@@ -139,7 +144,8 @@ counted-all margin [] =
 counted-all margin (d ∷ ds) =
     let one : 1 + length ds ≡ suc (length ds) = omega arith in
     ap (groupsCounted margin) (after-first (counted margin) counting₀ d ds)
-    ∙ meets margin (record { notes = 1; groups = 1; last = d; next = d; pending = false }) ds (record { some-notes = λ z. omega arith; some-groups = omega arith })
+    ∙ meets margin (record { notes = 1; groups = 1; last = d; next = d; pending = false }) ds
+    (record { some-notes = λ z. omega arith; some-groups = omega arith })
     ∙ ap (λ (n : ℕ). countFrom 1 (marksAfter margin (ltb 2 n) d ds)) one
     ∙ sym (count-new 0 (marksAfter margin (ltb 2 (suc (length ds))) d ds))
     ∙ ap (countFrom 0) (sym (marks-all margin (d ∷ ds) ∙ marks-first margin (ltb 2 (suc (length ds))) d ds))
@@ -178,7 +184,10 @@ module _ {margin : Float} {ks : List ℕ} {ds : List Float} {c : Counting} {i : 
       let g : (r .notes ≤ c .notes + 1) × (r .groups ≤ r .notes) = rw e (counted-grows margin c (getD ds i nan) (x .groups-le)) in
       record {
         whole = x .whole;
-        left = rw e (sym (ap (after (counted margin) c) (of-notes-step ks i true ds h (x .whole) n) ∙ after-first (counted margin) c (getD ds i nan) _) ∙ x .left);
+        left =
+            rw e
+            (sym (ap (after (counted margin) c) (of-notes-step ks i true ds h (x .whole) n) ∙ after-first (counted margin) c (getD ds i nan) _)
+            ∙ x .left);
         groups-le = omega (arith, g);
         notes-le = omega (arith, g, x .notes-le);
         upto = omega arith;
@@ -195,5 +204,6 @@ module _ {margin : Float} {ks : List ℕ} {ds : List Float} {c : Counting} {i : 
 
   pub counts-end : length ks ≤ i → groupsCounted margin c ≡ groupCount (intervalMarks margin (ofNotes ks ds))
   counts-end h =
-      let e : c ≡ after (counted margin) counting₀ (ofNotes ks ds) = sym (ap (after (counted margin) c) (of-notes-over ks i ds h) ∙ after-none (counted margin) c) ∙ x .left in
+      let e : c ≡ after (counted margin) counting₀ (ofNotes ks ds) =
+      sym (ap (after (counted margin) c) (of-notes-over ks i ds h) ∙ after-none (counted margin) c) ∙ x .left in
       ap (groupsCounted margin) e ∙ counted-all margin (ofNotes ks ds)

@@ -53,8 +53,8 @@ module _ (margin : Float) (v : List Float) (i : ℕ) where
       omega arith
 
   -- it is not: the group ends, with the value if the next one rises
-  pub end-turn : (r : Bool) → i + 1 < length v → isNear margin (getD v i nan) (getD v (i + 1) nan) ≡ false → isRise margin (getD v i nan) (getD v (i + 1) nan) ≡ r
-      → endAfter margin v i ≡ cond r (i + 1) i
+  pub end-turn : (r : Bool) → i + 1 < length v → isNear margin (getD v i nan) (getD v (i + 1) nan) ≡ false
+      → isRise margin (getD v i nan) (getD v (i + 1) nan) ≡ r → endAfter margin v i ≡ cond r (i + 1) i
   unfolding endAfter
   end-turn r h e f =
       let many : Bool = ltb 2 (length v) in
@@ -77,7 +77,8 @@ module _ (margin : Float) (v : List Float) (i : ℕ) where
   end-few h k f = rw (one h k, le-ltb _ _ f) (omega arith)
 
   -- the last value, of more
-  pub end-last : (b : Bool) → i < length v → length v ≤ i + 1 → 2 < length v → isNear margin (getD v i nan) (getD v (i - 1) nan) ≡ b → endAfter margin v i ≡ cond b (i + 1) i
+  pub end-last : (b : Bool) → i < length v → length v ≤ i + 1 → 2 < length v → isNear margin (getD v i nan) (getD v (i - 1) nan) ≡ b
+      → endAfter margin v i ≡ cond b (i + 1) i
   unfolding endAfter grow
   end-last b h k f e = rw (one h k, lt-ltb _ _ f, e) (plus i b)
 

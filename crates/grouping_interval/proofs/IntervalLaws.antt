@@ -25,7 +25,8 @@ module _ (margin : Float) (many : Bool) (last v w : Float) (rest : List Float) w
   marks-rise e r = rw (e, r, marksAfter)
 
   -- neither: the value opens a group
-  pub marks-neither : isNear margin v w ≡ false → isRise margin v w ≡ false → marksAfter margin many last (v ∷ w ∷ rest) ≡ 1 ∷ marksAfter margin many v (w ∷ rest)
+  pub marks-neither : isNear margin v w ≡ false → isRise margin v w ≡ false
+      → marksAfter margin many last (v ∷ w ∷ rest) ≡ 1 ∷ marksAfter margin many v (w ∷ rest)
   unfolding marksAfter
   marks-neither e r = rw (e, r, marksAfter)
 
@@ -67,7 +68,9 @@ length-after margin many last (v ∷ w ∷ rest) =
     by (isNear margin v w) (isRise margin v w) (length-after margin many v (w ∷ rest)) (length-after margin many w rest)
   where
     by : (n r : Bool) → length (marksAfter margin many v (w ∷ rest)) ≡ suc (length rest) → length (marksAfter margin many w rest) ≡ length rest
-        → length (cond n (0 ∷ marksAfter margin many v (w ∷ rest)) (cond r (0 ∷ 1 ∷ marksAfter margin many w rest) (1 ∷ marksAfter margin many v (w ∷ rest)))) ≡ suc (suc (length rest))
+        → length
+        (cond n (0 ∷ marksAfter margin many v (w ∷ rest)) (cond r (0 ∷ 1 ∷ marksAfter margin many w rest) (1 ∷ marksAfter margin many v (w ∷ rest))))
+        ≡ suc (suc (length rest))
     by true r e f = ap suc e
     by false true e f = ap (λ (n : ℕ). suc (suc n)) f
     by false false e f = ap suc e

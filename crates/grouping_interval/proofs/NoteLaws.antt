@@ -49,7 +49,8 @@ below-from a [] j h = absurd (omega arith)
 below-from a (k ∷ ks) j h = by (isNote k) j (below-from (a + 1) ks) h
   where
     by : (b : Bool) (j : ℕ) → ((j : ℕ) → j < length (notesFrom (a + 1) ks) → getD (notesFrom (a + 1) ks) j 0 < a + 1 + length ks)
-        → j < length (cond b (a ∷ notesFrom (a + 1) ks) (notesFrom (a + 1) ks)) → getD (cond b (a ∷ notesFrom (a + 1) ks) (notesFrom (a + 1) ks)) j 0 < a + suc (length ks)
+        → j < length (cond b (a ∷ notesFrom (a + 1) ks) (notesFrom (a + 1) ks))
+        → getD (cond b (a ∷ notesFrom (a + 1) ks) (notesFrom (a + 1) ks)) j 0 < a + suc (length ks)
     by true zero u h = omega arith
     by true (suc j) u h = omega (arith, u j (omega arith))
     by false j u h = omega (arith, u j h)

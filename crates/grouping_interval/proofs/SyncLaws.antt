@@ -28,7 +28,8 @@ after-sync margin last u v w (x ∷ []) rest e =
     (after-sync margin x u v w [] rest e) refl (after-sync margin x u v w [] rest e)
 after-sync margin last u v w (x ∷ y ∷ xs) rest e =
     pick (isNear margin x y) (isRise margin x y) (suc (suc (suc (length xs)))) (0 ∷ marksAfter margin true x (y ∷ xs ++ u ∷ v ∷ w ∷ rest))
-    (0 ∷ 1 ∷ marksAfter margin true y (xs ++ u ∷ v ∷ w ∷ rest)) (1 ∷ marksAfter margin true x (y ∷ xs ++ u ∷ v ∷ w ∷ rest)) (marksAfter margin true u (v ∷ w ∷ rest))
+    (0 ∷ 1 ∷ marksAfter margin true y (xs ++ u ∷ v ∷ w ∷ rest)) (1 ∷ marksAfter margin true x (y ∷ xs ++ u ∷ v ∷ w ∷ rest))
+    (marksAfter margin true u (v ∷ w ∷ rest))
     (after-sync margin x u v w (y ∷ xs) rest e) (after-sync margin y u v w xs rest e) (after-sync margin x u v w (y ∷ xs) rest e)
 
 marks-sync : (margin u v w : Float) (xs rest : List Float) → isNear margin u v ≡ true
@@ -41,7 +42,8 @@ marks-sync margin u v w (x ∷ xs) rest e =
     ∙ after-sync margin x u v w xs rest e
 
 -- values j and j + 1 are near, and there is a value j + 2
-pub marks-from : (margin : Float) (values : List Float) (j : ℕ) → suc (suc j) < length values → isNear margin (getD values j nan) (getD values (suc j) nan) ≡ true
+pub marks-from : (margin : Float) (values : List Float) (j : ℕ) → suc (suc j) < length values
+    → isNear margin (getD values j nan) (getD values (suc j) nan) ≡ true
     → drop (suc j) (intervalMarks margin values) ≡ marksAfter margin true (getD values j nan) (drop (suc j) values)
 marks-from margin values j h e =
     (λ i. drop (suc (size i)) (intervalMarks margin (whole i)))

@@ -196,7 +196,10 @@ few-left xs h = few xs h ∙ ap (λ (z : List Float). over (unrepeated z) z) (sy
 -- no values at all
 pub distinct-none : (s old : List Float) → length s ≡ 0 → s ≡ ordered old → Distinct old s 0
 unfolding distinct unrepeated
-distinct-none [] old h e = record { values = over-pieces [] [] 0 refl ∙ ap (λ (z : List Float). over (unrepeated z) z) e; count = ap (λ (z : List Float). length (unrepeated z)) e }
+distinct-none [] old h e = record {
+  values = over-pieces [] [] 0 refl ∙ ap (λ (z : List Float). over (unrepeated z) z) e;
+  count = ap (λ (z : List Float). length (unrepeated z)) e;
+}
 distinct-none (x ∷ s) old h e = absurd (omega arith)
 
 -- ---- what is left in a lent slice

@@ -24,10 +24,12 @@ module _ (margin : Float) (kinds : List ℕ) (deltas : List Float) where
   unfolding groupDeltas
   groupDeltas-made = refl
 
-  pub groupIntervals-made : (starts : List Float) → groupIntervals margin kinds starts deltas ≡ intervalsOf margin (startsOf starts (firstsOf (groupObjects margin kinds deltas)))
+  pub groupIntervals-made : (starts : List Float)
+      → groupIntervals margin kinds starts deltas ≡ intervalsOf margin (startsOf starts (firstsOf (groupObjects margin kinds deltas)))
   unfolding groupIntervals
   groupIntervals-made starts = refl
 
-pub patternNumber-made : (margin : Float) (intervals : List Float) (g : ℕ) → patternNumber margin intervals g ≡ getD (groupNumbers (intervalMarks margin intervals)) g 0
+pub patternNumber-made : (margin : Float) (intervals : List Float) (g : ℕ)
+    → patternNumber margin intervals g ≡ getD (groupNumbers (intervalMarks margin intervals)) g 0
 unfolding patternNumber
 patternNumber-made margin intervals g = refl

@@ -48,7 +48,8 @@ module _ (margin : Float) (own previous : Own) where
   snap-first x p q = sym (ap (λ (o : Own). snapped margin o previous) p ∙ ap (snapped margin (Millis x)) q)
 
   -- by what the test found
-  pub snap-both : (x y : Float) (b : Bool) → own ≡ Millis x → previous ≡ Millis y → isNear margin x y ≡ b → cond b (Millis y) (Millis x) ≡ snapped margin own previous
+  pub snap-both : (x y : Float) (b : Bool) → own ≡ Millis x → previous ≡ Millis y → isNear margin x y ≡ b
+      → cond b (Millis y) (Millis x) ≡ snapped margin own previous
   unfolding snapped
   snap-both x y b p q e =
       sym (ap (λ (o : Own). snapped margin o previous) p ∙ ap (snapped margin (Millis x)) q ∙ ap (λ (t : Bool). cond t (Millis y) (Millis x)) e)

@@ -84,7 +84,8 @@ module _ (i j : ℕ) {xs : List Float} (n : Numbers xs) (h : i < length xs) (k :
       (λ d. getD-set-other xs i j b nan d)
       (equal j i) in
       let r : insert (getD ys j nan) (ordered (set ys j a)) ≡ insert a (ordered ys) = replaced j m (number-at i n h) (lt-length-set xs i b k) in
-      let s : insert b (ordered (set ys j a)) ≡ insert b (ordered xs) = ap (λ (z : Float). insert z (ordered (set ys j a))) (sym e) ∙ r ∙ replaced i n (number-at j n k) h in
+      let s : insert b (ordered (set ys j a)) ≡ insert b (ordered xs) =
+      ap (λ (z : Float). insert z (ordered (set ys j a))) (sym e) ∙ r ∙ replaced i n (number-at j n k) h in
       insert-undo (number-at j n k) (numbers-ordered (numbers-set j m (number-at i n h))) (numbers-ordered n) s
 
 -- an ascending list

@@ -13,6 +13,7 @@ use Rattle.grouping_normalizer.specs.Normalizer.{distinct}
 use Rattle.grouping_interval.specs.IntervalGrouping.{intervalMarks}
 use Rattle.grouping_same_rhythm.specs.Own.{modalDelta, ownsOf}
 use Rattle.grouping_same_rhythm.specs.declared.own.Own.{Own}
+use Rattle.grouping_same_rhythm.specs.declared.owns.Recent.{Recent}
 use Rattle.grouping_same_rhythm.specs.declared.owns.Reached.{Reached}
 
 -- a group's deltas after they were put in order, the distinct ones in front
@@ -28,6 +29,10 @@ unfoldable pub settledUpTo : ℕ → List (List Float) → List Float
 settledUpTo k [] = []
 settledUpTo zero (group ∷ groups) = group ++ settledUpTo zero groups
 settledUpTo (suc k) (group ∷ groups) = settled group ++ settledUpTo k groups
+
+-- the own intervals once that of a further group is known
+abbrev pub recentWith : Own → Recent → Recent
+recentWith own r = record { newest = own; second = r .newest; third = r .second; fourth = r .third }
 
 -- what `reach` asks: there is a group g
 pub record GroupThere (margin : Float) (deltas : List Float) (g : ℕ) : Type 0 where

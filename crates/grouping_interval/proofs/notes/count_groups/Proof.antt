@@ -26,7 +26,8 @@ count-note-requires c κs = record { few = omega arith; groups-le = omega arith 
 loop-again : tie.Need-loop-again Inv-loop μ-loop
 loop-again c =
     let at-note = c .before .before .before in
-    counts-note (at-note .before .before .before .loop .inv) _ (at-note .before .before .loop-test .taken) (sym (at-note .is-note .ensures) ∙ c .before .before .if1 .taken)
+    counts-note (at-note .before .before .before .loop .inv) _ (at-note .before .before .loop-test .taken)
+    (sym (at-note .is-note .ensures) ∙ c .before .before .if1 .taken)
     (c .count-note .ensures)
 
 loop-again-2 : tie.Need-loop-again-2 Inv-loop μ-loop
