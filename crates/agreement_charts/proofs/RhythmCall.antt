@@ -5,12 +5,12 @@ use Prim.Native.Nat.{ℕ, _-_, _<_}
 use native.Mathlib.Omega.{arith}
 use lib.ListN.{length, getD}
 use Rattle.grouping_chart.specs.Object.{noteIdx}
-use Rattle.grouping_chart.specs.Notes.{noteDeltas}
+use Rattle.grouping_interval.specs.Notes.{ofNotes}
 use Rattle.grouping_chart.specs.Chart.{Chart}
 use Rattle.grouping_chart.specs.Settings.{Settings}
 use Rattle.grouping_chart.specs.declared.chart.Verdict.the-variants.{Accepted}
 use Rattle.grouping_chart.proofs.AcceptedLaws.{accepted-good}
-use Rattle.grouping_chart.proofs.NoteLaws.{length-note-objects, length-note-deltas, note-within}
+use Rattle.grouping_interval.proofs.NoteLaws.{length-note-objects, length-of-notes, note-within}
 use Rattle.grouping_rhythm.specs.Rhythm.{Memory, judged, rhythmOutcome}
 use Rattle.grouping_rhythm.proofs.RhythmLaws.{group-written}
 use Rattle.agreement.specs.CommonTail.{Counterparts, CommonTail}
@@ -33,22 +33,22 @@ module _ (s : Settings) (c c′ : Chart) (lent lent′ : Memory) (m : ℕ) (x : 
     values-alike = t .deltas;
   }
 
-  module _ (i i′ : ℕ) (d : Counterparts (noteDeltas (c .kinds) (c .deltas)) (noteDeltas (c′ .kinds) (c′ .deltas)) i i′)
-      (k : RhythmLandmark (s .margin) (noteDeltas (c .kinds) (c .deltas)) (tailNotes m (c .kinds) (c .deltas)) i
-      ⊎ RhythmLandmark (s .margin) (noteDeltas (c′ .kinds) (c′ .deltas)) (tailNotes m (c′ .kinds) (c′ .deltas)) i′) where
+  module _ (i i′ : ℕ) (d : Counterparts (ofNotes (c .kinds) (c .deltas)) (ofNotes (c′ .kinds) (c′ .deltas)) i i′)
+      (k : RhythmLandmark (s .margin) (ofNotes (c .kinds) (c .deltas)) (tailNotes m (c .kinds) (c .deltas)) i
+      ⊎ RhythmLandmark (s .margin) (ofNotes (c′ .kinds) (c′ .deltas)) (tailNotes m (c′ .kinds) (c′ .deltas)) i′) where
     -- a note and its counterpart: what was written for both
     module _ (o o′ : ℕ) (n : TailNote (c .kinds) m (i - 1) o) (e : Counterparts (c .kinds) (c′ .kinds) o o′) where
-      written : getD (rhythmOutcome s c lent .memory .group) o 0 ≡ groupAt (s .margin) (noteDeltas (c .kinds) (c .deltas)) (noteIdx (c .kinds) o)
+      written : getD (rhythmOutcome s c lent .memory .group) o 0 ≡ groupAt (s .margin) (ofNotes (c .kinds) (c .deltas)) (noteIdx (c .kinds) o)
       written = group-written s c lent x o (n .there) (n .is-note)
 
-      written′ : getD (rhythmOutcome s c′ lent′ .memory .group) o′ 0 ≡ groupAt (s .margin) (noteDeltas (c′ .kinds) (c′ .deltas)) (noteIdx (c′ .kinds) o′)
+      written′ : getD (rhythmOutcome s c′ lent′ .memory .group) o′ 0 ≡ groupAt (s .margin) (ofNotes (c′ .kinds) (c′ .deltas)) (noteIdx (c′ .kinds) o′)
       written′ = group-written s c′ lent′ x′ o′ (omega (arith, n .there)) (sym (same-kind tail o o′ (n .of-tail) (n .there) e) ∙ n .is-note)
 
-      number-there : noteIdx (c .kinds) o < length (noteDeltas (c .kinds) (c .deltas))
+      number-there : noteIdx (c .kinds) o < length (ofNotes (c .kinds) (c .deltas))
       number-there =
-          omega (arith, note-within (c .kinds) o (n .there) (n .is-note), length-note-objects (c .kinds), length-note-deltas (c .kinds) (c .deltas) (tail .whole))
+          omega (arith, note-within (c .kinds) o (n .there) (n .is-note), length-note-objects (c .kinds), length-of-notes (c .kinds) (c .deltas) (tail .whole))
 
-      far : Counterparts (noteDeltas (c .kinds) (c .deltas)) (noteDeltas (c′ .kinds) (c′ .deltas)) (noteIdx (c .kinds) o) (noteIdx (c′ .kinds) o′)
+      far : Counterparts (ofNotes (c .kinds) (c .deltas)) (ofNotes (c′ .kinds) (c′ .deltas)) (noteIdx (c .kinds) o) (noteIdx (c′ .kinds) o′)
       far = note-counterparts tail o o′ (n .of-tail) (n .there) e (n .is-note)
 
     pub rhythm-call : RhythmCallClaim s c c′ lent lent′ m i

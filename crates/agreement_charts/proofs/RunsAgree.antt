@@ -12,7 +12,7 @@ use Rattle.grouping_marks.specs.Marks.{groupNumbers}
 use Rattle.grouping_marks.proofs.OverLaws.{front}
 use Rattle.grouping_marks.proofs.MarksLaws.{length-numbers}
 use Rattle.grouping_interval.specs.IntervalGrouping.{intervalMarks}
-use Rattle.grouping_interval.specs.Grouped.{Grouped}
+use Rattle.grouping_interval.specs.GroupByInterval.{GroupedByInterval}
 use Rattle.grouping_interval.proofs.IntervalLaws.{length-marks}
 use Rattle.agreement.specs.CommonTail.{Counterparts, lastOf}
 use Rattle.agreement_rhythm.specs.RhythmClaim.{groupAt}
@@ -20,7 +20,7 @@ use Rattle.agreement_rhythm.specs.RhythmLandmark.{RhythmLandmark}
 use Rattle.agreement_rhythm.proofs.RhythmClaimed.{rhythm-numbers, share-group}
 
 -- the number that a run leaves at note p
-pub number-left : (margin : Float) (values : List Float) (old new : List ℕ) (r : ℕ) → Grouped margin values old new r → (p : ℕ) → p < length values
+pub number-left : (margin : Float) (values : List Float) (old new : List ℕ) (r : ℕ) → GroupedByInterval margin values old new r → (p : ℕ) → p < length values
     → getD new p 0 ≡ groupAt margin values p
 number-left margin values old new r g p h =
     let numbers : List ℕ = groupNumbers (intervalMarks margin values) in
@@ -28,7 +28,7 @@ number-left margin values old new r g p h =
     sym (getD-take (length values) new p 0 h) ∙ ap (λ (xs : List ℕ). getD xs p 0) (ap (take (length values)) (g .numbers) ∙ front numbers old (length values) l)
 
 module _ (margin : Float) (xs ys : List Float) (t : ℕ) (f : t ≤ length xs) (f′ : t ≤ length ys) (a : lastOf t xs ≡ lastOf t ys) (i i′ : ℕ) (c : Counterparts xs ys i i′)
-    (m : RhythmLandmark margin xs t i ⊎ RhythmLandmark margin ys t i′) (old new old′ new′ : List ℕ) (r r′ : ℕ) (g : Grouped margin xs old new r) (g′ : Grouped margin ys old′ new′ r′) where
+    (m : RhythmLandmark margin xs t i ⊎ RhythmLandmark margin ys t i′) (old new old′ new′ : List ℕ) (r r′ : ℕ) (g : GroupedByInterval margin xs old new r) (g′ : GroupedByInterval margin ys old′ new′ r′) where
   -- two notes from the one before the landmark on have one number in the one run exactly when their counterparts have one in the other
   pub runs-agree : (p q n k : ℕ) → i - 1 ≤ p → p < length xs → Counterparts xs ys p q → i - 1 ≤ n → n < length xs → Counterparts xs ys n k
       → (getD new p 0 ≡ getD new n 0) ↔ (getD new′ q 0 ≡ getD new′ k 0)

@@ -8,7 +8,7 @@ use lib.ListN.{length}
 use lib.Ieee.{Float, fin, binary64, round, sub, le, ofInt}
 use Rattle.numeric.specs.Near.{absOf, isNear}
 use Rattle.grouping_chart.specs.Object.{isNote}
-use Rattle.grouping_chart.specs.Notes.{noteDeltas}
+use Rattle.grouping_interval.specs.Notes.{ofNotes}
 use Rattle.agreement_rhythm.specs.RhythmLandmark.{RhythmLandmark, isRhythmLandmark}
 use Rattle.agreement_rhythm.proofs.LandmarkLaws.{test-landmark}
 
@@ -62,6 +62,6 @@ unfolding margin wholes isRhythmLandmark isNear absOf sub le ofInt round
 one-landmark = test-landmark margin (wholes (100 ∷ (100 ∷ 100 ∷ 200 ∷ []))) 3 2 refl
 
 -- the deltas of the notes of d n k d
-notes-only : noteDeltas (0 ∷ 2 ∷ 1 ∷ 0 ∷ []) (wholes (1 ∷ 2 ∷ 3 ∷ 4 ∷ [])) ≡ wholes (1 ∷ 3 ∷ 4 ∷ [])
-unfolding noteDeltas isNote wholes ofInt round
+notes-only : ofNotes (0 ∷ 2 ∷ 1 ∷ 0 ∷ []) (wholes (1 ∷ 2 ∷ 3 ∷ 4 ∷ [])) ≡ wholes (1 ∷ 3 ∷ 4 ∷ [])
+unfolding ofNotes isNote wholes ofInt round
 notes-only = refl

@@ -11,9 +11,9 @@ use lib.Seq.{drop-cons, getD-drop}
 use lib.Ieee.{Float, nan}
 use Rattle.grouping_marks.specs.Marks.{groupNumbers}
 use Rattle.grouping_marks.proofs.NumberLaws.{number-opens, numbers-rise, numbers-shift}
-use Rattle.grouping_interval.specs.IntervalGrouping.{rises, marksAfter, intervalMarks}
+use Rattle.grouping_interval.specs.IntervalGrouping.{isRise, marksAfter, intervalMarks}
 use Rattle.grouping_interval.proofs.IntervalLaws.{marks-rise, marks-neither, length-marks}
-use Rattle.grouping_chart.specs.Notes.{noteDeltas}
+use Rattle.grouping_interval.specs.Notes.{ofNotes}
 use Rattle.agreement.specs.CommonTail.{Counterparts, lastOf, CommonTail}
 use Rattle.agreement_rhythm.specs.RhythmLandmark.{RhythmLandmark}
 use Rattle.agreement_rhythm.specs.RhythmClaim.{groupAt, OpensAt, RhythmClaim, tailNotes, RhythmHalf}
@@ -127,7 +127,7 @@ opens-by-mark margin deltas p l e = record {
 }
 
 pub landmark-opens : (margin : Float) (deltas : List Float) (t i : ℕ) → RhythmLandmark margin deltas t i → OpensAt margin deltas i ⊎ OpensAt margin deltas (i + 1)
-landmark-opens margin deltas t i m = by (rises margin (getD deltas i nan) (getD deltas (i + 1) nan)) refl
+landmark-opens margin deltas t i m = by (isRise margin (getD deltas i nan) (getD deltas (i + 1) nan)) refl
   where
     v : Float
     v = getD deltas i nan
@@ -149,7 +149,7 @@ landmark-opens margin deltas t i m = by (rises margin (getD deltas i nan) (getD 
     mark : (k : ℕ) (ms : List ℕ) → drop i (intervalMarks margin deltas) ≡ ms → getD (intervalMarks margin deltas) (i + k) 0 ≡ getD ms k 0
     mark k ms e = sym (getD-drop i (intervalMarks margin deltas) k 0) ∙ ap (λ (l : List ℕ). getD l k 0) e
 
-    by : (b : Bool) → rises margin v w ≡ b → OpensAt margin deltas i ⊎ OpensAt margin deltas (i + 1)
+    by : (b : Bool) → isRise margin v w ≡ b → OpensAt margin deltas i ⊎ OpensAt margin deltas (i + 1)
     by true r =
         inr (subst (OpensAt margin deltas) (sym (add-one i))
         (opens-by-mark margin deltas i (omega (arith, m .next-there))
@@ -166,22 +166,22 @@ landmark-opens margin deltas t i m = by (rises margin (getD deltas i nan) (getD 
 -- ---- two charts
 
 module _ {margin : Float} {m : ℕ} {kinds : List ℕ} {deltas : List Float} {kinds′ : List ℕ} {deltas′ : List Float} (c : CommonTail m kinds deltas kinds′ deltas′) (i i′ : ℕ)
-    (d : Counterparts (noteDeltas kinds deltas) (noteDeltas kinds′ deltas′) i i′)
-    (x : RhythmLandmark margin (noteDeltas kinds deltas) (tailNotes m kinds deltas) i ⊎ RhythmLandmark margin (noteDeltas kinds′ deltas′) (tailNotes m kinds′ deltas′) i′) where
-  fits : tailNotes m kinds deltas ≤ length (noteDeltas kinds deltas)
+    (d : Counterparts (ofNotes kinds deltas) (ofNotes kinds′ deltas′) i i′)
+    (x : RhythmLandmark margin (ofNotes kinds deltas) (tailNotes m kinds deltas) i ⊎ RhythmLandmark margin (ofNotes kinds′ deltas′) (tailNotes m kinds′ deltas′) i′) where
+  fits : tailNotes m kinds deltas ≤ length (ofNotes kinds deltas)
   fits = notes-fit m kinds deltas (c .whole) (c .inside)
 
-  fits′ : tailNotes m kinds deltas ≤ length (noteDeltas kinds′ deltas′)
+  fits′ : tailNotes m kinds deltas ≤ length (ofNotes kinds′ deltas′)
   fits′ = omega (arith, same-count c, notes-fit m kinds′ deltas′ (c .whole′) (c .inside′))
 
-  either : RhythmLandmark margin (noteDeltas kinds deltas) (tailNotes m kinds deltas) i ⊎ RhythmLandmark margin (noteDeltas kinds′ deltas′) (tailNotes m kinds deltas) i′
-  either = subst (λ (n : ℕ). RhythmLandmark margin (noteDeltas kinds deltas) (tailNotes m kinds deltas) i ⊎ RhythmLandmark margin (noteDeltas kinds′ deltas′) n i′) (sym (same-count c)) x
+  either : RhythmLandmark margin (ofNotes kinds deltas) (tailNotes m kinds deltas) i ⊎ RhythmLandmark margin (ofNotes kinds′ deltas′) (tailNotes m kinds deltas) i′
+  either = subst (λ (n : ℕ). RhythmLandmark margin (ofNotes kinds deltas) (tailNotes m kinds deltas) i ⊎ RhythmLandmark margin (ofNotes kinds′ deltas′) n i′) (sym (same-count c)) x
 
-  pub chart-numbers : Shifted margin (noteDeltas kinds deltas) (i - 1) (noteDeltas kinds′ deltas′) (i′ - 1)
-  chart-numbers = rhythm-numbers margin (noteDeltas kinds deltas) (noteDeltas kinds′ deltas′) (tailNotes m kinds deltas) fits fits′ (notes-alike c) i i′ d either
+  pub chart-numbers : Shifted margin (ofNotes kinds deltas) (i - 1) (ofNotes kinds′ deltas′) (i′ - 1)
+  chart-numbers = rhythm-numbers margin (ofNotes kinds deltas) (ofNotes kinds′ deltas′) (tailNotes m kinds deltas) fits fits′ (notes-alike c) i i′ d either
 
-  chart-claim : RhythmClaim margin (noteDeltas kinds deltas) i (noteDeltas kinds′ deltas′) i′
-  chart-claim = rhythm-claim margin (noteDeltas kinds deltas) (noteDeltas kinds′ deltas′) (tailNotes m kinds deltas) fits fits′ (notes-alike c) i i′ d either
+  chart-claim : RhythmClaim margin (ofNotes kinds deltas) i (ofNotes kinds′ deltas′) i′
+  chart-claim = rhythm-claim margin (ofNotes kinds deltas) (ofNotes kinds′ deltas′) (tailNotes m kinds deltas) fits fits′ (notes-alike c) i i′ d either
 
 pub rhythm-half : (margin : Float) (m : ℕ) (kinds : List ℕ) (deltas : List Float) (kinds′ : List ℕ) (deltas′ : List Float) → CommonTail m kinds deltas kinds′ deltas′
     → RhythmHalf margin m kinds deltas kinds′ deltas′

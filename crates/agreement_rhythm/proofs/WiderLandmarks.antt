@@ -14,7 +14,7 @@ use borrow.Author.Tests.{ltb-true, ltb-false, not-true}
 use Rattle.numeric.specs.Near.{absOf, isNear}
 use Rattle.grouping_marks.specs.Scan.{scan}
 use Rattle.grouping_marks.specs.Marks.{opened, groupNumbers}
-use Rattle.grouping_interval.specs.IntervalGrouping.{rises, marksAfter, intervalMarks}
+use Rattle.grouping_interval.specs.IntervalGrouping.{isRise, marksAfter, intervalMarks}
 use Rattle.agreement.specs.CommonTail.{Counterparts, lastOf}
 use Rattle.agreement_rhythm.specs.RhythmClaim.{groupAt, OpensAt, RhythmClaim}
 use Rattle.agreement_rhythm.proofs.RhythmClaimed.{group-rise, rhythm-claim}
@@ -38,7 +38,7 @@ nearAt deltas i = isNear margin (getD deltas i nan) (getD deltas (i + 1) nan)
 
 -- note i + 1 rises from note i
 unfoldable risesAt : List Float → ℕ → Bool
-risesAt deltas i = rises margin (getD deltas i nan) (getD deltas (i + 1) nan)
+risesAt deltas i = isRise margin (getD deltas i nan) (getD deltas (i + 1) nan)
 
 -- the claim for a landmark that is given by a test: note i − 1 is of the tail, and the test says true of note i in both lists
 abbrev ClaimFrom : (List Float → ℕ → Bool) → Type 0
@@ -144,7 +144,7 @@ unfoldable riseBefore : List Float → ℕ → Bool
 riseBefore deltas i = isThere deltas (i + 1) && risesAt deltas (i - 1)
 
 rise-computed : refutes riseBefore (wholes (100 ∷ [])) [] (wholes (100 ∷ 200 ∷ 200 ∷ [])) 1 ≡ true
-unfolding refutes changes riseBefore isThere risesAt margin wholes scan opened groupNumbers intervalMarks marksAfter rises isNear absOf add sub le lt ofInt round
+unfolding refutes changes riseBefore isThere risesAt margin wholes scan opened groupNumbers intervalMarks marksAfter isRise isNear absOf add sub le lt ofInt round
 rise-computed = refl
 
 rise-fails : ClaimFrom riseBefore → ⊥
@@ -155,7 +155,7 @@ unfoldable riseThenNotNear : List Float → ℕ → Bool
 riseThenNotNear deltas i = isThere deltas (i + 1) && (risesAt deltas (i - 1) && not (nearAt deltas i))
 
 rise-then-not-near-computed : refutes riseThenNotNear (wholes (100 ∷ [])) [] (wholes (100 ∷ 200 ∷ 300 ∷ [])) 1 ≡ true
-unfolding refutes changes riseThenNotNear isThere risesAt nearAt margin wholes scan opened groupNumbers intervalMarks marksAfter rises isNear absOf add sub le lt ofInt round
+unfolding refutes changes riseThenNotNear isThere risesAt nearAt margin wholes scan opened groupNumbers intervalMarks marksAfter isRise isNear absOf add sub le lt ofInt round
 rise-then-not-near-computed = refl
 
 rise-then-not-near-fails : ClaimFrom riseThenNotNear → ⊥
@@ -166,7 +166,7 @@ unfoldable nearBefore : List Float → ℕ → Bool
 nearBefore deltas i = nearAt deltas (i - 1)
 
 last-computed : refutes nearBefore [] (wholes (100 ∷ [])) (wholes (100 ∷ 100 ∷ [])) 1 ≡ true
-unfolding refutes changes nearBefore nearAt margin wholes scan opened groupNumbers intervalMarks marksAfter rises isNear absOf add sub le lt ofInt round
+unfolding refutes changes nearBefore nearAt margin wholes scan opened groupNumbers intervalMarks marksAfter isRise isNear absOf add sub le lt ofInt round
 last-computed = refl
 
 last-fails : ClaimFrom nearBefore → ⊥
@@ -177,7 +177,7 @@ unfoldable noteEarlier : List Float → ℕ → Bool
 noteEarlier deltas i = threeNotes deltas (i + 1)
 
 earlier-computed : refutes noteEarlier (wholes (50 ∷ [])) [] (wholes (50 ∷ 100 ∷ 100 ∷ 200 ∷ [])) 1 ≡ true
-unfolding refutes changes noteEarlier threeNotes isThere nearAt margin wholes scan opened groupNumbers intervalMarks marksAfter rises isNear absOf add sub le lt ofInt round
+unfolding refutes changes noteEarlier threeNotes isThere nearAt margin wholes scan opened groupNumbers intervalMarks marksAfter isRise isNear absOf add sub le lt ofInt round
 earlier-computed = refl
 
 earlier-fails : ClaimFrom noteEarlier → ⊥

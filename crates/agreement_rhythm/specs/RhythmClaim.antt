@@ -10,7 +10,7 @@ use lib.Ieee.{Float}
 use Rattle.grouping_marks.specs.Marks.{groupNumbers}
 use Rattle.grouping_chart.specs.Object.{isNote, noteIdx}
 use Rattle.grouping_interval.specs.IntervalGrouping.{intervalMarks}
-use Rattle.grouping_chart.specs.Notes.{noteDeltas}
+use Rattle.grouping_interval.specs.Notes.{ofNotes}
 use Rattle.agreement.specs.CommonTail.{Counterparts, lastOf}
 use Rattle.agreement_rhythm.specs.RhythmLandmark.{RhythmLandmark}
 
@@ -47,15 +47,15 @@ pub record RhythmClaim (margin : Float) (deltas : List Float) (i : ℕ) (deltas�
 
 -- how many notes the last m objects hold
 unfoldable pub tailNotes : ℕ → List ℕ → List Float → ℕ
-tailNotes m kinds deltas = length (noteDeltas (lastOf m kinds) (lastOf m deltas))
+tailNotes m kinds deltas = length (ofNotes (lastOf m kinds) (lastOf m deltas))
 
 -- the rhythm half of demand 3 for two charts with a common tail of m objects
 pub record RhythmHalf (margin : Float) (m : ℕ) (kinds : List ℕ) (deltas : List Float) (kinds′ : List ℕ) (deltas′ : List Float) : Type 0 where
   -- objects of the tail that are counterparts are notes both or neither, and as notes they are counterparts too
   pub both-notes : (o o′ : ℕ) → length kinds ≤ o + m → o < length kinds → Counterparts kinds kinds′ o o′ → isNote (getD kinds o 0) ≡ isNote (getD kinds′ o′ 0)
   pub note-counterparts : (o o′ : ℕ) → length kinds ≤ o + m → o < length kinds → Counterparts kinds kinds′ o o′ → isNote (getD kinds o 0) ≡ true
-      → Counterparts (noteDeltas kinds deltas) (noteDeltas kinds′ deltas′) (noteIdx kinds o) (noteIdx kinds′ o′)
+      → Counterparts (ofNotes kinds deltas) (ofNotes kinds′ deltas′) (noteIdx kinds o) (noteIdx kinds′ o′)
   -- from every rhythm landmark in the tail, read in either chart
-  pub from-landmark : (i i′ : ℕ) → Counterparts (noteDeltas kinds deltas) (noteDeltas kinds′ deltas′) i i′
-      → RhythmLandmark margin (noteDeltas kinds deltas) (tailNotes m kinds deltas) i ⊎ RhythmLandmark margin (noteDeltas kinds′ deltas′) (tailNotes m kinds′ deltas′) i′
-      → RhythmClaim margin (noteDeltas kinds deltas) i (noteDeltas kinds′ deltas′) i′
+  pub from-landmark : (i i′ : ℕ) → Counterparts (ofNotes kinds deltas) (ofNotes kinds′ deltas′) i i′
+      → RhythmLandmark margin (ofNotes kinds deltas) (tailNotes m kinds deltas) i ⊎ RhythmLandmark margin (ofNotes kinds′ deltas′) (tailNotes m kinds′ deltas′) i′
+      → RhythmClaim margin (ofNotes kinds deltas) i (ofNotes kinds′ deltas′) i′

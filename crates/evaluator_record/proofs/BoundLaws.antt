@@ -14,10 +14,10 @@ use Rattle.numeric.proofs.range.Laws.{within-ends}
 use Rattle.grouping_marks.proofs.PartedLaws.{parted-all, parted-some}
 use Rattle.grouping_chart.specs.Chart.{Chart, size}
 use Rattle.grouping_chart.specs.Refusal.{verdict}
-use Rattle.grouping_chart.specs.Notes.{noteObjects}
+use Rattle.grouping_interval.specs.Notes.{noteObjects}
 use Rattle.grouping_chart.specs.declared.chart.Verdict.the-variants.{Accepted}
 use Rattle.grouping_chart.proofs.AcceptedLaws.{GoodChart, accepted-good}
-use Rattle.grouping_chart.proofs.NoteLaws.{object-below}
+use Rattle.grouping_interval.proofs.NoteLaws.{object-below}
 use Rattle.grouping_chart.proofs.RangeLaws.{time-range}
 use Rattle.grouping_same_rhythm.specs.SameRhythm.{rhythmMarks, groupObjects}
 use Rattle.grouping_same_rhythm.proofs.MadeLaws.{groupObjects-made}

@@ -12,7 +12,7 @@ use Rattle.grouping_marks.proofs.OverLaws.{length-over, front, drop-over, put-f
 use Rattle.grouping_same_rhythm.specs.Own.{ratioOf}
 use Rattle.grouping_same_rhythm.specs.SameRhythm.{groupObjects, firstsOf, startsOf, intervalsOf, groupIntervals}
 use Rattle.grouping_same_rhythm.specs.SamePatterns.{patternOf}
-use Rattle.grouping_same_rhythm.specs.Passes.{IntervalsRoom}
+use Rattle.grouping_same_rhythm.specs.passes.Groups.{IntervalsRoom}
 use Rattle.grouping_same_rhythm.specs.declared.patterns.Pattern.{Pattern}
 use Rattle.grouping_same_rhythm.proofs.MadeLaws.{groupIntervals-made}
 use Rattle.evaluator_rhythm.specs.RepeatedInterval.{repeatedIntervalPenalty}

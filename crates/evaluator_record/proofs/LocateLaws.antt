@@ -14,13 +14,15 @@ use Rattle.grouping_marks.specs.Marks.{groupCount}
 use Rattle.grouping_marks.specs.Parted.{parted}
 use Rattle.grouping_marks.proofs.OverLaws.{length-over, front, drop-over, put-front, length-part, getD-part, length-put, drop-put, part-put-same, getD-put-before}
 use Rattle.grouping_marks.proofs.PieceLaws.{over-pieces}
-use Rattle.grouping_chart.specs.Notes.{noteObjects, noteDeltas}
-use Rattle.grouping_chart.proofs.NoteLaws.{object-below, note-deltas-all}
+use Rattle.grouping_interval.specs.Notes.{noteObjects, ofNotes}
+use Rattle.grouping_interval.proofs.NoteLaws.{object-below, of-notes-all}
 use Rattle.grouping_interval.specs.IntervalGrouping.{intervalMarks}
-use Rattle.grouping_notes.specs.Notes.{NotesListed}
+use Rattle.grouping_interval.specs.Notes.{NotesListed}
 use Rattle.grouping_same_rhythm.specs.SameRhythm.{groupObjects, groupDeltas, firstsOf}
 use Rattle.grouping_same_rhythm.specs.Own.{ownsOf}
-use Rattle.grouping_same_rhythm.specs.Passes.{GroupThere, ReachedIs, FirstsRoom, FirstsListed, settledUpTo, recentOf}
+use Rattle.grouping_same_rhythm.specs.Own.{recentOf}
+use Rattle.grouping_same_rhythm.specs.passes.Groups.{FirstsRoom, FirstsListed}
+use Rattle.grouping_same_rhythm.specs.passes.Owns.{GroupThere, ReachedIs, settledUpTo}
 use Rattle.grouping_same_rhythm.specs.declared.owns.Reached.{Reached}
 use Rattle.grouping_same_rhythm.proofs.MadeLaws.{rhythmMarks-made, groupObjects-made, groupDeltas-made}
 use Rattle.grouping_rhythm.specs.Rhythm.{groupsIn}
@@ -40,7 +42,7 @@ pub record Readable (starts : List Float) (work : List ℕ) (r : Reached) : Type
 -- ---- the notes are listed
 module _ {margin : Float} {kinds : List ℕ} {starts deltas : List Float} {g : ℕ} {work₀ work₁ : List ℕ} {scratch₀ scratch₁ : List Float} {m : ℕ}
     (room : GroupRoom margin kinds starts deltas g work₀ scratch₀) (listed : NotesListed kinds deltas work₀ work₁ scratch₀ scratch₁ m) where
-  noted : length (noteDeltas kinds deltas) ≡ m
+  noted : length (ofNotes kinds deltas) ≡ m
   noted = deltas-noted kinds deltas (room .whole) ∙ sym (listed .count)
 
   notes-few : m ≤ length kinds
@@ -50,13 +52,13 @@ module _ {margin : Float} {kinds : List ℕ} {starts deltas : List Float} {g : �
   work-long = ap length (listed .numbers) ∙ length-over (noteObjects kinds) work₀ (omega (arith, objects-few kinds, room .regions))
 
   scratch-long : length scratch₁ ≡ length scratch₀
-  scratch-long = ap length (listed .floats) ∙ length-over (noteDeltas kinds deltas) scratch₀ (omega (arith, noted, notes-few, room .floats))
+  scratch-long = ap length (listed .floats) ∙ length-over (ofNotes kinds deltas) scratch₀ (omega (arith, noted, notes-few, room .floats))
 
   pub notes-inside : m ≤ length scratch₁
   notes-inside = omega (arith, scratch-long, notes-few, room .floats)
 
-  deltas-front : take m scratch₁ ≡ noteDeltas kinds deltas
-  deltas-front = ap (take m) (listed .floats) ∙ front (noteDeltas kinds deltas) scratch₀ m noted
+  deltas-front : take m scratch₁ ≡ ofNotes kinds deltas
+  deltas-front = ap (take m) (listed .floats) ∙ front (ofNotes kinds deltas) scratch₀ m noted
 
   objects-front : take m work₁ ≡ noteObjects kinds
   objects-front = ap (take m) (listed .numbers) ∙ front (noteObjects kinds) work₀ m (sym (listed .count))
@@ -74,13 +76,13 @@ module _ {margin : Float} {kinds : List ℕ} {starts deltas : List Float} {g : �
     room = omega (arith, front-long, notes-few, work-long, room .regions);
   }
 
-  there : GroupThere margin (noteDeltas kinds deltas) g
-  there = record { finite = record { each = note-deltas-all (λ (x : Float). T (finite x)) kinds deltas (room .numbers) }; there = rw (← groups-counted margin kinds deltas (room .whole)) (room .there) }
+  there : GroupThere margin (ofNotes kinds deltas) g
+  there = record { finite = record { each = of-notes-all (λ (x : Float). T (finite x)) kinds deltas (room .numbers) }; there = rw (← groups-counted margin kinds deltas (room .whole)) (room .there) }
 
   pub group-there : GroupThere margin (take m scratch₁) g
   group-there = subst (λ (ds : List Float). GroupThere margin ds g) (sym deltas-front) there
 
-  objects-grouped : groupObjects margin kinds deltas ≡ parted (intervalMarks margin (noteDeltas kinds deltas)) (noteObjects kinds)
+  objects-grouped : groupObjects margin kinds deltas ≡ parted (intervalMarks margin (ofNotes kinds deltas)) (noteObjects kinds)
   objects-grouped = groupObjects-made margin kinds deltas ∙ ap (λ (ms : List ℕ). parted ms (noteObjects kinds)) (rhythmMarks-made margin kinds deltas)
 
   -- ---- and so are the groups' first objects
@@ -161,7 +163,7 @@ module _ {margin : Float} {kinds : List ℕ} {starts deltas : List Float} {g : �
       deltas-grouped : parted (intervalMarks margin (take m scratch₁)) (take m scratch₁) ≡ groupDeltas margin kinds deltas
       deltas-grouped =
           (λ t. parted (intervalMarks margin (deltas-front t)) (deltas-front t))
-          ∙ sym (groupDeltas-made margin kinds deltas ∙ ap (λ (ms : List ℕ). parted ms (noteDeltas kinds deltas)) (rhythmMarks-made margin kinds deltas))
+          ∙ sym (groupDeltas-made margin kinds deltas ∙ ap (λ (ms : List ℕ). parted ms (ofNotes kinds deltas)) (rhythmMarks-made margin kinds deltas))
 
       owns-is : r .owns ≡ ownsAt margin kinds deltas g
       unfolding ownsAt
@@ -192,7 +194,7 @@ module _ {margin : Float} {kinds : List ℕ} {starts deltas : List Float} {g : �
             groups = counted;
             memory = firsts-written ∙ ap (put (length kinds) (firstsOf (groupObjects margin kinds deltas))) (listed .numbers ∙ sym (put-front (noteObjects kinds) work₀));
             scratch-memory =
-                back ∙ sym (put-front left scratch₁) ∙ (λ t. put 0 (left-is t) ((listed .floats ∙ sym (put-front (noteDeltas kinds deltas) scratch₀)) t));
+                back ∙ sym (put-front left scratch₁) ∙ (λ t. put 0 (left-is t) ((listed .floats ∙ sym (put-front (ofNotes kinds deltas) scratch₀)) t));
             firsts =
                 ap (part (length kinds) groups) firsts-written
                 ∙ part-put-same (length kinds) groups (firstsOf (groupObjects margin kinds deltas)) work₁ firsts-long
@@ -208,5 +210,5 @@ module _ {margin : Float} {kinds : List ℕ} {starts deltas : List Float} {g : �
                 ap (drop (length kinds)) back
                 ∙ drop-over left scratch₁ (length kinds) (omega (arith, long, notes-few))
                 ∙ ap (drop (length kinds)) (listed .floats)
-                ∙ drop-over (noteDeltas kinds deltas) scratch₀ (length kinds) (omega (arith, noted, notes-few));
+                ∙ drop-over (ofNotes kinds deltas) scratch₀ (length kinds) (omega (arith, noted, notes-few));
           }

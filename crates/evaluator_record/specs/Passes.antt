@@ -7,10 +7,10 @@ use lib.ListN.{length, drop, getD, replicate}
 use lib.Ieee.{Float, nan, binary64, ofBits}
 use lib.Ieee.Scale.{finite}
 use Rattle.grouping_marks.specs.Over.{over, part, Write, write, written}
-use Rattle.grouping_chart.specs.Notes.{noteObjects, noteDeltas}
+use Rattle.grouping_interval.specs.Notes.{noteObjects, ofNotes}
 use Rattle.grouping_same_rhythm.specs.SameRhythm.{groupObjects, groupDeltas, firstsOf, groupIntervals}
 use Rattle.grouping_same_rhythm.specs.SamePatterns.{patternOf}
-use Rattle.grouping_same_rhythm.specs.Passes.{settledUpTo}
+use Rattle.grouping_same_rhythm.specs.passes.Owns.{settledUpTo}
 use Rattle.grouping_rhythm.specs.Rhythm.{groupsIn}
 use Rattle.evaluator_record.specs.Record.{objectsIn, ownsAt, durationOf, recordOf}
 use Rattle.evaluator_record.specs.declared.GroupRecord.{GroupRecord}
@@ -33,7 +33,7 @@ workWrites margin kinds deltas = write 0 (noteObjects kinds) ∷ write (length k
 
 -- in the scratch slice the notes' deltas, then these as they stand when those of the groups up to g are in order,
 unfoldable pub locateWrites : Float → List ℕ → List Float → ℕ → List (Write Float)
-locateWrites margin kinds deltas g = write 0 (noteDeltas kinds deltas) ∷ write 0 (settledUpTo (suc g) (groupDeltas margin kinds deltas)) ∷ []
+locateWrites margin kinds deltas g = write 0 (ofNotes kinds deltas) ∷ write 0 (settledUpTo (suc g) (groupDeltas margin kinds deltas)) ∷ []
 
 -- and over them the groups' intervals
 unfoldable pub findWrites : Float → List ℕ → List Float → List Float → ℕ → List (Write Float)

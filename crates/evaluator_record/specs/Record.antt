@@ -7,7 +7,7 @@ use lib.Ieee.{Float, nan, binary64, sub}
 use Rattle.grouping_same_rhythm.specs.Own.{ownsOf, ratioOf}
 use Rattle.grouping_same_rhythm.specs.SameRhythm.{groupObjects, groupDeltas, groupIntervals}
 use Rattle.grouping_same_rhythm.specs.SamePatterns.{patternOf}
-use Rattle.grouping_same_rhythm.specs.Passes.{recentOf}
+use Rattle.grouping_same_rhythm.specs.Own.{recentOf}
 use Rattle.grouping_same_rhythm.specs.declared.owns.Recent.{Recent}
 use Rattle.evaluator_rhythm.specs.RepeatedInterval.{repeatedIntervalPenalty}
 use Rattle.evaluator_record.specs.declared.GroupRecord.{GroupRecord}

@@ -1,6 +1,6 @@
 // One rhythm group of a chart, found by passes through the work slices.
 ghost use Rattle.evaluator_record.specs.Passes.{GroupRoom, LocatedIs, FoundIs};
-use grouping_notes::list_notes;
+use grouping_interval::notes::list_notes;
 use grouping_same_rhythm::groups::fill_intervals;
 use grouping_same_rhythm::groups::list_firsts;
 use grouping_same_rhythm::owns::Recent;

@@ -98,7 +98,7 @@ pub fn record(
                 return Recording::Refused(8, ObjectIndex(0));
             }
             let s = settings::base();
-            if grouping_notes::count_groups(kind, delta, s.margin) <= g {
+            if grouping_interval::notes::count_groups(kind, delta, s.margin) <= g {
                 return Recording::Refused(9, ObjectIndex(0));
             }
             let m = s.margin;

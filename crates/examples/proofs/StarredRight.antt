@@ -23,7 +23,7 @@ use Rattle.grouping_color.specs.Preprocessor.{patternsOpen, firstLengths, strea
 use Rattle.grouping_encode.specs.Encode as encode
 use Rattle.grouping_sort.specs.Ordered.{insert, ordered}
 use Rattle.grouping_normalizer.specs.Normalizer.{alike, unrepeated, distinct, setsAfter, sets, holds, middle, middleOf, normalOf, normalized}
-use Rattle.grouping_interval.specs.IntervalGrouping.{rises, marksAfter, intervalMarks}
+use Rattle.grouping_interval.specs.IntervalGrouping.{isRise, marksAfter, intervalMarks}
 use Rattle.evaluator_color.specs.Color.{hitValue, altValue, monoValue, addIf, objectSum}
 use Rattle.evaluator_color.specs.RatioPenalty as ratio
 use Rattle.evaluator_rhythm.specs.RepeatedInterval.{present, similar, similarTo, somePair, walkPenalty}
@@ -33,5 +33,5 @@ use Rattle.examples.specs.Question.{whole, bitsOf, chart, encodeMemory, 
 use Rattle.examples.specs.Starred.{Example, encoding, starred}
 
 pub starred-right : map (λ (e : Example). answer (e .question)) starred ≡ map (λ (e : Example). e .outcome) starred
-unfolding starred encoding answer whole bitsOf chart encodeMemory colourMemory encodeAnswer colourAnswer encodeShown colourShown millis answered encode.encodeOutcome encode.filled calls.colourOutcome anyShort shortRefusal calls.filled verdict even firstRefused objectRefusal timeGood ratioGood within colourValues colourAt standingAt isFirst over tabulate scan after gathered opened groupCount groupNumbers placeAt groupPlaces sizesFrom groupSizes firstsFrom groupFirsts isNote notes noteIdx noteBefore previousNote continues opensStreak streakMarks streakOf streakLengths streakTypes opensPattern patternMarks coupledAt coupled stageAfter opensHit hitMarks secondAt secondLengths matches nearestMatch intervalAt intervals patternsOpen firstLengths streakCounts patternTypes coupledPatterns hitsOpen hitCount hitSizes hitFirsts hitSeconds hitIntervals streakPlaceOf patternOf patternPlaceOf hitOf intervalOf intervalMarks marksAfter rises normalized normalOf middleOf middle holds sets setsAfter distinct unrepeated alike ordered insert totalOrder walkPenalty somePair similarTo similar present eightTenths objectSum hitValue altValue monoValue addIf ratio.ratioPenalty ratio.lowered logisticAt tableBits roundTiesEven isNear absOf round add sub mul div le lt eq ofInt ofBits toBits
+unfolding starred encoding answer whole bitsOf chart encodeMemory colourMemory encodeAnswer colourAnswer encodeShown colourShown millis answered encode.encodeOutcome encode.filled calls.colourOutcome anyShort shortRefusal calls.filled verdict even firstRefused objectRefusal timeGood ratioGood within colourValues colourAt standingAt isFirst over tabulate scan after gathered opened groupCount groupNumbers placeAt groupPlaces sizesFrom groupSizes firstsFrom groupFirsts isNote notes noteIdx noteBefore previousNote continues opensStreak streakMarks streakOf streakLengths streakTypes opensPattern patternMarks coupledAt coupled stageAfter opensHit hitMarks secondAt secondLengths matches nearestMatch intervalAt intervals patternsOpen firstLengths streakCounts patternTypes coupledPatterns hitsOpen hitCount hitSizes hitFirsts hitSeconds hitIntervals streakPlaceOf patternOf patternPlaceOf hitOf intervalOf intervalMarks marksAfter isRise normalized normalOf middleOf middle holds sets setsAfter distinct unrepeated alike ordered insert totalOrder walkPenalty somePair similarTo similar present eightTenths objectSum hitValue altValue monoValue addIf ratio.ratioPenalty ratio.lowered logisticAt tableBits roundTiesEven isNear absOf round add sub mul div le lt eq ofInt ofBits toBits
 starred-right = refl

@@ -1,4 +1,4 @@
--- A chart cut in two: its notes' deltas are those of the front and then those of the back, and a note's number counts the notes before it.
+-- A chart cut in two: its notes are those of the front and those of the back, and a note's number counts the notes before it.
 use mathlib.Core.Path.{_≡_, refl, sym, ap, _∙_}
 use mathlib.Core.Bool.{Bool, true, false, cond}
 use mathlib.Core.List.{List, [], _∷_, _++_}
@@ -7,20 +7,7 @@ use native.Mathlib.Omega.{arith}
 use lib.ListN.{length, take, drop, getD, length-append, take-append-drop}
 use lib.Ieee.{Float}
 use Rattle.grouping_chart.specs.Object.{isNote, notes, noteIdx}
-use Rattle.grouping_chart.specs.Notes.{noteDeltas}
 use Rattle.grouping_chart.proofs.ObjectLaws.{notes-append}
-
-pub note-deltas-append : (ks ks′ : List ℕ) (ds ds′ : List Float) → length ds ≡ length ks → noteDeltas (ks ++ ks′) (ds ++ ds′) ≡ noteDeltas ks ds ++ noteDeltas ks′ ds′
-unfolding noteDeltas
-note-deltas-append [] ks′ [] ds′ e = refl
-note-deltas-append [] ks′ (d ∷ ds) ds′ e = absurd (omega arith)
-note-deltas-append (k ∷ ks) ks′ [] ds′ e = absurd (omega arith)
-note-deltas-append (k ∷ ks) ks′ (d ∷ ds) ds′ e = by (isNote k) (note-deltas-append ks ks′ ds ds′ (omega arith))
-  where
-    by : (b : Bool) → noteDeltas (ks ++ ks′) (ds ++ ds′) ≡ noteDeltas ks ds ++ noteDeltas ks′ ds′
-        → cond b (d ∷ noteDeltas (ks ++ ks′) (ds ++ ds′)) (noteDeltas (ks ++ ks′) (ds ++ ds′)) ≡ cond b (d ∷ noteDeltas ks ds) (noteDeltas ks ds) ++ noteDeltas ks′ ds′
-    by true u = ap (λ (l : List Float). d ∷ l) u
-    by false u = u
 
 -- the notes before object i, and those from it on
 pub notes-split : (kinds : List ℕ) (i : ℕ) → length (notes kinds) ≡ length (notes (take i kinds)) + length (notes (drop i kinds))

@@ -4,7 +4,7 @@ pub mod AcceptedLaws
 pub mod RoomLaws
 pub mod LentLaws
 pub mod ObjectLaws
-pub mod NoteLaws
+pub mod NotesLaws
 pub mod SeenLaws
 pub mod RangeLaws
 pub mod BaseLaws

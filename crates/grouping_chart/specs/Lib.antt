@@ -1,6 +1,5 @@
 -- The definitions that this crate's promises and laws cite.
 pub mod Object
-pub mod Notes
 pub mod Chart
 pub mod Refusal
 pub mod Room

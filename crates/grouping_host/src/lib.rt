@@ -1,7 +1,7 @@
 // `group_by_interval` and the normaliser under C names, for the host tests alone.
 ghost use Rattle.grouping_sort.specs.Ordered.{AllFinite};
 ghost use Rattle.grouping_normalizer.specs.Normalizer.{NormalOf};
-ghost use Rattle.grouping_interval.specs.Grouped.{Places, Grouped};
+ghost use Rattle.grouping_interval.specs.GroupByInterval.{Places, GroupedByInterval};
 
 #[no_mangle]
 pub extern "C" fn grouping_group_by_interval(
@@ -10,7 +10,7 @@ pub extern "C" fn grouping_group_by_interval(
     group: &mut [u16],
 ) -> usize
     requires { ⌜ Places (now values) (now group) ⌝ }
-    ensures { λ r. ⌜ Grouped margin (now (values .entry)) (now (group .entry)) (now (group .exit)) r ⌝ }
+    ensures { λ r. ⌜ GroupedByInterval margin (now (values .entry)) (now (group .entry)) (now (group .exit)) r ⌝ }
 {
     grouping_interval::group_by_interval(values, margin, group)
 }

@@ -1,5 +1,5 @@
--- What may be cited of where a group ends: it depends on what stands from the group's first value on, and the groups' items and their count unroll from end to end,
--- since the marks of one group, by `marks-at`, are 1 and zeros up to its end.
+-- What may be cited of where a group ends: it depends on what stands from the group's first value on, and the groups' items and their count unroll from end to
+-- end, since the marks of one group, by `marks-at`, are 1 and zeros up to its end.
 use mathlib.Core.Path.{_≡_, refl, sym, ap, _∙_}
 use mathlib.Core.Bool.{Bool, true, false}
 use mathlib.Core.List.{List, [], _∷_, _++_}
@@ -52,7 +52,8 @@ opens-first margin many (v ∷ rest) = refl
 -- the items from a group's first one on: those up to the group's end, and the groups from there on
 pub parted-end : {A : Type 0} (margin : Float) (values : List Float) (xs : List A) (at : ℕ) → at < length values → length xs ≡ length values
     → parted (marksFrom margin (ltb 2 (length values)) (drop at values)) (drop at xs)
-    ≡ take (groupEnd margin values at - at) (drop at xs) ∷ parted (marksFrom margin (ltb 2 (length values)) (drop (groupEnd margin values at) values)) (drop (groupEnd margin values at) xs)
+    ≡ take (groupEnd margin values at - at) (drop at xs)
+    ∷ parted (marksFrom margin (ltb 2 (length values)) (drop (groupEnd margin values at) values)) (drop (groupEnd margin values at) xs)
 parted-end {A} margin values xs at h l =
     ap (λ (ms : List ℕ). parted ms (drop at xs)) (marks-at margin values at h)
     ∙ by (groupEnd margin values at) (end-after margin values at h) (end-within margin values at h) (drop at xs) refl

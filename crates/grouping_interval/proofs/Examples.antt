@@ -6,7 +6,7 @@ use Prim.Native.Nat.{ℕ}
 use lib.IntN.{pos}
 use lib.Ieee.{Float, fin, binary64, round, add, sub, le, lt, ofInt, ofBits}
 use Rattle.numeric.specs.Near.{absOf, isNear}
-use Rattle.grouping_interval.specs.IntervalGrouping.{rises, marksAfter, intervalMarks}
+use Rattle.grouping_interval.specs.IntervalGrouping.{isRise, marksAfter, intervalMarks}
 
 -- 5.0
 margin : Float
@@ -22,13 +22,13 @@ record Example : Type 0 where
 
 examples : List Example
 examples =
-    -- "deltas 100 100 100: one group"
+    -- three alike are one group
     record { deltas = whole 100 ∷ whole 100 ∷ whole 100 ∷ []; marks = 1 ∷ 0 ∷ 0 ∷ [] }
-    -- "100 100 200: two then one"
+    -- two alike, and one that differs
     ∷ record { deltas = whole 100 ∷ whole 100 ∷ whole 200 ∷ []; marks = 1 ∷ 0 ∷ 1 ∷ [] }
-    -- "100 200 100: three"
+    -- no two alike: a group each
     ∷ record { deltas = whole 100 ∷ whole 200 ∷ whole 100 ∷ []; marks = 1 ∷ 1 ∷ 1 ∷ [] }
-    -- "two notes, any deltas: two groups"
+    -- two notes are two groups, whatever their deltas
     ∷ record { deltas = whole 100 ∷ whole 100 ∷ []; marks = 1 ∷ 1 ∷ [] }
     ∷ record { deltas = whole 100 ∷ whole 200 ∷ []; marks = 1 ∷ 1 ∷ [] }
     -- one note, and none
@@ -46,5 +46,5 @@ examples =
 
 -- every list comes out as it says
 examples-right : map (λ (e : Example). intervalMarks margin (e .deltas)) examples ≡ map (λ (e : Example). e .marks) examples
-unfolding examples margin whole intervalMarks marksAfter rises isNear absOf add sub le lt ofInt ofBits round
+unfolding examples margin whole intervalMarks marksAfter isRise isNear absOf add sub le lt ofInt ofBits round
 examples-right = refl

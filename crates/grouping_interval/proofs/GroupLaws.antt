@@ -11,7 +11,7 @@ use lib.Seq.{drop-cons, drop-drop}
 use lib.Ieee.{Float, nan}
 use borrow.Author.Tests.{lt-ltb, le-ltb, ltb-true, ltb-false}
 use Rattle.numeric.specs.Near.{isNear}
-use Rattle.grouping_interval.specs.IntervalGrouping.{rises, marksAfter, intervalMarks}
+use Rattle.grouping_interval.specs.IntervalGrouping.{isRise, marksAfter, intervalMarks}
 use Rattle.grouping_interval.specs.GroupEnd.{grow, endAfter, groupEnd, marksFrom}
 
 -- ---- the cases
@@ -21,7 +21,7 @@ module _ (margin : Float) (many : Bool) (last v w : Float) (rest : List Float) w
   unfolding grow
   grow-near e = rw (e, grow)
 
-  grow-turn : (r : Bool) → isNear margin v w ≡ false → rises margin v w ≡ r → grow margin many last (v ∷ w ∷ rest) ≡ cond r 1 0
+  grow-turn : (r : Bool) → isNear margin v w ≡ false → isRise margin v w ≡ r → grow margin many last (v ∷ w ∷ rest) ≡ cond r 1 0
   unfolding grow
   grow-turn r e f = rw (e, f, grow)
 
@@ -53,8 +53,8 @@ module _ (margin : Float) (v : List Float) (i : ℕ) where
       omega arith
 
   -- it is not: the group ends, with the value if the next one rises
-  pub end-turn : (r : Bool) → i + 1 < length v → isNear margin (getD v i nan) (getD v (i + 1) nan) ≡ false → rises margin (getD v i nan) (getD v (i + 1) nan) ≡ r
-      → endAfter margin v i ≡ cond r (i + 1) i
+  pub end-turn : (r : Bool) → i + 1 < length v → isNear margin (getD v i nan) (getD v (i + 1) nan) ≡ false
+      → isRise margin (getD v i nan) (getD v (i + 1) nan) ≡ r → endAfter margin v i ≡ cond r (i + 1) i
   unfolding endAfter
   end-turn r h e f =
       let many : Bool = ltb 2 (length v) in
@@ -77,7 +77,8 @@ module _ (margin : Float) (v : List Float) (i : ℕ) where
   end-few h k f = rw (one h k, le-ltb _ _ f) (omega arith)
 
   -- the last value, of more
-  pub end-last : (b : Bool) → i < length v → length v ≤ i + 1 → 2 < length v → isNear margin (getD v i nan) (getD v (i - 1) nan) ≡ b → endAfter margin v i ≡ cond b (i + 1) i
+  pub end-last : (b : Bool) → i < length v → length v ≤ i + 1 → 2 < length v → isNear margin (getD v i nan) (getD v (i - 1) nan) ≡ b
+      → endAfter margin v i ≡ cond b (i + 1) i
   unfolding endAfter grow
   end-last b h k f e = rw (one h k, lt-ltb _ _ f, e) (plus i b)
 
@@ -93,7 +94,7 @@ marks-grow margin many last (v ∷ []) = by (many && isNear margin v last)
     by : (n : Bool) → cond n 0 1 ∷ [] ≡ replicate (cond n 1 0) 0 ++ marksFrom margin many (drop (cond n 1 0) (v ∷ []))
     by true = refl
     by false = refl
-marks-grow margin many last (v ∷ w ∷ rest) = by (isNear margin v w) (rises margin v w) (grow margin many v (w ∷ rest)) (marks-grow margin many v (w ∷ rest))
+marks-grow margin many last (v ∷ w ∷ rest) = by (isNear margin v w) (isRise margin v w) (grow margin many v (w ∷ rest)) (marks-grow margin many v (w ∷ rest))
   where
     by : (n r : Bool) (g : ℕ) → marksAfter margin many v (w ∷ rest) ≡ replicate g 0 ++ marksFrom margin many (drop g (w ∷ rest))
         → cond n (0 ∷ marksAfter margin many v (w ∷ rest)) (cond r (0 ∷ 1 ∷ marksAfter margin many w rest) (1 ∷ marksAfter margin many v (w ∷ rest)))
@@ -110,7 +111,7 @@ grow-le margin many last (v ∷ []) = by (many && isNear margin v last)
     by : (n : Bool) → cond n 1 0 ≤ 1
     by true = omega arith
     by false = omega arith
-grow-le margin many last (v ∷ w ∷ rest) = by (isNear margin v w) (rises margin v w) (grow margin many v (w ∷ rest)) (grow-le margin many v (w ∷ rest))
+grow-le margin many last (v ∷ w ∷ rest) = by (isNear margin v w) (isRise margin v w) (grow margin many v (w ∷ rest)) (grow-le margin many v (w ∷ rest))
   where
     by : (n r : Bool) (g : ℕ) → g ≤ suc (length rest) → cond n (suc g) (cond r 1 0) ≤ suc (suc (length rest))
     by true r g e = omega arith
@@ -155,7 +156,8 @@ module _ (margin : Float) (values : List Float) (at : ℕ) where
   end-within h =
       omega (arith, grown h, grow-le margin (ltb 2 (length values)) (getD values at nan) (drop (suc at) values), length-drop (suc at) values)
 
-  -- the marks from a group's first value on: 1 and zeros up to the group's end, and the marks from there on, where the next value, if one is left, opens a group
+  -- the marks from a group's first value on: 1 and zeros up to the group's end, and the marks from there on, where the next value, if one is left, opens a
+  -- group
   pub marks-at : at < length values → marksFrom margin (ltb 2 (length values)) (drop at values)
       ≡ 1 ∷ replicate (groupEnd margin values at - at - 1) 0 ++ marksFrom margin (ltb 2 (length values)) (drop (groupEnd margin values at) values)
   unfolding marksFrom

@@ -8,7 +8,7 @@ use lib.Dec.{ltb}
 use lib.ListN.{length, getD}
 use lib.Ieee.{Float, binary64, add, lt}
 use Rattle.numeric.specs.Near.{isNear}
-use Rattle.grouping_interval.specs.IntervalGrouping.{rises, marksAfter, intervalMarks}
+use Rattle.grouping_interval.specs.IntervalGrouping.{isRise, marksAfter, intervalMarks}
 use Rattle.grouping_interval.specs.GroupEnd.{marksFrom}
 
 -- ---- the cases
@@ -20,12 +20,13 @@ module _ (margin : Float) (many : Bool) (last v w : Float) (rest : List Float) w
   marks-near e = rw (e, marksAfter)
 
   -- the next one rises: the group takes the value too and ends, and the next one opens a group
-  pub marks-rise : isNear margin v w ≡ false → rises margin v w ≡ true → marksAfter margin many last (v ∷ w ∷ rest) ≡ 0 ∷ 1 ∷ marksAfter margin many w rest
+  pub marks-rise : isNear margin v w ≡ false → isRise margin v w ≡ true → marksAfter margin many last (v ∷ w ∷ rest) ≡ 0 ∷ 1 ∷ marksAfter margin many w rest
   unfolding marksAfter
   marks-rise e r = rw (e, r, marksAfter)
 
   -- neither: the value opens a group
-  pub marks-neither : isNear margin v w ≡ false → rises margin v w ≡ false → marksAfter margin many last (v ∷ w ∷ rest) ≡ 1 ∷ marksAfter margin many v (w ∷ rest)
+  pub marks-neither : isNear margin v w ≡ false → isRise margin v w ≡ false
+      → marksAfter margin many last (v ∷ w ∷ rest) ≡ 1 ∷ marksAfter margin many v (w ∷ rest)
   unfolding marksAfter
   marks-neither e r = rw (e, r, marksAfter)
 
@@ -53,9 +54,9 @@ pub marks-few : (margin last v : Float) → marksAfter margin false last (v ∷ 
 marks-few margin last v = marks-one margin false last v
 
 -- the test as code makes it
-pub rises-by : (margin v w : Float) → rises margin v w ≡ lt (add binary64 v margin) w
-unfolding rises
-rises-by margin v w = refl
+pub isRise-by : (margin v w : Float) → isRise margin v w ≡ lt (add binary64 v margin) w
+unfolding isRise
+isRise-by margin v w = refl
 
 -- ---- the lengths
 
@@ -64,10 +65,12 @@ unfolding marksAfter
 length-after margin many last [] = refl
 length-after margin many last (v ∷ []) = refl
 length-after margin many last (v ∷ w ∷ rest) =
-    by (isNear margin v w) (rises margin v w) (length-after margin many v (w ∷ rest)) (length-after margin many w rest)
+    by (isNear margin v w) (isRise margin v w) (length-after margin many v (w ∷ rest)) (length-after margin many w rest)
   where
     by : (n r : Bool) → length (marksAfter margin many v (w ∷ rest)) ≡ suc (length rest) → length (marksAfter margin many w rest) ≡ length rest
-        → length (cond n (0 ∷ marksAfter margin many v (w ∷ rest)) (cond r (0 ∷ 1 ∷ marksAfter margin many w rest) (1 ∷ marksAfter margin many v (w ∷ rest)))) ≡ suc (suc (length rest))
+        → length
+        (cond n (0 ∷ marksAfter margin many v (w ∷ rest)) (cond r (0 ∷ 1 ∷ marksAfter margin many w rest) (1 ∷ marksAfter margin many v (w ∷ rest))))
+        ≡ suc (suc (length rest))
     by true r e f = ap suc e
     by false true e f = ap (λ (n : ℕ). suc (suc n)) f
     by false false e f = ap suc e

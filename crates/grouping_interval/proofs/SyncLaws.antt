@@ -1,4 +1,5 @@
--- Behind two near values, with a third behind them, the walk stands inside a group, whatever came before: so the marks from the second on hang on the values from the first on alone.
+-- Behind two near values, with a third behind them, the walk stands inside a group, whatever came before: so the marks from the second on hang on the values
+-- from the first on alone.
 use mathlib.Core.Path.{_≡_, refl, sym, ap, _∙_}
 use mathlib.Core.Bool.{Bool, true, false, cond}
 use mathlib.Core.List.{List, [], _∷_, _++_}
@@ -9,7 +10,7 @@ use lib.Seq.{drop-cons, length-take-le}
 use lib.Ieee.{Float, nan}
 use borrow.Author.Tests.{lt-ltb}
 use Rattle.numeric.specs.Near.{isNear}
-use Rattle.grouping_interval.specs.IntervalGrouping.{rises, marksAfter, intervalMarks}
+use Rattle.grouping_interval.specs.IntervalGrouping.{isRise, marksAfter, intervalMarks}
 use Rattle.grouping_interval.proofs.IntervalLaws.{marks-near}
 
 pick : (n r : Bool) (k : ℕ) (a b c z : List ℕ) → drop k a ≡ z → drop k b ≡ z → drop k c ≡ z → drop k (cond n a (cond r b c)) ≡ z
@@ -22,12 +23,13 @@ after-sync : (margin last u v w : Float) (xs rest : List Float) → isNear margi
 unfolding marksAfter
 after-sync margin last u v w [] rest e = ap (drop 1) (marks-near margin true last u v (w ∷ rest) e)
 after-sync margin last u v w (x ∷ []) rest e =
-    pick (isNear margin x u) (rises margin x u) 2 (0 ∷ marksAfter margin true x (u ∷ v ∷ w ∷ rest)) (0 ∷ 1 ∷ marksAfter margin true u (v ∷ w ∷ rest))
+    pick (isNear margin x u) (isRise margin x u) 2 (0 ∷ marksAfter margin true x (u ∷ v ∷ w ∷ rest)) (0 ∷ 1 ∷ marksAfter margin true u (v ∷ w ∷ rest))
     (1 ∷ marksAfter margin true x (u ∷ v ∷ w ∷ rest)) (marksAfter margin true u (v ∷ w ∷ rest))
     (after-sync margin x u v w [] rest e) refl (after-sync margin x u v w [] rest e)
 after-sync margin last u v w (x ∷ y ∷ xs) rest e =
-    pick (isNear margin x y) (rises margin x y) (suc (suc (suc (length xs)))) (0 ∷ marksAfter margin true x (y ∷ xs ++ u ∷ v ∷ w ∷ rest))
-    (0 ∷ 1 ∷ marksAfter margin true y (xs ++ u ∷ v ∷ w ∷ rest)) (1 ∷ marksAfter margin true x (y ∷ xs ++ u ∷ v ∷ w ∷ rest)) (marksAfter margin true u (v ∷ w ∷ rest))
+    pick (isNear margin x y) (isRise margin x y) (suc (suc (suc (length xs)))) (0 ∷ marksAfter margin true x (y ∷ xs ++ u ∷ v ∷ w ∷ rest))
+    (0 ∷ 1 ∷ marksAfter margin true y (xs ++ u ∷ v ∷ w ∷ rest)) (1 ∷ marksAfter margin true x (y ∷ xs ++ u ∷ v ∷ w ∷ rest))
+    (marksAfter margin true u (v ∷ w ∷ rest))
     (after-sync margin x u v w (y ∷ xs) rest e) (after-sync margin y u v w xs rest e) (after-sync margin x u v w (y ∷ xs) rest e)
 
 marks-sync : (margin u v w : Float) (xs rest : List Float) → isNear margin u v ≡ true
@@ -40,7 +42,8 @@ marks-sync margin u v w (x ∷ xs) rest e =
     ∙ after-sync margin x u v w xs rest e
 
 -- values j and j + 1 are near, and there is a value j + 2
-pub marks-from : (margin : Float) (values : List Float) (j : ℕ) → suc (suc j) < length values → isNear margin (getD values j nan) (getD values (suc j) nan) ≡ true
+pub marks-from : (margin : Float) (values : List Float) (j : ℕ) → suc (suc j) < length values
+    → isNear margin (getD values j nan) (getD values (suc j) nan) ≡ true
     → drop (suc j) (intervalMarks margin values) ≡ marksAfter margin true (getD values j nan) (drop (suc j) values)
 marks-from margin values j h e =
     (λ i. drop (suc (size i)) (intervalMarks margin (whole i)))

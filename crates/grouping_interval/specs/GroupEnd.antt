@@ -1,6 +1,5 @@
--- Where the group that starts at a position ends. Document 01, interval_grouping.rs: "A group takes note s unseen; then, for i = s + 1 while i < last:
--- near(i, i + 1) takes i; otherwise the group ends, taking i too only if value(i + 1) > value(i) + 5.0. At the last note, it is taken if there are more than
--- two notes and it is near the one before." The law that ties it to the marks is `marks-at`, in proofs/GroupLaws.antt.
+-- Where the group that starts at a position ends (01, interval_grouping.rs), for the walk from group to group.
+-- The law that ties it to the marks is `marks-at`, in proofs/GroupLaws.antt.
 use Prim.Native.Nat.{ℕ, suc, _+_, _-_}
 use mathlib.Core.Bool.{Bool, cond, _&&_}
 use mathlib.Core.List.{List, [], _∷_}
@@ -8,14 +7,16 @@ use lib.Dec.{ltb}
 use lib.ListN.{length, drop, getD}
 use lib.Ieee.{Float, nan}
 use Rattle.numeric.specs.Near.{isNear}
-use Rattle.grouping_interval.specs.IntervalGrouping.{rises, marksAfter}
+use Rattle.grouping_interval.specs.IntervalGrouping.{isRise, marksAfter}
 
--- how many more values a group takes of those behind `last`, which it took. `many` says that there are more than two values in all.
+-- how many more values a group takes of those behind `last`, which it took.
+-- `many` says that there are more than two values in all.
 unfoldable pub grow : Float → Bool → Float → List Float → ℕ
-unfolding rises
+unfolding isRise
 grow margin many last [] = 0
 grow margin many last (v ∷ []) = cond (many && isNear margin v last) 1 0
-grow margin many last (v ∷ w ∷ rest) = cond (isNear margin v w) (suc (grow margin many v (w ∷ rest))) (cond (rises margin v w) 1 0)
+grow margin many last (v ∷ w ∷ rest) =
+    cond (isNear margin v w) (suc (grow margin many v (w ∷ rest))) (cond (isRise margin v w) 1 0)
 
 -- the position after the group that took the value just before position i
 unfoldable pub endAfter : Float → List Float → ℕ → ℕ

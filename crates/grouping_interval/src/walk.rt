@@ -17,7 +17,8 @@ pub fn new<'a>(values: &'a [f64]) -> IntervalWalk<'a>
 
 // The walk past its next group, which lies from the position before to the position after.
 pub fn step<'a>(w: IntervalWalk<'a>, margin: f64) -> IntervalWalk<'a>
-    ensures { λ q. ⌜ (q .values ≡ w .entry .values) × (q .at ≡ groupEnd margin (now (w .entry .values)) (w .entry .at)) ⌝ }
+    ensures { λ q. ⌜ (q .values ≡ w .entry .values)
+        × (q .at ≡ groupEnd margin (now (w .entry .values)) (w .entry .at)) ⌝ }
 {
     let at = group_end(w.values, margin, w.at);
     IntervalWalk {

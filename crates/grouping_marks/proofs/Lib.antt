@@ -12,4 +12,5 @@ pub mod TableLaws
 pub mod CutLaws
 pub mod NumberLaws
 pub mod SplitLaws
+pub mod FirstLaws
 mod PassLaws

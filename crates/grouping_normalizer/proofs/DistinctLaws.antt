@@ -1,5 +1,5 @@
--- Distinct values, of an ordered list: lengths, and the loop of `distinct_values`. Its invariant: the first k + 1 places have what is kept of the values before i,
--- places past them are as they were, and what is to come follows from the last value kept and the values from i on.
+-- Distinct values, of an ordered list: lengths, and the loop of `distinct_values`. Its invariant: the first k + 1 places have what is kept of the values before
+-- i, places past them are as they were, and what is to come follows from the last value kept and the values from i on.
 use mathlib.Core.Path.{_≡_, refl, sym, ap, _∙_, subst}
 use mathlib.Core.Bool.{Bool, true, false, cond}
 use mathlib.Core.List.{List, [], _∷_, _++_}
@@ -46,7 +46,7 @@ long-as old e = ap length e ∙ length-ordered old
 
 -- ---- cases
 
-alike-same : {x y : Float} → Number x → Number y → alike x y ≡ true → x ≡ y
+pub alike-same : {x y : Float} → Number x → Number y → alike x y ≡ true → x ≡ y
 unfolding alike
 alike-same {x} {y} p q e =
     let t : T (alike x y) = subst T (sym e) tt in
@@ -196,7 +196,10 @@ few-left xs h = few xs h ∙ ap (λ (z : List Float). over (unrepeated z) z) (sy
 -- no values at all
 pub distinct-none : (s old : List Float) → length s ≡ 0 → s ≡ ordered old → Distinct old s 0
 unfolding distinct unrepeated
-distinct-none [] old h e = record { values = over-pieces [] [] 0 refl ∙ ap (λ (z : List Float). over (unrepeated z) z) e; count = ap (λ (z : List Float). length (unrepeated z)) e }
+distinct-none [] old h e = record {
+  values = over-pieces [] [] 0 refl ∙ ap (λ (z : List Float). over (unrepeated z) z) e;
+  count = ap (λ (z : List Float). length (unrepeated z)) e;
+}
 distinct-none (x ∷ s) old h e = absurd (omega arith)
 
 -- ---- what is left in a lent slice

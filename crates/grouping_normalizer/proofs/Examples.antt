@@ -28,9 +28,9 @@ record Example : Type 0 where
 
 examples : List Example
 examples =
-    -- "100, 105 normalise to 102.5"
+    -- one set of two: half their sum
     record { deltas = whole 100 ∷ whole 105 ∷ []; normal = 0x4059_a000_0000_0000 ∷ 0x4059_a000_0000_0000 ∷ [] }
-    -- "100, 103, 107 to 101.5, 101.5, 107": 107 is near 103, and not near the set's first value
+    -- two sets: 107 is near 103, and not near the set's first value
     ∷ record { deltas = whole 100 ∷ whole 103 ∷ whole 107 ∷ []; normal = 0x4059_6000_0000_0000 ∷ 0x4059_6000_0000_0000 ∷ 0x405a_c000_0000_0000 ∷ [] }
     -- the notes keep their places, and a repeated delta counts once: 102.5 three times
     ∷ record { deltas = whole 105 ∷ whole 100 ∷ whole 105 ∷ []; normal = 0x4059_a000_0000_0000 ∷ 0x4059_a000_0000_0000 ∷ 0x4059_a000_0000_0000 ∷ [] }
@@ -46,7 +46,7 @@ examples-right : map (λ (e : Example). bits (normalized margin (e .deltas))) ex
 unfolding examples margin whole bits normalized normalOf middleOf middle holds sets setsAfter distinct unrepeated alike ordered insert totalOrder isNear absOf add sub div le lt eq ofInt toBits round
 examples-right = refl
 
--- 102.5, "whole 102": the even one of two as near
+-- 102.5 is as near to 102 as to 103: the even one
 whole-right : toBits binary64 (roundTiesEven (ofBits binary64 0x4059_a000_0000_0000)) ≡ 0x4059_8000_0000_0000
 unfolding roundTiesEven ofBits toBits round
 whole-right = refl

@@ -13,7 +13,7 @@ use borrow.Author.Tests.{eq-eqb, ne-eqb}
 use Rattle.numeric.specs.Near.{isNear}
 use Rattle.numeric.specs.TotalOrder.{totalOrder}
 use Rattle.grouping_normalizer.specs.Normalizer.{alike, holds, middle, middleOf, setsAfter, sets}
-use Rattle.grouping_normalizer.specs.Sets.{running, setEnd, SetEnd}
+use Rattle.grouping_normalizer.specs.passes.Sets.{running, setEnd, SetEnd}
 
 -- ---- cases of the definitions
 
@@ -89,7 +89,8 @@ pub record Seeking (values : List Float) (x : Float) (i : ℕ) : Type 0 where
   pub upto : i ≤ length values
   pub same : holds x (drop i values) ≡ holds x values
 
-holds-at : (values : List Float) (x : Float) (i : ℕ) (t : Bool) → i < length values → alike x (getD values i nan) ≡ t → holds x (drop i values) ≡ (t || holds x (drop (i + 1) values))
+holds-at : (values : List Float) (x : Float) (i : ℕ) (t : Bool) → i < length values → alike x (getD values i nan) ≡ t
+    → holds x (drop i values) ≡ (t || holds x (drop (i + 1) values))
 unfolding holds
 holds-at values x i t h e = rw (drop-cons values i nan h, e, add-one)
 
@@ -130,7 +131,9 @@ module _ (margin : Float) (values : List Float) (at : ℕ) (h : at < length valu
       ap (sets margin) d
       ∙ sets-after margin v (v ∷ []) (drop (at + 1) values)
       ∙ ap (λ (l : List Float). (v ∷ take k (drop (at + 1) values)) ∷ sets margin l) (drop-drop k (at + 1) values)
-      ∙ sym (ap (λ (n : ℕ). take n (drop at values) ∷ sets margin (drop (at + 1 + k) values)) m ∙ ap (λ (l : List Float). take (suc k) l ∷ sets margin (drop (at + 1 + k) values)) d)
+      ∙ sym
+      (ap (λ (n : ℕ). take n (drop at values) ∷ sets margin (drop (at + 1 + k) values)) m
+      ∙ ap (λ (l : List Float). take (suc k) l ∷ sets margin (drop (at + 1 + k) values)) d)
 
 -- the loop of `middle_of`: no set before `at` holds x
 pub record Looking (margin : Float) (values : List Float) (x : Float) (at : ℕ) : Type 0 where
@@ -147,7 +150,8 @@ module _ {margin : Float} {values : List Float} {x : Float} {at : ℕ} (s : Look
         → cond t (middle (take (end - at) (drop at values))) (middleOf x (sets margin (drop end values))) ≡ middleOf x (sets margin values)
     unfolding middleOf
     here t f =
-        let g : sets margin (drop at values) ≡ take (end - at) (drop at values) ∷ sets margin (drop end values) = rw (e .position) (sets-at margin values at h) in
+        let g : sets margin (drop at values) ≡ take (end - at) (drop at values) ∷ sets margin (drop end values) =
+        rw (e .position) (sets-at margin values at h) in
         ap (λ (b : Bool). cond b (middle (take (end - at) (drop at values))) (middleOf x (sets margin (drop end values)))) f ∙ ap (middleOf x) (sym g) ∙ s .same
 
     pub looking-found : (t : Bool) → t ≡ holds x (take (end - at) (drop at values)) → t ≡ true

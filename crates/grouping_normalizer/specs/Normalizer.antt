@@ -1,5 +1,6 @@
--- Document 01, delta_time_normalizer.rs: "Over one group's notes: distinct deltas in total order (−0 before +0); a set runs while within 5.0 of its first value;
--- each value maps to the middle one, or to (lower + upper) / 2.0." The 5.0 is a parameter, the margin.
+-- What each delta of one group counts as (01, delta_time_normalizer.rs). The deltas that differ are put in order and
+-- cut into sets, each of those near its first value; a delta counts as the middle of its set. What is near is told by a
+-- margin, 5.0 in every call.
 use Prim.Native.Nat.{ℕ, _-_, _/_, _%_}
 use mathlib.Core.Path.{_≡_}
 use mathlib.Core.Bool.{Bool, false, cond, _&&_, _||_}
@@ -23,15 +24,16 @@ unrepeated [] = []
 unrepeated (x ∷ []) = x ∷ []
 unrepeated (x ∷ y ∷ ys) = cond (alike x y) (unrepeated (y ∷ ys)) (x ∷ unrepeated (y ∷ ys))
 
--- "distinct deltas in total order"
+-- each value once, in total order
 unfoldable pub distinct : List Float → List Float
 distinct deltas = unrepeated (ordered deltas)
 
--- the sets of the values that follow, where the open set has the first value `first` and is `set` so far: "a set runs while within 5.0 of its first value"
+-- the sets of the values that follow, where the open set is `set` so far and its first value is `first`
 unfoldable pub setsAfter : Float → Float → List Float → List Float → List (List Float)
 setsAfter margin first set [] = set ∷ []
 setsAfter margin first set (v ∷ values) =
-    cond (isNear margin v first) (setsAfter margin first (set ++ (v ∷ [])) values) (set ∷ setsAfter margin v (v ∷ []) values)
+    cond (isNear margin v first) (setsAfter margin first (set ++ (v ∷ [])) values)
+    (set ∷ setsAfter margin v (v ∷ []) values)
 
 unfoldable pub sets : Float → List Float → List (List Float)
 sets margin [] = []
@@ -41,7 +43,7 @@ unfoldable pub holds : Float → List Float → Bool
 holds x [] = false
 holds x (v ∷ values) = alike x v || holds x values
 
--- "the middle one, or (lower + upper) / 2.0"
+-- the middle value; of an even number of them half the sum of the middle two
 unfoldable pub middle : List Float → Float
 middle set =
     cond (eqb (length set % 2) 1) (getD set (length set / 2) nan)

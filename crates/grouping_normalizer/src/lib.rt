@@ -4,7 +4,7 @@ ghost use Prim.Native.Nat.{_<_};
 ghost use lib.ListN.{length};
 ghost use Rattle.grouping_sort.specs.Ordered.{AllFinite};
 ghost use Rattle.grouping_normalizer.specs.Normalizer.{alike, holds, middle, middleOf, sets, Distinct, NormalOf};
-ghost use Rattle.grouping_normalizer.specs.Sets.{SetEnd};
+ghost use Rattle.grouping_normalizer.specs.passes.Sets.{SetEnd};
 use numeric::near::near;
 use numeric::order::total_order;
 

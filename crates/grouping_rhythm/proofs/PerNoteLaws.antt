@@ -8,7 +8,7 @@ use lib.ListN.{length, getD}
 use lib.Seq.{ext-getD}
 use Rattle.grouping_marks.proofs.FillLaws.{length-tabulate, getD-tabulate}
 use Rattle.grouping_chart.specs.Object.{isNote, notes, noteIdx}
-use Rattle.grouping_chart.proofs.NoteLaws.{length-note-objects, note-within}
+use Rattle.grouping_interval.proofs.NoteLaws.{length-note-objects, note-within}
 use Rattle.grouping_rhythm.specs.Rhythm.{perNote}
 
 -- a note's number is below the number of notes

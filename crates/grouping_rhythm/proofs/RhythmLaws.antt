@@ -9,7 +9,7 @@ use lib.Ieee.{Float}
 use Rattle.grouping_marks.specs.Marks.{groupNumbers}
 use Rattle.grouping_marks.proofs.PieceLaws.{getD-over}
 use Rattle.grouping_chart.specs.Object.{isNote, noteIdx}
-use Rattle.grouping_chart.specs.Notes.{noteDeltas}
+use Rattle.grouping_interval.specs.Notes.{ofNotes}
 use Rattle.grouping_chart.specs.Chart.{Chart, size}
 use Rattle.grouping_chart.specs.Lent.{Outcome, outcome}
 use Rattle.grouping_chart.specs.Settings.{Settings}
@@ -54,7 +54,7 @@ module _ (s : Settings) (c : Chart) (m : Memory) where
 
   -- what an accepted call writes for an object that is a note: the group of its note, by the notes' deltas
   pub group-written : judged c m ≡ Accepted → (o : ℕ) → o < size c → isNote (getD (c .kinds) o 0) ≡ true
-      → getD (rhythmOutcome s c m .memory .group) o 0 ≡ getD (groupNumbers (intervalMarks (s .margin) (noteDeltas (c .kinds) (c .deltas)))) (noteIdx (c .kinds) o) 0
+      → getD (rhythmOutcome s c m .memory .group) o 0 ≡ getD (groupNumbers (intervalMarks (s .margin) (ofNotes (c .kinds) (c .deltas)))) (noteIdx (c .kinds) o) 0
   unfolding filled groupOf noteGroup
   group-written h o l n =
       ap (λ (n : Memory). getD (n .group) o 0) (sym (left h))

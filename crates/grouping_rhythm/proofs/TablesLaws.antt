@@ -13,12 +13,12 @@ use Rattle.grouping_marks.proofs.OverLaws.{length-over, front, drop-over, put-f
 use Rattle.grouping_marks.proofs.MarksLaws.{count-le, length-numbers}
 use Rattle.grouping_marks.proofs.PartedLaws.{length-parted}
 use Rattle.grouping_chart.specs.Object.{notes}
-use Rattle.grouping_chart.specs.Notes.{noteObjects, noteDeltas}
+use Rattle.grouping_interval.specs.Notes.{noteObjects, ofNotes}
 use Rattle.grouping_chart.proofs.ObjectLaws.{notes-few}
-use Rattle.grouping_chart.proofs.NoteLaws.{length-note-objects, length-note-deltas, object-below}
+use Rattle.grouping_interval.proofs.NoteLaws.{length-note-objects, length-of-notes, object-below}
 use Rattle.grouping_interval.specs.IntervalGrouping.{intervalMarks}
 use Rattle.grouping_interval.proofs.IntervalLaws.{length-marks}
-use Rattle.grouping_notes.specs.Notes.{NotesListed}
+use Rattle.grouping_interval.specs.Notes.{NotesListed}
 use Rattle.grouping_same_rhythm.specs.SameRhythm.{firstsOf, startsOf, intervalsOf, rhythmMarks, groupObjects, groupIntervals}
 use Rattle.grouping_same_rhythm.proofs.MadeLaws.{rhythmMarks-made, groupObjects-made, groupIntervals-made}
 use Rattle.grouping_same_rhythm.proofs.GroupsLaws.{length-starts, length-intervals, length-firsts, firsts-inside}
@@ -30,7 +30,7 @@ use Rattle.grouping_rhythm.proofs.RegionLaws.{length-group-numbers}
 
 module _ (margin : Float) (kinds : List ℕ) (deltas : List Float) (e : length deltas ≡ length kinds) where
   pub length-rhythm-marks : length (rhythmMarks margin kinds deltas) ≡ length (notes kinds)
-  length-rhythm-marks = ap length (rhythmMarks-made margin kinds deltas) ∙ length-marks margin (noteDeltas kinds deltas) ∙ length-note-deltas kinds deltas e
+  length-rhythm-marks = ap length (rhythmMarks-made margin kinds deltas) ∙ length-marks margin (ofNotes kinds deltas) ∙ length-of-notes kinds deltas e
 
   -- at most as many groups as notes
   pub groups-few : groupsIn margin kinds deltas ≤ length (notes kinds)
@@ -38,7 +38,7 @@ module _ (margin : Float) (kinds : List ℕ) (deltas : List Float) (e : length d
   groups-few = omega (arith, count-le (rhythmMarks margin kinds deltas), length-rhythm-marks)
 
   -- by the notes' deltas
-  pub groups-counted : groupsIn margin kinds deltas ≡ groupCount (intervalMarks margin (noteDeltas kinds deltas))
+  pub groups-counted : groupsIn margin kinds deltas ≡ groupCount (intervalMarks margin (ofNotes kinds deltas))
   unfolding groupsIn
   groups-counted = ap groupCount (rhythmMarks-made margin kinds deltas)
 
@@ -67,7 +67,7 @@ pub record Noted (margin : Float) (kinds : List ℕ) (deltas : List Float) (work
   pub noted : m ≡ length (notes kinds)
   pub grouped : groups ≡ groupsIn margin kinds deltas
   pub memory : work ≡ put (2 * length kinds) (groupNumbers (rhythmMarks margin kinds deltas)) (put (length kinds) (firstsOf (groupObjects margin kinds deltas)) (put 0 (noteObjects kinds) work₀))
-  pub scratch-memory : scratch ≡ put 0 (noteDeltas kinds deltas) scratch₀
+  pub scratch-memory : scratch ≡ put 0 (ofNotes kinds deltas) scratch₀
   pub firsts : part (length kinds) groups work ≡ firstsOf (groupObjects margin kinds deltas)
   pub note-groups : part (2 * length kinds) m work ≡ groupNumbers (rhythmMarks margin kinds deltas)
   pub regions : length work ≡ length work₀
@@ -83,7 +83,7 @@ module _ {kinds : List ℕ} {starts deltas : List Float} {work₀ : List ℕ} {s
     floats-same : length scratch₁ ≡ length scratch₀
     floats-same =
         ap length (l .floats)
-        ∙ length-over (noteDeltas kinds deltas) scratch₀ (omega (arith, length-note-deltas kinds deltas (r .whole), notes-few kinds, r .floats))
+        ∙ length-over (ofNotes kinds deltas) scratch₀ (omega (arith, length-of-notes kinds deltas (r .whole), notes-few kinds, r .floats))
 
     work-same : length work₁ ≡ length work₀
     work-same = ap length (l .numbers) ∙ length-over (noteObjects kinds) work₀ (omega (arith, length-note-objects kinds, notes-few kinds, r .regions))
@@ -91,8 +91,8 @@ module _ {kinds : List ℕ} {starts deltas : List Float} {work₀ : List ℕ} {s
     pub notes-lent : m ≤ length scratch₁
     notes-lent = omega (arith, noted-count, notes-few kinds, floats-same, r .floats)
 
-    values-are : take m scratch₁ ≡ noteDeltas kinds deltas
-    values-are = ap (take m) (l .floats) ∙ front (noteDeltas kinds deltas) scratch₀ m (length-note-deltas kinds deltas (r .whole) ∙ sym noted-count)
+    values-are : take m scratch₁ ≡ ofNotes kinds deltas
+    values-are = ap (take m) (l .floats) ∙ front (ofNotes kinds deltas) scratch₀ m (length-of-notes kinds deltas (r .whole) ∙ sym noted-count)
 
     objects-are : (k : ℕ) → k ≡ m → take k work₁ ≡ noteObjects kinds
     objects-are k e = ap (take k) (l .numbers) ∙ front (noteObjects kinds) work₀ k (sym (l .count) ∙ sym e)
@@ -129,7 +129,7 @@ module _ {kinds : List ℕ} {starts deltas : List Float} {work₀ : List ℕ} {s
           noted = noted-count;
           grouped = c;
           memory = w ∙ ap (λ (l : List ℕ). put (2 * n) numbers (put n firsts l)) (l .numbers ∙ sym (put-front (noteObjects kinds) work₀));
-          scratch-memory = l .floats ∙ sym (put-front (noteDeltas kinds deltas) scratch₀);
+          scratch-memory = l .floats ∙ sym (put-front (ofNotes kinds deltas) scratch₀);
           firsts = ap (part n groups) w ∙ part-put-before n groups (2 * n) numbers mid (omega arith) (omega arith) ∙ part-put-same n groups firsts work₁ lf (omega arith);
           note-groups = ap (part (2 * n) m) w ∙ part-put-same (2 * n) m numbers mid ln (omega arith);
           regions = ap length w ∙ length-put (2 * n) numbers mid (omega arith) ∙ same ∙ work-same;
@@ -141,7 +141,7 @@ module _ {kinds : List ℕ} {starts deltas : List Float} {work₀ : List ℕ} {s
               ∙ ap (drop (8 * n)) (l .numbers)
               ∙ drop-over (noteObjects kinds) work₀ (8 * n) (omega (arith, l .count));
           past-floats =
-              ap (drop n) (l .floats) ∙ drop-over (noteDeltas kinds deltas) scratch₀ n (omega (arith, length-note-deltas kinds deltas (r .whole), notes-few kinds));
+              ap (drop n) (l .floats) ∙ drop-over (ofNotes kinds deltas) scratch₀ n (omega (arith, length-of-notes kinds deltas (r .whole), notes-few kinds));
         }
 
   -- ---- the groups numbered

@@ -9,7 +9,7 @@ use Rattle.grouping_marks.specs.Scan.{gathered}
 use Rattle.grouping_marks.specs.Marks.{groupCount, groupNumbers}
 use Rattle.grouping_marks.specs.Parted.{parted}
 use Rattle.grouping_chart.specs.Object.{notes}
-use Rattle.grouping_chart.specs.Notes.{noteObjects, noteDeltas}
+use Rattle.grouping_interval.specs.Notes.{noteObjects, ofNotes}
 use Rattle.grouping_interval.specs.IntervalGrouping.{intervalMarks}
 use Rattle.grouping_same_rhythm.specs.SameRhythm.{firstsOf, startsOf, intervalsOf, rhythmMarks, groupObjects, groupIntervals}
 use Rattle.grouping_rhythm.specs.Rhythm.{perNote, groupOf, patternGroupOf, groupsIn, patternGroupsIn}
@@ -57,7 +57,7 @@ workWrites margin kinds starts deltas =
 
 -- in the scratch slice the notes' deltas, and over them the groups' intervals
 unfoldable pub scratchWrites : Float → List ℕ → List Float → List Float → List (Write Float)
-scratchWrites margin kinds starts deltas = write 0 (noteDeltas kinds deltas) ∷ write 0 (groupIntervals margin kinds starts deltas) ∷ []
+scratchWrites margin kinds starts deltas = write 0 (ofNotes kinds deltas) ∷ write 0 (groupIntervals margin kinds starts deltas) ∷ []
 
 -- what the tables' passes leave, and of it what is read: each note's group in region 2, each group's pattern in region 3; nothing is written past the regions
 pub record Tabled (margin : Float) (kinds : List ℕ) (starts deltas : List Float) (work₀ work : List ℕ) (scratch₀ scratch : List Float) (r : Counts) : Type 0 where

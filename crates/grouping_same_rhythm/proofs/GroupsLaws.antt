@@ -21,7 +21,7 @@ use Rattle.grouping_interval.specs.GroupEnd.{groupEnd, marksFrom}
 use Rattle.grouping_interval.proofs.IntervalLaws.{length-marks}
 use Rattle.grouping_interval.proofs.EndLaws.{end-after, marks-all, parted-end, parted-past}
 use Rattle.grouping_same_rhythm.specs.SameRhythm.{firstsOf, startsOf, between, intervalsAfter, intervalsOf}
-use Rattle.grouping_same_rhythm.specs.Passes.{FirstsRoom, FirstsListed}
+use Rattle.grouping_same_rhythm.specs.passes.Groups.{FirstsRoom, FirstsListed}
 
 -- ---- the intervals
 
@@ -68,7 +68,8 @@ module _ (margin : Float) (starts : List Float) (objects : List ℕ) where
 
   -- and a later one's, by the starts of the first objects there and before
   pub interval-later : (k : ℕ) → k < length objects → (k ≡ 0 → ⊥)
-      → getD (intervalsOf margin (startsOf starts objects)) k nan ≡ between margin (getD starts (getD objects (k - 1) 0) nan) (getD starts (getD objects k 0) nan)
+      → getD (intervalsOf margin (startsOf starts objects)) k nan
+      ≡ between margin (getD starts (getD objects (k - 1) 0) nan) (getD starts (getD objects k 0) nan)
   interval-later zero h e = absurd (e refl)
   interval-later (suc k) h e =
       let b : suc k - 1 ≡ k = omega arith in
@@ -102,7 +103,8 @@ firsts margin deltas w = firstsOf (parted (intervalMarks margin deltas) (take (l
 pub record Listed (margin : Float) (deltas : List Float) (w₀ w : List ℕ) (to k at : ℕ) : Type 0 where
   pub room : FirstsRoom deltas w₀ to
   pub fill : Fill (firsts margin deltas w₀) (groupCount (intervalMarks margin deltas)) to w₀ w k
-  pub left : drop k (firsts margin deltas w₀) ≡ firstsOf (parted (marksFrom margin (ltb 2 (length deltas)) (drop at deltas)) (drop at (take (length deltas) w₀)))
+  pub left : drop k (firsts margin deltas w₀)
+      ≡ firstsOf (parted (marksFrom margin (ltb 2 (length deltas)) (drop at deltas)) (drop at (take (length deltas) w₀)))
   pub few : k ≤ at
 
 pub listed-start : (margin : Float) (deltas : List Float) (w : List ℕ) (to : ℕ) → FirstsRoom deltas w to → Listed margin deltas w w to 0 0
@@ -155,10 +157,12 @@ module _ {margin : Float} {deltas : List Float} {w₀ w : List ℕ} {to k at : �
 
   pub listed-end : length deltas ≤ at → FirstsListed margin deltas w₀ w to k
   listed-end h =
+      let many = ltb 2 (length deltas) in
+      let rest = drop at (take (length deltas) w₀) in
       let none : drop k (firsts margin deltas w₀) ≡ [] =
       x .left
-      ∙ ap (λ (ds : List Float). firstsOf (parted (marksFrom margin (ltb 2 (length deltas)) ds) (drop at (take (length deltas) w₀)))) (drop-of-length-le deltas h)
-      ∙ ap firstsOf (parted-past margin (ltb 2 (length deltas)) (drop at (take (length deltas) w₀)))
+      ∙ ap (λ (ds : List Float). firstsOf (parted (marksFrom margin many ds) rest)) (drop-of-length-le deltas h)
+      ∙ ap firstsOf (parted-past margin many rest)
       ∙ firsts-none in
       let l : groupCount (intervalMarks margin deltas) ≤ k = omega (arith, length-drop k (firsts margin deltas w₀), ap length none, x .fill .size) in
       record { objects = fill-end (x .fill) l; count = omega (arith, x .fill .upto) }

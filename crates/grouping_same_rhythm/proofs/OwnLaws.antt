@@ -14,7 +14,7 @@ use Rattle.grouping_normalizer.proofs.DistinctLaws.{few-left}
 use Rattle.grouping_same_rhythm.specs.declared.own.Own.{Own}
 use Rattle.grouping_same_rhythm.specs.declared.own.Own.the-variants.{Absent, Millis}
 use Rattle.grouping_same_rhythm.specs.Own.{modalDelta, snapped, ratioOf}
-use Rattle.grouping_same_rhythm.specs.Passes.{settled, Modal}
+use Rattle.grouping_same_rhythm.specs.passes.Owns.{settled, Modal}
 
 -- ---- found
 
@@ -48,7 +48,8 @@ module _ (margin : Float) (own previous : Own) where
   snap-first x p q = sym (ap (λ (o : Own). snapped margin o previous) p ∙ ap (snapped margin (Millis x)) q)
 
   -- by what the test found
-  pub snap-both : (x y : Float) (b : Bool) → own ≡ Millis x → previous ≡ Millis y → isNear margin x y ≡ b → cond b (Millis y) (Millis x) ≡ snapped margin own previous
+  pub snap-both : (x y : Float) (b : Bool) → own ≡ Millis x → previous ≡ Millis y → isNear margin x y ≡ b
+      → cond b (Millis y) (Millis x) ≡ snapped margin own previous
   unfolding snapped
   snap-both x y b p q e =
       sym (ap (λ (o : Own). snapped margin o previous) p ∙ ap (snapped margin (Millis x)) q ∙ ap (λ (t : Bool). cond t (Millis y) (Millis x)) e)

@@ -7,11 +7,12 @@ use native.Mathlib.Omega.{arith}
 use lib.ListN.{drop, getD}
 use lib.Seq.{drop-drop, getD-drop}
 use lib.Ieee.{Float}
+use Rattle.grouping_same_rhythm.specs.passes.Owns.{recentWith}
 use Rattle.grouping_same_rhythm.specs.declared.own.Own.{Own}
 use Rattle.grouping_same_rhythm.specs.declared.own.Own.the-variants.{Absent}
 use Rattle.grouping_same_rhythm.specs.declared.owns.Recent.{Recent}
 use Rattle.grouping_same_rhythm.specs.Own.{modalDelta, snapped, ownsAfter, ownsOf}
-use Rattle.grouping_same_rhythm.specs.Passes.{ownBefore, recentOf}
+use Rattle.grouping_same_rhythm.specs.Own.{ownBefore, recentOf}
 
 -- the own intervals of the four groups before group k
 unfoldable pub recentBefore : List Own → ℕ → Recent
@@ -27,25 +28,29 @@ pub known-start : (margin : Float) (groups : List (List Float))
 unfolding recentBefore ownBefore ownsOf
 known-start margin groups = record { four = refl; next = refl }
 
-pub known-turn : {margin : Float} {owns : List Own} {k : ℕ} {recent : Recent} {group : List Float} {groups : List (List Float)} → Known margin owns k recent (group ∷ groups)
-    → (own : Own) → own ≡ modalDelta margin group → (new : Recent)
-    → new ≡ record { newest = snapped margin own (recent .newest); second = recent .newest; third = recent .second; fourth = recent .third }
-    → Known margin owns (suc k) new groups
+pub known-turn : {margin : Float} {owns : List Own} {k : ℕ} {recent : Recent} {group : List Float} {groups : List (List Float)}
+    → Known margin owns k recent (group ∷ groups) → (own : Own) → own ≡ modalDelta margin group
+    → (new : Recent) → new ≡ recentWith (snapped margin own (recent .newest)) recent → Known margin owns (suc k) new groups
 unfolding recentBefore ownBefore ownsAfter
 known-turn {margin} {owns} {k} {recent} {group} {groups} x own m new e =
-    by (snapped margin own (recent .newest)) (x .next ∙ ap (λ (p : Own). snapped margin p (recent .newest) ∷ ownsAfter margin (snapped margin p (recent .newest)) groups) (sym m)) e
+    let first : Own → List Own = λ p. snapped margin p (recent .newest) ∷ ownsAfter margin (snapped margin p (recent .newest)) groups in
+    by (snapped margin own (recent .newest)) (x .next ∙ ap first (sym m)) e
   where
-    by : (o : Own) → drop k owns ≡ o ∷ ownsAfter margin o groups → new ≡ record { newest = o; second = recent .newest; third = recent .second; fourth = recent .third }
-        → Known margin owns (suc k) new groups
+    by : (o : Own) → drop k owns ≡ o ∷ ownsAfter margin o groups → new ≡ recentWith o recent → Known margin owns (suc k) new groups
     by o d e =
         let z : k + 0 ≡ k = omega arith in
-        let n : o ≡ getD owns k Absent = sym (ap (λ (l : List Own). getD l 0 Absent) d) ∙ getD-drop k owns 0 Absent ∙ ap (λ (i : ℕ). getD owns i Absent) z in
+        let n : o ≡ getD owns k Absent =
+        sym (ap (λ (l : List Own). getD l 0 Absent) d) ∙ getD-drop k owns 0 Absent ∙ ap (λ (i : ℕ). getD owns i Absent) z in
         record {
-          four = e ∙ ap (λ (p : Own). record { newest = p; second = recent .newest; third = recent .second; fourth = recent .third }) n
-              ∙ ap (λ (q : Recent). record { newest = getD owns k Absent; second = q .newest; third = q .second; fourth = q .third }) (x .four);
-          next = ap (λ (i : ℕ). drop i owns) (sym (add-one k)) ∙ sym (drop-drop 1 k owns) ∙ ap (drop 1) d ∙ ap (λ (q : Recent). ownsAfter margin (q .newest) groups) (sym e);
+          four = e ∙ ap (λ (p : Own). recentWith p recent) n ∙ ap (λ (q : Recent). recentWith (getD owns k Absent) q) (x .four);
+          next =
+              ap (λ (i : ℕ). drop i owns) (sym (add-one k))
+              ∙ sym (drop-drop 1 k owns)
+              ∙ ap (drop 1) d
+              ∙ ap (λ (q : Recent). ownsAfter margin (q .newest) groups) (sym e);
         }
 
-pub known-end : {margin : Float} {owns : List Own} {g : ℕ} {recent : Recent} {groups : List (List Float)} → Known margin owns (suc g) recent groups → recent ≡ recentOf owns g
+pub known-end : {margin : Float} {owns : List Own} {g : ℕ} {recent : Recent} {groups : List (List Float)}
+    → Known margin owns (suc g) recent groups → recent ≡ recentOf owns g
 unfolding recentBefore recentOf ownBefore
 known-end x = x .four

@@ -19,7 +19,7 @@ use Rattle.grouping_same_rhythm.specs.declared.own.Own.{Own}
 use Rattle.grouping_same_rhythm.specs.declared.own.Own.the-variants.{Absent}
 use Rattle.grouping_same_rhythm.specs.declared.owns.Recent.{Recent}
 use Rattle.grouping_same_rhythm.specs.Own.{modalDelta, snapped, ownsOf}
-use Rattle.grouping_same_rhythm.specs.Passes.{settled, Modal, settledUpTo, GroupThere, ReachedIs}
+use Rattle.grouping_same_rhythm.specs.passes.Owns.{settled, Modal, settledUpTo, recentWith, GroupThere, ReachedIs}
 use Rattle.grouping_same_rhythm.proofs.OwnsLaws.{Known, known-start, known-turn, known-end}
 use Rattle.grouping_same_rhythm.proofs.OwnsWalk.{groupsFrom, groups-all, groups-next, as-they-are, Notes, Walk, walk-start, walk-open, walk-turn}
 
@@ -31,7 +31,8 @@ pub record Reaching (margin : Float) (deltas₀ deltas : List Float) (g : ℕ) (
   pub long : length deltas ≡ length deltas₀
   pub same : drop end deltas ≡ drop end deltas₀
   pub known : Known margin (ownsOf margin (parted (intervalMarks margin deltas₀) deltas₀)) k recent (groupsFrom margin deltas₀ deltas₀ end)
-  pub left : settledUpTo (suc g) (parted (intervalMarks margin deltas₀) deltas₀) ≡ take end deltas ++ settledUpTo (suc g - k) (groupsFrom margin deltas₀ deltas₀ end)
+  pub left : settledUpTo (suc g) (parted (intervalMarks margin deltas₀) deltas₀)
+      ≡ take end deltas ++ settledUpTo (suc g - k) (groupsFrom margin deltas₀ deltas₀ end)
 
 pub reaching-start : (margin : Float) (deltas : List Float) (g : ℕ) → GroupThere margin deltas g
     → Reaching margin deltas deltas g (record { newest = Absent; second = Absent; third = Absent; fourth = Absent }) 0 0 0
@@ -94,7 +95,7 @@ module _ {margin : Float} {deltas₀ deltas : List Float} {g : ℕ} {recent : Re
   -- it is put in order
   pub reaching-turn : k ≤ g → (new : ℕ) → new ≡ groupEnd margin deltas end
       → (group : List Float) (own : Own) → Modal margin (take (new - end) (drop end deltas)) group own
-      → (newest : Recent) → newest ≡ record { newest = snapped margin own (recent .newest); second = recent .newest; third = recent .second; fourth = recent .third }
+      → (newest : Recent) → newest ≡ recentWith (snapped margin own (recent .newest)) recent
       → length group ≡ length (take (new - end) (drop end deltas))
       → Reaching margin deltas₀ (putMid end (new - end) deltas group) g newest end new (suc k)
   unfolding settledUpTo

@@ -17,7 +17,7 @@ use Rattle.grouping_marks.proofs.PieceLaws.{part-pieces, part-rest}
 use Rattle.grouping_interval.specs.IntervalGrouping.{intervalMarks}
 use Rattle.grouping_interval.specs.GroupEnd.{groupEnd, marksFrom}
 use Rattle.grouping_interval.proofs.EndLaws.{end-after, end-within, marks-all, parted-end, parted-past, count-from, count-past}
-use Rattle.grouping_same_rhythm.specs.Passes.{settledUpTo}
+use Rattle.grouping_same_rhythm.specs.passes.Owns.{settledUpTo}
 
 -- ---- the groups from a position on
 

@@ -1,23 +1,20 @@
 -- The pattern of a group: a pattern's interval, and the walk over the patterns' ends up to the pattern that holds the group.
 -- Its invariant: the walk stands at pattern `number`, which starts at `at`, and where there is a pattern before, it lies from `before` to `at`.
 use mathlib.Core.Path.{_≡_, refl, sym, ap, _∙_, subst}
-use mathlib.Core.List.{List, [], _∷_, _++_}
+use mathlib.Core.List.{List, [], _∷_}
 use Prim.Native.Nat.{ℕ, zero, suc, _+_, _-_, _≤_, _<_}
 use native.Mathlib.Omega.{arith}
 use lib.Dec.{ltb}
-use lib.ListN.{length, take, drop, getD, replicate, length-replicate, getD-replicate, take-append-drop}
-use lib.Seq.{length-take-le, drop-drop, getD-drop}
+use lib.ListN.{length, take, drop, getD}
+use lib.Seq.{drop-drop, getD-drop}
 use lib.Ieee.{Float, nan, binary64, div}
 use Rattle.numeric.specs.Constants.{one64}
-use Rattle.grouping_marks.specs.Over.{over, put, part}
-use Rattle.grouping_marks.specs.Marks.{groupNumbers}
+use Rattle.grouping_marks.specs.Over.{part}
 use Rattle.grouping_marks.specs.Parted.{parted}
-use Rattle.grouping_marks.proofs.OverLaws.{front, drop-over, length-part, getD-part, part-put-same, put-front, lent-part}
-use Rattle.grouping_marks.proofs.MarksLaws.{length-numbers}
+use Rattle.grouping_marks.proofs.OverLaws.{length-part, getD-part, lent-part}
 use Rattle.grouping_interval.specs.IntervalGrouping.{intervalMarks}
 use Rattle.grouping_interval.specs.GroupEnd.{groupEnd, marksFrom}
-use Rattle.grouping_interval.proofs.IntervalLaws.{length-marks}
-use Rattle.grouping_interval.proofs.NumberLaws.{Walked, walked-start, walked-group}
+use Rattle.grouping_interval.proofs.NumberLaws.{Numbering, numbering-start, numbering-next, numbering-here}
 use Rattle.grouping_interval.proofs.EndLaws.{end-after, end-within, marks-all, parted-end}
 use Rattle.grouping_same_rhythm.specs.SamePatterns.{patternInterval, patternRatio, patternNumber, patternOf}
 use Rattle.grouping_same_rhythm.specs.declared.patterns.Pattern.{Pattern}
@@ -52,65 +49,6 @@ module _ (intervals : List Float) (at end : ℕ) (h : at < end) (u : end ≤ len
       ∙ sym (getD-part at (end - at) intervals 0 nan (omega arith))
       ∙ interval-only (part at (end - at) intervals) (omega (arith, long))
 
--- ---- the groups' numbers
-
--- each group's pattern number
-abbrev numbers : Float → List Float → List ℕ
-numbers margin intervals = groupNumbers (intervalMarks margin intervals)
-
--- the walk that numbers the groups, over the numbers themselves: it changes nothing
-abbrev Numbered : Float → List Float → ℕ → ℕ → Type 0
-Numbered margin intervals number at = Walked margin intervals (numbers margin intervals) (numbers margin intervals) (length intervals) number at
-
-long-numbers : (margin : Float) (intervals : List Float) → length (numbers margin intervals) ≡ length intervals
-long-numbers margin intervals = length-numbers (intervalMarks margin intervals) ∙ length-marks margin intervals
-
-numbered-start : (margin : Float) (intervals : List Float) → Numbered margin intervals 0 0
-numbered-start margin intervals = walked-start margin intervals (numbers margin intervals) (length intervals) refl (omega (arith, long-numbers margin intervals))
-
--- a list's own front written over it
-over-same : {A : Type 0} (i : ℕ) (l : List A) → i ≤ length l → over (take i l) l ≡ l
-over-same {A} i l h =
-    let k : length (take i l) ≡ i = length-take-le i l h in
-    sym (take-append-drop i (over (take i l) l))
-    ∙ ap (λ (f : List A). f ++ drop i (over (take i l) l)) (front (take i l) l i k)
-    ∙ ap (λ (r : List A). take i l ++ r) (drop-over (take i l) l i (omega arith))
-    ∙ take-append-drop i l
-
-module _ {margin : Float} {intervals : List Float} {number at : ℕ} (x : Numbered margin intervals number at) (h : at < length intervals) (end : ℕ)
-    (e : end ≡ groupEnd margin intervals at) where
-  -- the numbers after the walk went over one pattern more
-  new : List ℕ
-  new = put at (replicate (end - at) number) (numbers margin intervals)
-
-  walked : Walked margin intervals (numbers margin intervals) new (length intervals) (number + 1) end
-  unfolding new
-  walked = walked-group x h end e new refl
-
-  unchanged : new ≡ numbers margin intervals
-  unchanged =
-      walked .fill .written
-      ∙ put-front (take end (numbers margin intervals)) (numbers margin intervals)
-      ∙ over-same end (numbers margin intervals) (omega (arith, walked .fill .upto, long-numbers margin intervals))
-
-  numbered-next : Numbered margin intervals (number + 1) end
-  numbered-next = subst (λ (l : List ℕ). Walked margin intervals (numbers margin intervals) l (length intervals) (number + 1) end) unchanged walked
-
-  -- the groups of one pattern have its number
-  numbered-here : (g : ℕ) → at ≤ g → g < end → getD (numbers margin intervals) g 0 ≡ number
-  unfolding new
-  numbered-here g a b =
-      let k : at + (end - at) ≡ end = omega arith in
-      let z : at + (g - at) ≡ g = omega arith in
-      let same : List ℕ = replicate (end - at) number in
-      ap (λ (l : List ℕ). getD l g 0) (sym unchanged)
-      ∙ ap (λ (i : ℕ). getD new i 0) (sym z)
-      ∙ sym (getD-part at (end - at) new (g - at) 0 (omega arith))
-      ∙ ap (λ (l : List ℕ). getD l (g - at) 0)
-      (part-put-same at (end - at) same (numbers margin intervals) (length-replicate (end - at) number)
-      (omega (arith, walked .fill .upto, long-numbers margin intervals)))
-      ∙ getD-replicate (end - at) (g - at) number 0 (omega arith)
-
 -- ---- the walk
 
 -- the patterns, each by its groups' intervals
@@ -131,7 +69,7 @@ pub record Lies (margin : Float) (intervals : List Float) (p at end : ℕ) : Typ
 
 -- the walk stands at pattern `number`, of the groups from `at` to `end`; group g is not before it
 pub record Found (margin : Float) (intervals : List Float) (g number before at end : ℕ) : Type 0 where
-  pub numbered : Numbered margin intervals number at
+  pub numbering : Numbering margin intervals number at
   pub left : drop number (patterns margin intervals) ≡ parted (marksFrom margin (ltb 2 (length intervals)) (drop at intervals)) (drop at intervals)
   pub here : end ≡ groupEnd margin intervals at
   pub reached : at ≤ g
@@ -141,7 +79,7 @@ pub record Found (margin : Float) (intervals : List Float) (g number before at e
 pub found-start : (margin : Float) (intervals : List Float) (g : ℕ) → g < length intervals → (end : ℕ)
     → end ≡ groupEnd margin intervals 0 → Found margin intervals g 0 0 0 end
 found-start margin intervals g h end e = record {
-  numbered = numbered-start margin intervals;
+  numbering = numbering-start margin intervals;
   left = ap (λ (ms : List ℕ). parted ms intervals) (marks-all margin intervals);
   here = e;
   reached = omega arith;
@@ -176,7 +114,7 @@ module _ {margin : Float} {intervals : List Float} {g number before at end : ℕ
   found-turn h next e =
       let b : number ≡ number + 1 - 1 = omega arith in
       record {
-        numbered = numbered-next (x .numbered) inside end (x .here);
+        numbering = numbering-next (x .numbering) inside end (x .here);
         left = sym (drop-drop 1 number (patterns margin intervals)) ∙ ap (drop 1) rest;
         here = e;
         reached = h;
@@ -186,7 +124,7 @@ module _ {margin : Float} {intervals : List Float} {g number before at end : ℕ
 
   number-is : g < end → patternNumber margin intervals g ≡ number
   unfolding patternNumber
-  number-is h = numbered-here (x .numbered) inside end (x .here) g (x .reached) h
+  number-is h = numbering-here (x .numbering) inside end (x .here) g (x .reached) h
 
   -- the first pattern
   pub pattern-first : g < end → number ≡ 0 → _≡_ {A = Pattern} (record { number = number; ratio = one64 }) (patternOf margin intervals g)

@@ -2,4 +2,4 @@
 pub mod Own
 pub mod SameRhythm
 pub mod SamePatterns
-pub mod Passes
+pub mod passes

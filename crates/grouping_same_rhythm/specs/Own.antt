@@ -1,8 +1,9 @@
--- Document 01, same_rhythm_hit_object_grouping.rs: "A group's own interval is either absent (one note) or a number of milliseconds: its second note's normalised delta
--- rounded to whole, ties to even, replaced by the previous group's own if that exists within 5.0. Ratio: own ÷ previous own if both exist, else 1.0."
--- A group is the list of its notes' deltas. The 5.0 is a parameter, the margin.
+-- A rhythm group's own interval, and its ratio to that of the group before (01, same_rhythm_hit_object_grouping.rs).
+-- A group is the list of its notes' deltas; what is near is told by a margin, 5.0 in every call.
+use Prim.Native.Nat.{ℕ, zero, suc}
 use mathlib.Core.Bool.{cond}
 use mathlib.Core.List.{List, [], _∷_}
+use lib.ListN.{getD}
 use lib.Ieee.{Float, binary64, div}
 use Rattle.numeric.specs.Constants.{one64}
 use Rattle.numeric.specs.Near.{isNear}
@@ -10,14 +11,15 @@ use Rattle.numeric.specs.RoundTiesEven.{roundTiesEven}
 use Rattle.grouping_normalizer.specs.Normalizer.{normalOf}
 use Rattle.grouping_same_rhythm.specs.declared.own.Own.{Own}
 use Rattle.grouping_same_rhythm.specs.declared.own.Own.the-variants.{Absent, Millis}
+use Rattle.grouping_same_rhythm.specs.declared.owns.Recent.{Recent}
 
--- "its second note's normalised delta rounded to whole"
+-- the second note's delta, normalised among the group's and rounded to whole, ties to even; one note alone has none
 unfoldable pub modalDelta : Float → List Float → Own
 modalDelta margin [] = Absent
 modalDelta margin (d ∷ []) = Absent
 modalDelta margin (d ∷ e ∷ deltas) = Millis (roundTiesEven (normalOf margin (d ∷ e ∷ deltas) e))
 
--- "replaced by the previous group's own if that exists within 5.0"
+-- one that is near the previous group's own gives way to it
 unfoldable pub snapped : Float → Own → Own → Own
 snapped margin Absent previous = Absent
 snapped margin (Millis x) Absent = Millis x
@@ -27,13 +29,29 @@ snapped margin (Millis x) (Millis y) = cond (isNear margin x y) (Millis y) (Mill
 unfoldable pub ownsAfter : Float → Own → List (List Float) → List Own
 ownsAfter margin previous [] = []
 ownsAfter margin previous (group ∷ groups) =
-    snapped margin (modalDelta margin group) previous ∷ ownsAfter margin (snapped margin (modalDelta margin group) previous) groups
+    snapped margin (modalDelta margin group) previous
+    ∷ ownsAfter margin (snapped margin (modalDelta margin group) previous) groups
 
 unfoldable pub ownsOf : Float → List (List Float) → List Own
 ownsOf margin groups = ownsAfter margin Absent groups
 
--- "own ÷ previous own if both exist, else 1.0"
+-- own over previous own, and 1.0 where one of them is absent
 unfoldable pub ratioOf : Own → Own → Float
 ratioOf Absent previous = one64
 ratioOf (Millis x) Absent = one64
 ratioOf (Millis x) (Millis y) = div binary64 x y
+
+-- the own interval k groups before group g, absent where there is no such group
+unfoldable pub ownBefore : List Own → ℕ → ℕ → Own
+ownBefore owns g zero = getD owns g Absent
+ownBefore owns zero (suc k) = Absent
+ownBefore owns (suc g) (suc k) = ownBefore owns g k
+
+-- those of group g and of the three before it
+unfoldable pub recentOf : List Own → ℕ → Recent
+recentOf owns g = record {
+  newest = ownBefore owns g 0;
+  second = ownBefore owns g 1;
+  third = ownBefore owns g 2;
+  fourth = ownBefore owns g 3;
+}

@@ -1,5 +1,5 @@
--- Document 01, same_patterns_grouped_hit_objects.rs: "Pattern groups: the same grouping over those intervals; a pattern's interval is its second group's, or its only one's;
--- ratio this ÷ previous, 1.0 for the first." A pattern is the list of its groups' intervals.
+-- Pattern groups: rhythm groups, grouped by their intervals as notes are by their deltas (01,
+-- same_patterns_grouped_hit_objects.rs). A pattern is the list of its groups' intervals.
 use Prim.Native.Nat.{ℕ, zero, suc}
 use mathlib.Core.List.{List, [], _∷_}
 use lib.ListN.{getD}
@@ -19,7 +19,8 @@ patternInterval (first ∷ second ∷ intervals) = second
 -- of pattern number p
 unfoldable pub patternRatio : List (List Float) → ℕ → Float
 patternRatio patterns zero = one64
-patternRatio patterns (suc p) = div binary64 (patternInterval (getD patterns (suc p) [])) (patternInterval (getD patterns p []))
+patternRatio patterns (suc p) =
+    div binary64 (patternInterval (getD patterns (suc p) [])) (patternInterval (getD patterns p []))
 
 -- the number of group g's pattern
 unfoldable pub patternNumber : Float → List Float → ℕ → ℕ

@@ -5,11 +5,12 @@ ghost use lib.ListN.{length, getD};
 ghost use lib.Ieee.{nan};
 ghost use Rattle.grouping_marks.specs.Over.{over};
 ghost use Rattle.grouping_same_rhythm.specs.SameRhythm.{startsOf, between, intervalsOf};
-ghost use Rattle.grouping_same_rhythm.specs.Passes.{FirstsRoom, FirstsListed, IntervalsRoom};
+ghost use Rattle.grouping_same_rhythm.specs.passes.Groups.{FirstsRoom, FirstsListed, IntervalsRoom};
 use grouping_interval::walk::next_end;
 use numeric::near::near;
 
-// Lists, from place `to` on, the first object of each group. The notes' objects are in front. The result is how many groups there are.
+// Lists, from place `to` on, the first object of each group. The notes' objects are in front. The result is how many
+// groups there are.
 pub fn list_firsts(deltas: &[f64], margin: f64, w: &mut [u16], to: usize) -> usize
     requires { ⌜ FirstsRoom (now deltas) (now w) to ⌝ }
     ensures { λ r. ⌜ FirstsListed margin (now (deltas .entry)) (now (w .entry)) (now (w .exit)) to r ⌝ }
@@ -37,7 +38,8 @@ fn start_between(previous: f64, start: f64, margin: f64) -> f64
 
 // The interval of group k.
 fn interval_at(start: &[f64], firsts: &[u16], margin: f64, k: usize) -> f64
-    requires { ⌜ (k < length (now firsts)) × ((i : ℕ) → i < length (now firsts) → getD (now firsts) i 0 < length (now start)) ⌝ }
+    requires { ⌜ (k < length (now firsts))
+        × ((i : ℕ) → i < length (now firsts) → getD (now firsts) i 0 < length (now start)) ⌝ }
     ensures { λ r. ⌜ r ≡ getD (intervalsOf margin (startsOf (now (start .entry)) (now (firsts .entry)))) k nan ⌝ }
 {
     if k == 0 {
@@ -51,7 +53,8 @@ fn interval_at(start: &[f64], firsts: &[u16], margin: f64, k: usize) -> f64
 // Fills the interval of each group.
 pub fn fill_intervals(start: &[f64], firsts: &[u16], margin: f64, intervals: &mut [f64])
     requires { ⌜ IntervalsRoom (now start) (now firsts) (now intervals) ⌝ }
-    ensures { λ r. ⌜ now (intervals .exit) ≡ over (intervalsOf margin (startsOf (now (start .entry)) (now (firsts .entry)))) (now (intervals .entry)) ⌝ }
+    ensures { λ r. ⌜ now (intervals .exit)
+        ≡ over (intervalsOf margin (startsOf (now (start .entry)) (now (firsts .entry)))) (now (intervals .entry)) ⌝ }
 {
     let mut k = 0;
     while k < firsts.len() {

@@ -2,7 +2,7 @@
 ghost use mathlib.Core.Path.{_≡_};
 ghost use Rattle.grouping_sort.specs.Ordered.{AllFinite};
 ghost use Rattle.grouping_same_rhythm.specs.Own.{snapped, ratioOf};
-ghost use Rattle.grouping_same_rhythm.specs.Passes.{Modal};
+ghost use Rattle.grouping_same_rhythm.specs.passes.Owns.{Modal};
 use grouping_normalizer::normal_of;
 use numeric::near::near;
 use numeric::round::round_ties_even;

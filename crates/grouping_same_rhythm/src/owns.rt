@@ -1,7 +1,7 @@
 // The own intervals up to one group: of them only the last four are needed at a time.
 ghost use mathlib.Core.Path.{_≡_};
 ghost use Rattle.grouping_same_rhythm.specs.Own.{snapped};
-ghost use Rattle.grouping_same_rhythm.specs.Passes.{GroupThere, ReachedIs};
+ghost use Rattle.grouping_same_rhythm.specs.passes.Owns.{recentWith, GroupThere, ReachedIs};
 use crate::own::Own;
 use grouping_interval::walk::next_end;
 
@@ -22,7 +22,7 @@ pub struct Reached {
 
 // After a further group, whose modal delta is `own`.
 fn further(r: Recent, own: Own, margin: f64) -> Recent
-    ensures { λ q. ⌜ q ≡ record { newest = snapped margin own (r .newest); second = r .newest; third = r .second; fourth = r .third } ⌝ }
+    ensures { λ q. ⌜ q ≡ recentWith (snapped margin own (r .newest)) r ⌝ }
 {
     let newest = r.newest;
     let second = r.second;

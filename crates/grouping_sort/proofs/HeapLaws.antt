@@ -1,4 +1,5 @@
--- The later child, and the loops of `sink` and `heapify`. While a value sinks, all is a heap but for its place `at`, and what stands above `at` is not before what stands below it.
+-- The later child, and the loops of `sink` and `heapify`. While a value sinks, all is a heap but for its place `at`, and what stands above `at` is not before
+-- what stands below it.
 use mathlib.Core.Path.{_≡_, refl, sym, ap, _∙_, subst}
 use mathlib.Core.Logic.{_≢_, ⊎-elim}
 use mathlib.Core.Bool.{true, false}
@@ -10,10 +11,11 @@ use lib.Dec.{T}
 use lib.ListN.{length, getD}
 use lib.Ieee.{Float, nan}
 use Rattle.numeric.specs.TotalOrder.{totalOrder}
-use Rattle.grouping_sort.specs.Heap.{Before, swapped, Shuffled, same, more, Child, Heap, Parent, LaterChild, Sinkable, Sunk, Heaped}
+use Rattle.grouping_sort.specs.passes.Heap.{Before, swapped, Shuffled, same, more, Child, Heap, Parent, LaterChild, Sinkable, Sunk, Heaped}
 use Rattle.grouping_sort.proofs.InsertLaws.{equal, rank, rank-le, rank-of-not, of-rank, Numbers}
 use Rattle.grouping_sort.proofs.OrderedLaws.{number-at, all-finite, numbers-swapped}
-use Rattle.grouping_sort.proofs.ShuffleLaws.{before-by, length-swapped, swapped-first, swapped-second, swapped-other, length-shuffled, shuffled-on, numbers-shuffled}
+use Rattle.grouping_sort.proofs.ShuffleLaws.{before-by, length-swapped, swapped-first, swapped-second, swapped-other}
+use Rattle.grouping_sort.proofs.ShuffleLaws.{length-shuffled, shuffled-on, numbers-shuffled}
 
 -- ---- the order of places
 
@@ -45,7 +47,8 @@ root-latest {values} {end} n h r i l = climb i i (le-refl i) l
         (λ e. subst (λ (k : ℕ). Before values k 0) (sym e) (before-self n 0 (omega arith)))
         (λ d.
         let p : ℕ = (i - 1) / 2 in
-        before-trans n i p 0 (omega arith) (omega arith) (omega arith) (h .parent p i record { low = omega arith; high = omega arith } (omega arith) l) (climb fuel p (omega arith) (omega arith)))
+        let up : Before values i p = h .parent p i record { low = omega arith; high = omega arith } (omega arith) l in
+        before-trans n i p 0 (omega arith) (omega arith) (omega arith) up (climb fuel p (omega arith) (omega arith)))
         (equal i 0)
 
 -- ---- later_child
@@ -62,19 +65,22 @@ module _ {values : List Float} {at end : ℕ} (n : Numbers values) (a : Parent v
         (equal c r);
   }
 
-  pub later-right : 2 * at + 1 + 1 < end → totalOrder (getD values (2 * at + 1) nan) (getD values (2 * at + 1 + 1) nan) ≡ true → LaterChild values at end (2 * at + 1 + 1)
+  pub later-right : 2 * at + 1 + 1 < end → totalOrder (getD values (2 * at + 1) nan) (getD values (2 * at + 1 + 1) nan) ≡ true
+      → LaterChild values at end (2 * at + 1 + 1)
   later-right h e =
       picked (2 * at + 1 + 1) (2 * at + 1) record { low = omega arith; high = omega arith } h (λ c d g z. omega arith)
       (before-yes (getD values (2 * at + 1) nan) (getD values (2 * at + 1 + 1) nan) e)
 
-  pub later-left : 2 * at + 1 + 1 < end → totalOrder (getD values (2 * at + 1) nan) (getD values (2 * at + 1 + 1) nan) ≡ false → LaterChild values at end (2 * at + 1)
+  pub later-left : 2 * at + 1 + 1 < end → totalOrder (getD values (2 * at + 1) nan) (getD values (2 * at + 1 + 1) nan) ≡ false
+      → LaterChild values at end (2 * at + 1)
   later-left h e =
       picked (2 * at + 1) (2 * at + 1 + 1) record { low = omega arith; high = omega arith } (a .child) (λ c d g z. omega arith)
       (before-not n (2 * at + 1) (2 * at + 1 + 1) (omega (arith, a .room)) (omega (arith, a .room)) e)
 
   pub later-only : end ≤ 2 * at + 1 + 1 → LaterChild values at end (2 * at + 1)
   later-only h =
-      picked (2 * at + 1) (2 * at + 1) record { low = omega arith; high = omega arith } (a .child) (λ c d g z. omega arith) (before-self n (2 * at + 1) (omega (arith, a .room, a .child)))
+      picked (2 * at + 1) (2 * at + 1) record { low = omega arith; high = omega arith } (a .child) (λ c d g z. omega arith)
+      (before-self n (2 * at + 1) (omega (arith, a .room, a .child)))
 
 -- ---- sink
 
@@ -117,7 +123,8 @@ module _ {old values : List Float} {root end at : ℕ} (s : Sinking old values r
           (λ q.
           let d : Child at c = subst (λ (z : ℕ). Child z c) q ch in
           subst (λ (z : ℕ). Before values c z) (sym q)
-          (before-trans (s .numbers) c child at (omega arith) (omega arith) (omega arith) (k .later c d g) (before-yes (getD values child nan) (getD values at nan) e)))
+          (before-trans (s .numbers) c child at (omega arith) (omega arith) (omega arith) (k .later c d g)
+          (before-yes (getD values child nan) (getD values at nan) e)))
           (λ q. s .apart p c ch l g q)
           (equal p at);
     };
@@ -143,7 +150,8 @@ module _ {old values : List Float} {root end at : ℕ} (s : Sinking old values r
         (λ q.
         let x : getD (swapped at child values) p nan ≡ getD values p nan = swapped-other at child values p q d in
         ⊎-elim
-        (λ r. before-by (ap (λ (z : ℕ). getD (swapped at child values) z nan) r ∙ to-at) x (s .above p child (subst (λ (z : ℕ). Child p z) r ch) (k .child) l (k .inside)))
+        (λ r. before-by (ap (λ (z : ℕ). getD (swapped at child values) z nan) r ∙ to-at) x
+        (s .above p child (subst (λ (z : ℕ). Child p z) r ch) (k .child) l (k .inside)))
         (λ r. before-by (swapped-other at child values c r (λ z. q (omega arith))) x (s .apart p c ch l h q))
         (equal c at))
         (equal p at)
@@ -178,11 +186,23 @@ pub record Heaping (old values : List Float) (n root : ℕ) : Type 0 where
 
 -- the places from n / 2 on have no child
 pub heaping-start : {values : List Float} (n : ℕ) → n ≡ length values → Numbers values → Heaping values values n (n / 2)
-heaping-start n e m = record { all = e; upto = omega arith; numbers = m; long = refl; shuffled = same; heap = record { parent = λ p c ch l h. absurd (omega arith) } }
+heaping-start n e m = record {
+  all = e;
+  upto = omega arith;
+  numbers = m;
+  long = refl;
+  shuffled = same;
+  heap = record { parent = λ p c ch l h. absurd (omega arith) };
+}
 
 module _ {old values : List Float} {n root : ℕ} (x : Heaping old values n root) (h : 0 < root) where
   pub heaping-asks : Sinkable values (root - 1) n
-  heaping-asks = record { room = omega arith; inside = omega (arith, x .upto); finite = all-finite (x .numbers); below = subst (λ (z : ℕ). Heap values z n) (omega arith) (x .heap) }
+  heaping-asks = record {
+    room = omega arith;
+    inside = omega (arith, x .upto);
+    finite = all-finite (x .numbers);
+    below = subst (λ (z : ℕ). Heap values z n) (omega arith) (x .heap);
+  }
 
   pub heaping-turn : (new : List Float) → Sunk values new (root - 1) n → Heaping old new n (root - 1)
   heaping-turn new s = record {

@@ -124,7 +124,10 @@ insert-commute p q none = both-here p q [] refl refl
 insert-commute {x} {y} p q (also {x = z} {xs = zs} r s) =
     ⊎-elim
     (λ h. ⊎-elim
-    (λ k. ap (insert x) (insert-here q r zs k) ∙ both-here p q (z ∷ zs) (insert-here p r zs h) (insert-here q r zs k) ∙ ap (insert y) (sym (insert-here p r zs h)))
+    (λ k.
+    ap (insert x) (insert-here q r zs k)
+    ∙ both-here p q (z ∷ zs) (insert-here p r zs h) (insert-here q r zs k)
+    ∙ ap (insert y) (sym (insert-here p r zs h)))
     (λ k. one-here p q r zs h k)
     (either (rank y) (rank z)))
     (λ h. ⊎-elim

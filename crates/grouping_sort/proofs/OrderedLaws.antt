@@ -1,4 +1,5 @@
--- The laws of `ordered`. To exchange two values changes nothing of it, since to put v in the place of w is to insert v and undo the insertion of w; an ascending list is ordered.
+-- The laws of `ordered`. To exchange two values changes nothing of it, since to put v in the place of w is to insert v and undo the insertion of w; an
+-- ascending list is ordered.
 use mathlib.Core.Path.{_≡_, refl, sym, ap, _∙_}
 use mathlib.Core.Logic.{⊎-elim}
 use mathlib.Core.List.{List, [], _∷_}
@@ -11,7 +12,7 @@ use lib.Seq.{lt-length-set, getD-set-same, getD-set-other}
 use lib.Ieee.{Float, nan, fits, binary64}
 use Rattle.numeric.proofs.Values.{Number}
 use Rattle.grouping_sort.specs.Ordered.{insert, ordered, AllFinite}
-use Rattle.grouping_sort.specs.Heap.{Before, swapped}
+use Rattle.grouping_sort.specs.passes.Heap.{Before, swapped}
 use Rattle.grouping_sort.proofs.InsertLaws.{equal, rank-le, Numbers, none, also, numbers-insert, length-insert, insert-here, insert-commute, insert-undo}
 
 -- ---- numbers by their places
@@ -83,7 +84,8 @@ module _ (i j : ℕ) {xs : List Float} (n : Numbers xs) (h : i < length xs) (k :
       (λ d. getD-set-other xs i j b nan d)
       (equal j i) in
       let r : insert (getD ys j nan) (ordered (set ys j a)) ≡ insert a (ordered ys) = replaced j m (number-at i n h) (lt-length-set xs i b k) in
-      let s : insert b (ordered (set ys j a)) ≡ insert b (ordered xs) = ap (λ (z : Float). insert z (ordered (set ys j a))) (sym e) ∙ r ∙ replaced i n (number-at j n k) h in
+      let s : insert b (ordered (set ys j a)) ≡ insert b (ordered xs) =
+      ap (λ (z : Float). insert z (ordered (set ys j a))) (sym e) ∙ r ∙ replaced i n (number-at j n k) h in
       insert-undo (number-at j n k) (numbers-ordered (numbers-set j m (number-at i n h))) (numbers-ordered n) s
 
 -- an ascending list

@@ -1,6 +1,6 @@
--- The linear steps of `sort`. The loops of `rises` and `falls` test what the values from i on say; a rising list is ordered; to turn a list round is to exchange.
+-- The linear steps of `sort`. The loops of `rises` and `falls` test what the values from i on say; a rising list is ordered; to turn a list round is to
+-- exchange.
 use mathlib.Core.Path.{_≡_, refl, sym, ap, _∙_, subst}
-use mathlib.Core.Logic.{⊎-elim}
 use mathlib.Core.Bool.{Bool, true, false, _&&_}
 use mathlib.Core.List.{List, [], _∷_}
 use Prim.Native.Nat.{ℕ, suc, _+_, _-_, _/_, _≤_, _<_}
@@ -13,10 +13,10 @@ use lib.Ieee.{Float, nan}
 use lib.Ieee.Fits.{and-l, and-r}
 use Rattle.numeric.specs.TotalOrder.{totalOrder}
 use Rattle.grouping_sort.specs.Ordered.{insert, ordered}
-use Rattle.grouping_sort.specs.Heap.{swapped, Shuffled, same, more, Two}
-use Rattle.grouping_sort.specs.Sort.{neighbours, rising, Reversed}
-use Rattle.grouping_sort.proofs.InsertLaws.{either, equal, rank-le, insert-here, Numbers, none, also}
-use Rattle.grouping_sort.proofs.ShuffleLaws.{swapped-first, swapped-second, swapped-other, length-shuffled, numbers-shuffled, ordered-shuffled}
+use Rattle.grouping_sort.specs.passes.Heap.{swapped, Shuffled, same, more, Two}
+use Rattle.grouping_sort.specs.passes.Sort.{neighbours, rising}
+use Rattle.grouping_sort.proofs.InsertLaws.{rank-le, insert-here, Numbers, none, also}
+use Rattle.grouping_sort.proofs.ShuffleLaws.{length-shuffled, numbers-shuffled, ordered-shuffled}
 
 -- ---- the loops of `rises` and `falls`
 
@@ -68,72 +68,24 @@ pub rising-ordered : {values : List Float} → Numbers values → rising values 
 unfolding rising
 rising-ordered n e = in-order n (subst T (sym e) tt)
 
--- ---- the loop of `reverse`: the first i places and the last i have their values, those between are as they were
+-- ---- the loop of `reverse` only exchanges
 
 pub record Turning (old values : List Float) (n i : ℕ) : Type 0 where
   pub all : n ≡ length old
-  pub upto : i ≤ n / 2
   pub shuffled : Shuffled n old values
-  pub front : (k : ℕ) → k < i → getD values k nan ≡ getD old (n - 1 - k) nan
-  pub back : (k : ℕ) → n ≤ k + i → k < n → getD values k nan ≡ getD old (n - 1 - k) nan
-  pub between : (k : ℕ) → i ≤ k → k + i < n → getD values k nan ≡ getD old k nan
-
-pub turning-start : (values : List Float) (n : ℕ) → n ≡ length values → Turning values values n 0
-turning-start values n e = record {
-  all = e;
-  upto = omega arith;
-  shuffled = same;
-  front = λ k h. absurd (omega arith);
-  back = λ k h g. absurd (omega arith);
-  between = λ k h g. refl;
-}
 
 module _ {old values : List Float} {n i : ℕ} (x : Turning old values n i) where
   pub turning-long : length values ≡ length old
   turning-long = length-shuffled (x .shuffled)
 
-  module _ (h : i < n / 2) where
-    pub turning-two : Two values i (n - 1 - i)
-    turning-two = record { first = omega (arith, turning-long, x .all); second = omega (arith, turning-long, x .all) }
+  pub turning-two : i < n / 2 → Two values i (n - 1 - i)
+  turning-two h = record { first = omega (arith, turning-long, x .all); second = omega (arith, turning-long, x .all) }
 
-    first-there : getD (swapped i (n - 1 - i) values) i nan ≡ getD old (n - 1 - i) nan
-    first-there = swapped-first i (n - 1 - i) values (turning-two .first) (turning-two .second) ∙ x .between (n - 1 - i) (omega arith) (omega arith)
+  pub turning-turn : i < n / 2 → (new : List Float) → new ≡ swapped i (n - 1 - i) values → Turning old new n (i + 1)
+  turning-turn h new e = record { all = x .all; shuffled = rw e (more {i = i} {j = n - 1 - i} (x .shuffled) (omega arith) (omega arith)) }
 
-    last-there : getD (swapped i (n - 1 - i) values) (n - 1 - i) nan ≡ getD old i nan
-    last-there = swapped-second i (n - 1 - i) values (turning-two .second) ∙ x .between i (omega arith) (omega arith)
-
-    pub turning-turn : (new : List Float) → new ≡ swapped i (n - 1 - i) values → Turning old new n (i + 1)
-    turning-turn new e = subst (λ (z : List Float). Turning old z n (i + 1)) (sym e) record {
-      all = x .all;
-      upto = omega arith;
-      shuffled = more (x .shuffled) (omega arith) (omega arith);
-      front = λ k l. ⊎-elim
-          (λ q. subst (λ (z : ℕ). getD (swapped i (n - 1 - i) values) z nan ≡ getD old (n - 1 - z) nan) (sym q) first-there)
-          (λ q. swapped-other i (n - 1 - i) values k q (λ z. omega arith) ∙ x .front k (omega arith))
-          (equal k i);
-      back = λ k l g. ⊎-elim
-          (λ q. ap (λ (z : ℕ). getD (swapped i (n - 1 - i) values) z nan) q ∙ last-there ∙ ap (λ (z : ℕ). getD old z nan) (omega arith))
-          (λ q. swapped-other i (n - 1 - i) values k (λ z. omega arith) q ∙ x .back k (omega arith) g)
-          (equal k (n - 1 - i));
-      between = λ k l g. swapped-other i (n - 1 - i) values k (λ z. omega arith) (λ z. omega arith) ∙ x .between k (omega arith) (omega arith);
-    }
-
-  -- the middle one of an odd number is its own mirror
-  all-there : n / 2 ≤ i → (k : ℕ) → k < n → getD values k nan ≡ getD old (n - 1 - k) nan
-  all-there h k g =
-      ⊎-elim
-      (λ l. ⊎-elim
-      (λ m. x .back k m g)
-      (λ m. x .between k l m ∙ ap (λ (z : ℕ). getD old z nan) (omega (arith, x .upto)))
-      (either n (k + i)))
-      (λ l. x .front k l)
-      (either i k)
-
-  pub turning-end : n / 2 ≤ i → Reversed old values
-  turning-end h = record {
-    shuffled = subst (λ (z : ℕ). Shuffled z old values) (x .all) (x .shuffled);
-    mirrored = subst (λ (z : ℕ). (k : ℕ) → k < z → getD values k nan ≡ getD old (z - 1 - k) nan) (x .all) (all-there h);
-  }
+  pub turning-end : Shuffled (length old) old values
+  turning-end = rw (x .all) at (x .shuffled)
 
 -- ---- sort: the exchanges before the test change nothing of the order
 

@@ -1,4 +1,5 @@
--- What exchanges of values do to a list: what stands at each place, that the values of the places below `end` stay among themselves, and that `ordered` stays as it is.
+-- What exchanges of values do to a list: what stands at each place, that the values of the places below `end` stay among themselves, and that `ordered` stays
+-- as it is.
 use mathlib.Core.Path.{_≡_, refl, sym, ap, _∙_, subst}
 use mathlib.Core.Logic.{_≢_, ⊎-elim}
 use mathlib.Core.List.{List}
@@ -11,7 +12,7 @@ use lib.Seq.{lt-length-set, getD-set-same, getD-set-other}
 use lib.Ieee.{Float, nan}
 use Rattle.numeric.specs.TotalOrder.{totalOrder}
 use Rattle.grouping_sort.specs.Ordered.{ordered}
-use Rattle.grouping_sort.specs.Heap.{swapped, Shuffled, same, more}
+use Rattle.grouping_sort.specs.passes.Heap.{swapped, Shuffled, same, more}
 use Rattle.grouping_sort.proofs.InsertLaws.{equal, Numbers}
 use Rattle.grouping_sort.proofs.OrderedLaws.{numbers-swapped, ordered-swapped}
 

@@ -7,11 +7,11 @@ use native.Mathlib.Omega.{arith}
 use lib.ListN.{length, getD}
 use lib.Ieee.{Float, nan}
 use Rattle.grouping_sort.specs.Ordered.{ordered}
-use Rattle.grouping_sort.specs.Heap.{Before, swapped, Shuffled, same, more, Heap, Two, Sinkable, Sunk, Heaped}
+use Rattle.grouping_sort.specs.passes.Heap.{Before, swapped, Shuffled, same, more, Heap, Two, Sinkable, Sunk, Heaped}
 use Rattle.grouping_sort.proofs.InsertLaws.{either, equal, Numbers}
 use Rattle.grouping_sort.proofs.OrderedLaws.{all-finite, numbers-swapped, ordered-same}
-use Rattle.grouping_sort.proofs.ShuffleLaws.{before-by, length-swapped, swapped-second, swapped-other}
-use Rattle.grouping_sort.proofs.ShuffleLaws.{length-shuffled, shuffled-on, shuffled-wider, shuffled-drawn, shuffled-kept, numbers-shuffled, ordered-shuffled}
+use Rattle.grouping_sort.proofs.ShuffleLaws.{before-by, length-swapped, swapped-second, swapped-other, length-shuffled, shuffled-on}
+use Rattle.grouping_sort.proofs.ShuffleLaws.{shuffled-wider, shuffled-drawn, shuffled-kept, numbers-shuffled, ordered-shuffled}
 use Rattle.grouping_sort.proofs.HeapLaws.{root-latest}
 
 pub record Sorting (old values : List Float) (end : ℕ) : Type 0 where

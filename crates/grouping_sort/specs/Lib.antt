@@ -1,4 +1,3 @@
 -- The definitions that this crate's promises and laws cite.
 pub mod Ordered
-pub mod Heap
-pub mod Sort
+pub mod passes

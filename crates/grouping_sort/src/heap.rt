@@ -1,7 +1,7 @@
 // Heap sort by the total order: in place, in m log m steps.
 ghost use mathlib.Core.Path.{_≡_};
 ghost use Rattle.grouping_sort.specs.Ordered.{ordered, AllFinite};
-ghost use Rattle.grouping_sort.specs.Heap.{swapped, Two, Parent, LaterChild, Sinkable, Sunk, Heaped};
+ghost use Rattle.grouping_sort.specs.passes.Heap.{swapped, Two, Parent, LaterChild, Sinkable, Sunk, Heaped};
 use numeric::order::total_order;
 
 pub fn swap(values: &mut [f64], i: usize, j: usize)

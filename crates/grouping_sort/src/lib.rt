@@ -1,9 +1,9 @@
 // Sorting by the total order, in linear time where the values rise or fall already.
 ghost use mathlib.Core.Path.{_≡_};
 ghost use lib.ListN.{length};
-ghost use Rattle.grouping_sort.specs.Heap.{Shuffled};
+ghost use Rattle.grouping_sort.specs.passes.Heap.{Shuffled};
 ghost use Rattle.grouping_sort.specs.Ordered.{ordered, AllFinite};
-ghost use Rattle.grouping_sort.specs.Sort.{rising, falling, Reversed};
+ghost use Rattle.grouping_sort.specs.passes.Sort.{rising, falling};
 use crate::heap::heap_sort;
 use crate::heap::swap;
 use numeric::order::total_order;
@@ -11,7 +11,7 @@ use numeric::order::total_order;
 pub mod heap;
 
 // Whether each value stands at or before the next one.
-fn rises(values: &[f64]) -> bool
+fn is_rising(values: &[f64]) -> bool
     ensures { λ r. ⌜ r ≡ rising (now (values .entry)) ⌝ }
 {
     let mut i = 0;
@@ -25,7 +25,7 @@ fn rises(values: &[f64]) -> bool
 }
 
 // Whether each value stands behind the next one. Of other values the first pairs mostly tell.
-fn falls(values: &[f64]) -> bool
+fn is_falling(values: &[f64]) -> bool
     ensures { λ r. ⌜ r ≡ falling (now (values .entry)) ⌝ }
 {
     let mut i = 0;
@@ -38,8 +38,9 @@ fn falls(values: &[f64]) -> bool
     true
 }
 
+// Turns the values round, by exchanges.
 fn reverse(values: &mut [f64])
-    ensures { λ r. ⌜ Reversed (now (values .entry)) (now (values .exit)) ⌝ }
+    ensures { λ r. ⌜ Shuffled (length (now (values .entry))) (now (values .entry)) (now (values .exit)) ⌝ }
 {
     let n = values.len();
     let mut i = 0;
@@ -49,11 +50,11 @@ fn reverse(values: &mut [f64])
     }
 }
 
-// Falling values become rising ones.
+// Turns falling values round: they rise then.
 fn turn_if_falling(values: &mut [f64])
     ensures { λ r. ⌜ Shuffled (length (now (values .entry))) (now (values .entry)) (now (values .exit)) ⌝ }
 {
-    if falls(values) {
+    if is_falling(values) {
         reverse(values);
     }
 }
@@ -64,7 +65,7 @@ pub fn sort(values: &mut [f64])
     ensures { λ r. ⌜ now (values .exit) ≡ ordered (now (values .entry)) ⌝ }
 {
     turn_if_falling(values);
-    if rises(values) {
+    if is_rising(values) {
         return;
     }
     heap_sort(values);

@@ -19,15 +19,15 @@ returns-3 : tie.Need-returns-3
 returns-3 c =
     let at-if1 = c .before .before .before .before .before in
     let s = at-if1 .before .before in
-    sym
-    (end-last (s .args .margin) (s .args .values .now) (s .args .i) true (at-if1 .if1 .left) (s .pre) (omega arith) (sym (c .before .near .ensures) ∙ c .if3 .taken))
+    let near = sym (c .before .near .ensures) ∙ c .if3 .taken in
+    sym (end-last (s .args .margin) (s .args .values .now) (s .args .i) true (at-if1 .if1 .left) (s .pre) (omega arith) near)
 
 returns-4 : tie.Need-returns-4
 returns-4 c =
     let at-if1 = c .before .before .before .before .before in
     let s = at-if1 .before .before in
-    sym
-    (end-last (s .args .margin) (s .args .values .now) (s .args .i) false (at-if1 .if1 .left) (s .pre) (omega arith) (sym (c .before .near .ensures) ∙ c .if3 .left))
+    let near = sym (c .before .near .ensures) ∙ c .if3 .left in
+    sym (end-last (s .args .margin) (s .args .values .now) (s .args .i) false (at-if1 .if1 .left) (s .pre) (omega arith) near)
 
 pub last-end-spec : {M : Type 1} → statement M
 last-end-spec =

@@ -4,7 +4,8 @@ use native.Mathlib.Omega.{arith}
 use mathlib.Core.Path.{refl, sym, _∙_}
 use borrow.Author.Needs.{needs}
 use Rattle.grouping_sort.proofs.OrderedLaws.{slice-numbers}
-use Rattle.grouping_normalizer.proofs.DistinctLaws.{long-as, distinct-none, Thinning, thinning-start, thinning-skip, thinning-keep, thinning-end, thinning-long}
+use Rattle.grouping_normalizer.proofs.DistinctLaws.{long-as, distinct-none, Thinning}
+use Rattle.grouping_normalizer.proofs.DistinctLaws.{thinning-start, thinning-skip, thinning-keep, thinning-end, thinning-long}
 use Rattle.grouping_normalizer.proofs.distinct_values.Statement.{statement}
 use Rattle.grouping_normalizer.proofs.distinct_values.Tie as tie
 

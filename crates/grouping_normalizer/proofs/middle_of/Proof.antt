@@ -29,7 +29,8 @@ returns : tie.Need-returns Inv-loop μ-loop
 returns c =
     let k = c .before .before .before .before .before in
     c .middle-value .ensures
-    ∙ looking-found (k .before .before .loop .inv) (k .before .loop-test .taken) (k .set-end .ensures) _ (c .before .before .before .is-held .ensures) (c .before .before .if1 .taken)
+    ∙ looking-found (k .before .before .loop .inv) (k .before .loop-test .taken) (k .set-end .ensures) _
+    (c .before .before .before .is-held .ensures) (c .before .before .if1 .taken)
 
 loop-again : tie.Need-loop-again Inv-loop μ-loop
 loop-again c =

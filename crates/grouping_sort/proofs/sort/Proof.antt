@@ -8,18 +8,22 @@ use Rattle.grouping_sort.proofs.sort.Tie as tie
 
 returns : tie.Need-returns
 returns c =
-    let s = c .before .before .before .before .before .before .before in
-    turned-rising (slice-numbers (s .before .pre) (s .slice-known .given)) (c .before .before .before .before .before .turn-if-falling .ensures) (sym (c .before .rises .ensures) ∙ c .if1 .taken)
+    let t = c .before .before .before .before .before in
+    let s = t .before .before in
+    turned-rising (slice-numbers (s .before .pre) (s .slice-known .given)) (t .turn-if-falling .ensures) (sym (c .before .is-rising .ensures) ∙ c .if1 .taken)
 
 heap-sort-requires : tie.Need-heap-sort-requires
 heap-sort-requires c κs =
-    let s = c .before .before .before .before .before .before .before .before in
-    all-finite (turned-numbers (slice-numbers (s .before .pre) (s .slice-known .given)) (c .before .before .before .before .before .before .turn-if-falling .ensures))
+    let t = c .before .before .before .before .before .before in
+    let s = t .before .before in
+    all-finite (turned-numbers (slice-numbers (s .before .pre) (s .slice-known .given)) (t .turn-if-falling .ensures))
 
 returns-2 : tie.Need-returns-2
 returns-2 c =
-    let s = c .before .before .before .before .before .before .before .before .before .before .before in
-    turned-sorted (slice-numbers (s .before .pre) (s .slice-known .given)) (c .before .before .before .before .before .before .before .before .before .turn-if-falling .ensures) (c .before .before .heap-sort .ensures)
+    let h = c .before .before in
+    let t = h .before .before .before .before .before .before .before in
+    let s = t .before .before in
+    turned-sorted (slice-numbers (s .before .pre) (s .slice-known .given)) (t .turn-if-falling .ensures) (h .heap-sort .ensures)
 
 pub sort-spec : {M : Type 1} → statement M
 sort-spec =

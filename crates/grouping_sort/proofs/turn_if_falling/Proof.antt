@@ -1,5 +1,5 @@
 -- A list turned round is exchanged, and one left as it is too.
-use Rattle.grouping_sort.specs.Heap.{same}
+use Rattle.grouping_sort.specs.passes.Heap.{same}
 use borrow.Author.Needs.{needs}
 use Rattle.grouping_sort.proofs.turn_if_falling.Statement.{statement}
 use Rattle.grouping_sort.proofs.turn_if_falling.Tie as tie

@@ -1,4 +1,5 @@
--- The loop's invariant: after k turns k groups are behind, put in order, and the own intervals are those of the last four of them. What is left of g + 1 turns falls.
+-- The loop's invariant: after k turns k groups are behind, put in order, and the own intervals are those of the last four of them. What is left of g + 1 turns
+-- falls.
 use Prim.Native.Nat.{suc, _-_}
 use native.Mathlib.Numerals.{add-one}
 use native.Mathlib.Omega.{arith}

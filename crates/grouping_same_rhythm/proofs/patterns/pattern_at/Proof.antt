@@ -38,7 +38,8 @@ pattern-interval-requires-2 c κs = let l = c .before .before .before .loop .inv
 returns-2 : tie.Need-returns-2 Inv-loop μ-loop
 returns-2 c =
     let x = c .before .before .before .before .loop .inv in
-    pattern-later x (c .before .before .before .loop-test .left) (c .before .before .if1 .left) _ _ (c .before .pattern-interval .ensures) (c .pattern-interval2 .ensures)
+    pattern-later x (c .before .before .before .loop-test .left) (c .before .before .if1 .left) _ _
+    (c .before .pattern-interval .ensures) (c .pattern-interval2 .ensures)
 
 pub pattern-at-spec : {M : Type 1} → statement M
 pattern-at-spec =

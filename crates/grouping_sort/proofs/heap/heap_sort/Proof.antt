@@ -20,28 +20,30 @@ loop-holds c =
     sorting-start (slice-numbers (s .before .pre) (s .slice-known .given)) (c .before .before .heapify .ensures)
 
 swap-requires : tie.Need-swap-requires Inv-loop μ-loop
-swap-requires c κs = sorting-two (c .before .before .loop .inv) (c .before .loop-test .taken)
+swap-requires c κs = sorting-two (c .before .before .loop .inv) (omega arith)
 
 sink-requires : tie.Need-sink-requires Inv-loop μ-loop
 sink-requires c κs =
     let l = c .before .before .before .before .before in
-    sorting-asks (l .before .loop .inv) (l .loop-test .taken) _ (c .before .before .before .swap .ensures)
+    sorting-asks (l .before .loop .inv) (omega arith) _ (c .before .before .before .swap .ensures)
 
 loop-again : tie.Need-loop-again Inv-loop μ-loop
 loop-again c =
     let w = c .before .before .before .before .before .before in
     let l = w .before .before in
-    sorting-turn (l .before .loop .inv) (l .loop-test .taken) _ _ (w .swap .ensures) (c .before .before .sink .ensures)
+    sorting-turn (l .before .loop .inv) (omega arith) _ _ (w .swap .ensures) (c .before .before .sink .ensures)
 
 same-length : tie.Need-same-length Inv-loop μ-loop
 same-length c =
-    let s = c .before .before .before .before .before .before in
-    sorting-long (slice-numbers (s .before .pre) (s .slice-known .given)) (c .before .before .before .before .heapify .ensures) (c .before .loop .inv)
+    let h = c .before .before .before .before in
+    let s = h .before .before in
+    sorting-long (slice-numbers (s .before .pre) (s .slice-known .given)) (h .heapify .ensures) (c .before .loop .inv)
 
 returns : tie.Need-returns Inv-loop μ-loop
 returns c =
-    let s = c .before .before .before .before .before .before in
-    sorting-end (slice-numbers (s .before .pre) (s .slice-known .given)) (c .before .before .before .before .heapify .ensures) (c .before .loop .inv) (c .loop-test .left)
+    let h = c .before .before .before .before in
+    let s = h .before .before in
+    sorting-end (slice-numbers (s .before .pre) (s .slice-known .given)) (h .heapify .ensures) (c .before .loop .inv) (omega arith)
 
 pub heap-sort-spec : {M : Type 1} → statement M
 heap-sort-spec =

@@ -43,7 +43,8 @@ loop-again : tie.Need-loop-again Inv-loop μ-loop
 loop-again c =
     let i = c .before .before .before .before in
     let k = i .before .before .before .before in
-    sinking-turn (k .before .before .before .loop .inv) (k .later-child .result) (k .later-child .ensures) (sym (i .before .total-order .ensures) ∙ i .if1 .left) _ (c .before .before .swap .ensures)
+    sinking-turn (k .before .before .before .loop .inv) (k .later-child .result) (k .later-child .ensures)
+    (sym (i .before .total-order .ensures) ∙ i .if1 .left) _ (c .before .before .swap .ensures)
 
 same-length-2 : tie.Need-same-length-2 Inv-loop μ-loop
 same-length-2 c = c .before .loop .inv .long

@@ -1,6 +1,6 @@
 -- Two stores are the exchange.
 use mathlib.Core.Path.{refl}
-use Rattle.grouping_sort.specs.Heap.{swapped}
+use Rattle.grouping_sort.specs.passes.Heap.{swapped}
 use borrow.Author.Needs.{needs}
 use Rattle.grouping_sort.proofs.heap.swap.Statement.{statement}
 use Rattle.grouping_sort.proofs.heap.swap.Tie as tie
