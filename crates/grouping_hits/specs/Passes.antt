@@ -1,11 +1,19 @@
--- What a pass of the search for intervals leaves.
+-- What the passes carry and leave: the stage at which the pass over the coupled flags is, and what a pass of the search for intervals leaves.
 use mathlib.Core.Bool.{cond, _&&_}
 use Prim.Native.Nat.{ℕ, _-_}
 use mathlib.Core.List.{List}
-use lib.Dec.{leb}
+use lib.Dec.{eqb, leb}
 use lib.ListN.{length, getD}
 use Rattle.grouping_marks.specs.Scan.{tabulate}
 use Rattle.grouping_hits.specs.RepeatingHitPatterns.{matches}
+
+-- where a pattern stands: 0 no hit pattern is open, 1 coupled patterns of the open one went before, 2 its first uncoupled one did
+unfoldable pub stageAfter : ℕ → ℕ → ℕ
+stageAfter stage coupled =
+    cond (eqb stage 0) (cond (eqb coupled 0) 0 1) (cond (eqb stage 1) (cond (eqb coupled 0) 2 1) 0)
+
+unfoldable pub opensHit : ℕ → ℕ → ℕ
+opensHit stage coupled = cond (eqb stage 0) 1 0
 
 -- what each hit pattern has after a pass that looks k back: k where it matches the one k before it, else what it had
 unfoldable pub matchTakenAt : ℕ → List ℕ → List ℕ → List ℕ → List ℕ → ℕ → ℕ

@@ -5,8 +5,8 @@ ghost use Prim.Native.Nat.{_≤_, _<_};
 ghost use lib.Dec.{eqb};
 ghost use Rattle.grouping_marks.specs.Over.{put, part};
 ghost use Rattle.grouping_marks.specs.Passes.{Room, Pair, PairApart, Triple, TripleApart};
-ghost use Rattle.grouping_hits.specs.RepeatingHitPatterns.{stageAfter, opensHit, hitMarks, secondAt, secondLengths, matches, intervals};
-ghost use Rattle.grouping_hits.specs.Passes.{matchesTaken};
+ghost use Rattle.grouping_hits.specs.RepeatingHitPatterns.{hitMarks, secondAt, secondLengths, matches, intervals};
+ghost use Rattle.grouping_hits.specs.Passes.{stageAfter, opensHit, matchesTaken};
 use grouping_marks::fill;
 
 fn stage_after(stage: u16, coupled: u16) -> u16
