@@ -7,7 +7,7 @@ ghost use Rattle.grouping_marks.specs.Over.{over};
 ghost use Rattle.evaluator_values.specs.Colour.{colourAt, colourValues};
 ghost use Rattle.evaluator_values.specs.Passes.{ObjectIn, NumbersAt, LookedIs, Lent};
 use evaluator_color::Looked;
-use grouping_preprocessor::Counts;
+use grouping_preprocessor::Levels;
 
 // An object's group number on each level.
 pub struct Numbers {
@@ -16,7 +16,7 @@ pub struct Numbers {
     pub hit: usize,
 }
 
-fn numbers_at(kind: &[u8], w: &[u16], k: Counts, i: usize) -> Numbers
+fn numbers_at(kind: &[u8], w: &[u16], k: Levels, i: usize) -> Numbers
     requires { ⌜ ObjectIn (now kind) (now w) k i ⌝ }
     ensures { λ r. ⌜ NumbersAt (now (kind .entry)) k i r ⌝ }
 {
@@ -32,7 +32,7 @@ fn numbers_at(kind: &[u8], w: &[u16], k: Counts, i: usize) -> Numbers
 }
 
 // What the evaluator looks at of object i.
-fn look(kind: &[u8], w: &[u16], k: Counts, i: usize) -> Looked
+fn look(kind: &[u8], w: &[u16], k: Levels, i: usize) -> Looked
     requires { ⌜ ObjectIn (now kind) (now w) k i ⌝ }
     ensures { λ r. ⌜ LookedIs (k .limit) (now (kind .entry)) i r ⌝ }
 {
@@ -81,7 +81,7 @@ fn value_at(
     kind: &[u8],
     ratio: &[f64],
     w: &[u16],
-    k: Counts,
+    k: Levels,
     tolerance: f64,
     i: usize,
 ) -> f64
@@ -100,7 +100,7 @@ pub fn fill_values(
     kind: &[u8],
     ratio: &[f64],
     w: &[u16],
-    k: Counts,
+    k: Levels,
     tolerance: f64,
     value: &mut [f64],
 )

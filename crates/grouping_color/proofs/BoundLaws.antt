@@ -13,7 +13,7 @@ use Rattle.grouping_hits.proofs.LengthLaws.{length-hitMarks, length-intervals}
 use Rattle.grouping_hits.proofs.RangeLaws.{interval-range, interval-byte}
 use Rattle.grouping_color.specs.MonoStreak.{streakMarks, streakOf, streakLengths}
 use Rattle.grouping_color.specs.AlternatingMonoPattern.{coupled}
-use Rattle.grouping_color.specs.Preprocessor.{patternsOpen, firstLengths, streakCounts, patternTypes, coupledPatterns, hitsOpen, hitCount, hitSizes, hitFirsts, hitSeconds, hitIntervals, streakPlaceOf, patternOf, patternPlaceOf, hitOf, intervalOf}
+use Rattle.grouping_color.specs.Preprocessor.{patternsOpen, firstLengths, streakCounts, patternTypes, coupledPatterns, hitsOpen, hitCount, hitSizes, hitFirsts, hitSeconds, hitIntervals, streakPlaceOf, alternatingOf, patternPlaceOf, hitOf, intervalOf}
 use Rattle.grouping_color.proofs.LengthLaws.{length-streakMarks, length-patternMarks, length-coupled}
 
 -- ---- the levels of a chart's kinds
@@ -58,42 +58,42 @@ module _ (kinds : List ℕ) where
   unfolding hitIntervals
   hit-interval-byte limit l j = interval-byte limit (hitSizes kinds) (hitFirsts kinds) (hitSeconds kinds) l j
 
-  pub length-patternOf : length (patternOf kinds) ≡ length kinds
-  unfolding patternOf
-  length-patternOf = length-gathered (groupNumbers (patternsOpen kinds)) (streakOf kinds) ∙ length-streakOf
+  pub length-alternatingOf : length (alternatingOf kinds) ≡ length kinds
+  unfolding alternatingOf
+  length-alternatingOf = length-gathered (groupNumbers (patternsOpen kinds)) (streakOf kinds) ∙ length-streakOf
 
   pub length-hitOf : length (hitOf kinds) ≡ length kinds
   unfolding hitOf
-  length-hitOf = length-gathered (groupNumbers (hitsOpen kinds)) (patternOf kinds) ∙ length-patternOf
+  length-hitOf = length-gathered (groupNumbers (hitsOpen kinds)) (alternatingOf kinds) ∙ length-alternatingOf
 
   pub length-intervalOf : (limit : ℕ) → length (intervalOf limit kinds) ≡ length kinds
   unfolding intervalOf
   length-intervalOf limit = length-gathered (hitIntervals limit kinds) (hitOf kinds) ∙ length-hitOf
 
-  pub patternOf-below : (i : ℕ) → i < length kinds → getD (patternOf kinds) i 0 < groupCount (patternsOpen kinds)
-  unfolding patternOf
-  patternOf-below i h =
+  pub alternatingOf-below : (i : ℕ) → i < length kinds → getD (alternatingOf kinds) i 0 < groupCount (patternsOpen kinds)
+  unfolding alternatingOf
+  alternatingOf-below i h =
       rw (getD-gathered (groupNumbers (patternsOpen kinds)) (streakOf kinds) i (omega (arith, length-streakOf))) (pattern-below (getD (streakOf kinds) i 0) (streak-below i h))
 
   pub hitOf-below : (i : ℕ) → i < length kinds → getD (hitOf kinds) i 0 < hitCount kinds
   unfolding hitOf
   hitOf-below i h =
-      rw (getD-gathered (groupNumbers (hitsOpen kinds)) (patternOf kinds) i (omega (arith, length-patternOf))) (hit-below (getD (patternOf kinds) i 0) (patternOf-below i h))
+      rw (getD-gathered (groupNumbers (hitsOpen kinds)) (alternatingOf kinds) i (omega (arith, length-alternatingOf))) (hit-below (getD (alternatingOf kinds) i 0) (alternatingOf-below i h))
 
   -- ---- each object's numbers, looked up level by level
   pub streakPlaceOf-looked : gathered (groupPlaces (patternsOpen kinds)) (streakOf kinds) ≡ streakPlaceOf kinds
   unfolding streakPlaceOf
   streakPlaceOf-looked = refl
 
-  pub patternOf-looked : gathered (groupNumbers (patternsOpen kinds)) (streakOf kinds) ≡ patternOf kinds
-  unfolding patternOf
-  patternOf-looked = refl
+  pub alternatingOf-looked : gathered (groupNumbers (patternsOpen kinds)) (streakOf kinds) ≡ alternatingOf kinds
+  unfolding alternatingOf
+  alternatingOf-looked = refl
 
-  pub patternPlaceOf-looked : gathered (groupPlaces (hitsOpen kinds)) (patternOf kinds) ≡ patternPlaceOf kinds
+  pub patternPlaceOf-looked : gathered (groupPlaces (hitsOpen kinds)) (alternatingOf kinds) ≡ patternPlaceOf kinds
   unfolding patternPlaceOf
   patternPlaceOf-looked = refl
 
-  pub hitOf-looked : gathered (groupNumbers (hitsOpen kinds)) (patternOf kinds) ≡ hitOf kinds
+  pub hitOf-looked : gathered (groupNumbers (hitsOpen kinds)) (alternatingOf kinds) ≡ hitOf kinds
   unfolding hitOf
   hitOf-looked = refl
 

@@ -47,14 +47,14 @@ hitIntervals limit kinds = intervals limit (hitSizes kinds) (hitFirsts kinds) (h
 unfoldable pub streakPlaceOf : List ℕ → List ℕ
 streakPlaceOf kinds = gathered (groupPlaces (patternsOpen kinds)) (streakOf kinds)
 
-unfoldable pub patternOf : List ℕ → List ℕ
-patternOf kinds = gathered (groupNumbers (patternsOpen kinds)) (streakOf kinds)
+unfoldable pub alternatingOf : List ℕ → List ℕ
+alternatingOf kinds = gathered (groupNumbers (patternsOpen kinds)) (streakOf kinds)
 
 unfoldable pub patternPlaceOf : List ℕ → List ℕ
-patternPlaceOf kinds = gathered (groupPlaces (hitsOpen kinds)) (patternOf kinds)
+patternPlaceOf kinds = gathered (groupPlaces (hitsOpen kinds)) (alternatingOf kinds)
 
 unfoldable pub hitOf : List ℕ → List ℕ
-hitOf kinds = gathered (groupNumbers (hitsOpen kinds)) (patternOf kinds)
+hitOf kinds = gathered (groupNumbers (hitsOpen kinds)) (alternatingOf kinds)
 
 unfoldable pub intervalOf : ℕ → List ℕ → List ℕ
 intervalOf limit kinds = gathered (hitIntervals limit kinds) (hitOf kinds)

@@ -8,7 +8,7 @@ use lib.Dec.{eqb}
 use lib.ListN.{length, getD}
 use borrow.Author.Tests.{eq-eqb, ne-eqb, eqb-true}
 use Rattle.grouping_marks.specs.Scan.{scan, after}
-use Rattle.grouping_marks.specs.Marks.{opened, placeAt, groupCount, groupNumbers, groupPlaces, sizesFrom, groupSizes, firstsFrom, groupFirsts}
+use Rattle.grouping_marks.specs.Marks.{opened, placeByMark, groupCount, groupNumbers, groupPlaces, sizesFrom, groupSizes, firstsFrom, groupFirsts}
 use Rattle.grouping_marks.proofs.MarksLaws.{opened-bounds}
 use Rattle.grouping_marks.proofs.ScanLaws.{scan-append, after-append}
 
@@ -145,7 +145,7 @@ numbers-cut fs (m ∷ ms) (opens z) =
 
 pub places-cut : (fs bs : List ℕ) → Opening bs → groupPlaces (fs ++ bs) ≡ groupPlaces fs ++ groupPlaces bs
 unfolding groupPlaces scan
-places-cut fs [] o = rw (append-nil fs, append-nil (scan (λ p m. placeAt p m + 1) placeAt 0 fs))
+places-cut fs [] o = rw (append-nil fs, append-nil (scan (λ p m. placeByMark p m + 1) placeByMark 0 fs))
 places-cut fs (m ∷ ms) (opens z) =
-    scan-append (λ p m. placeAt p m + 1) placeAt 0 fs (m ∷ ms)
-    ∙ ap (λ (l : List ℕ). scan (λ p m. placeAt p m + 1) placeAt 0 fs ++ l) (rw (ne-eqb m 0 z))
+    scan-append (λ p m. placeByMark p m + 1) placeByMark 0 fs (m ∷ ms)
+    ∙ ap (λ (l : List ℕ). scan (λ p m. placeByMark p m + 1) placeByMark 0 fs ++ l) (rw (ne-eqb m 0 z))

@@ -9,7 +9,7 @@ use lib.Dec.{eqb}
 use lib.ListN.{length, getD}
 use borrow.Author.Tests.{eqb-true, eqb-false}
 use Rattle.grouping_marks.specs.Scan.{scan, after}
-use Rattle.grouping_marks.specs.Marks.{opened, placeAt, groupCount, groupNumbers, groupPlaces, sizesFrom, groupSizes, firstsFrom, groupFirsts}
+use Rattle.grouping_marks.specs.Marks.{opened, placeByMark, groupCount, groupNumbers, groupPlaces, sizesFrom, groupSizes, firstsFrom, groupFirsts}
 use Rattle.grouping_marks.proofs.ScanLaws.{length-scan}
 
 pub length-numbers : (marks : List ℕ) → length (groupNumbers marks) ≡ length marks
@@ -18,10 +18,10 @@ length-numbers marks = length-scan opened (λ c m. opened c m - 1) 0 marks
 
 pub length-places : (marks : List ℕ) → length (groupPlaces marks) ≡ length marks
 unfolding groupPlaces
-length-places marks = length-scan (λ p m. placeAt p m + 1) placeAt 0 marks
+length-places marks = length-scan (λ p m. placeByMark p m + 1) placeByMark 0 marks
 
-pub place-le : (p m : ℕ) → placeAt p m ≤ p
-unfolding placeAt
+pub place-le : (p m : ℕ) → placeByMark p m ≤ p
+unfolding placeByMark
 place-le p m = go (eqb m 0)
   where
     go : (b : Bool) → cond b p 0 ≤ p
