@@ -30,7 +30,7 @@ two-end stage = by (eqb stage 0) (eqb stage 1)
 after-two : (flags : List ℕ) → after stageAfter 0 (flags ++ 0 ∷ 0 ∷ []) ≡ 0
 after-two flags =
     let s : ℕ = after stageAfter 0 flags in
-    after-append stageAfter 0 flags (0 ∷ 0 ∷ []) ∙ after-first stageAfter s 0 (0 ∷ []) ∙ after-first stageAfter (stageAfter s 0) 0 [] ∙ after-none stageAfter _ ∙ two-end s
+    rw (after-append, after-first stageAfter s, after-first stageAfter (stageAfter s 0), after-none) (two-end s)
 
 -- behind them the marks are those of the back alone, and a hit pattern opens there if any pattern is left
 pub hitMarks-cut : (flags back : List ℕ) → hitMarks (flags ++ (0 ∷ 0 ∷ back)) ≡ hitMarks (flags ++ (0 ∷ 0 ∷ [])) ++ hitMarks back

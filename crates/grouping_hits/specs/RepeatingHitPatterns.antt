@@ -1,5 +1,6 @@
 -- Document 01, repeating_hit_patterns.rs: hit patterns, when two of them match, and the interval at which one repeats.
--- The search limit M is a parameter, 16 in the original: k runs from 1 to M − 1, and M + 1 says that there is none, so M itself never occurs.
+-- The search limit M is a parameter, 16 in the original: k runs from 1 to M − 1, and M + 1 says that there is none,
+-- so M itself never occurs.
 use Prim.Native.Nat.{ℕ, zero, suc, _+_, _-_}
 use mathlib.Core.Bool.{Bool, cond, _&&_}
 use mathlib.Core.List.{List, [], _∷_}
@@ -17,7 +18,8 @@ coupledRun (c ∷ cs) = cond (eqb c 0) 0 (suc (coupledRun cs))
 unfoldable pub hitSize : List ℕ → ℕ
 hitSize flags = cond (eqb (coupledRun flags) 0) 1 (coupledRun flags + 2)
 
--- the marks where the open hit pattern takes `more` patterns yet: 0 for each of these, then 1 for the pattern that opens the next
+-- the marks where the open hit pattern takes `more` patterns yet: 0 for each of these, then 1 for the one that opens
+-- the next hit pattern
 unfoldable pub hitMarksAfter : ℕ → List ℕ → List ℕ
 unfolding coupledRun hitSize
 hitMarksAfter more [] = []
@@ -28,22 +30,27 @@ hitMarksAfter (suc more) (c ∷ cs) = 0 ∷ hitMarksAfter more cs
 unfoldable pub hitMarks : List ℕ → List ℕ
 hitMarks flags = hitMarksAfter 0 flags
 
--- the first-streak length of the pattern after pattern i, where that is in the same hit pattern; else 0, which no streak has
+-- the first-streak length of the pattern after pattern i, where that is in its hit pattern; else 0, which no streak has
 unfoldable pub secondAt : List ℕ → List ℕ → ℕ → ℕ
-secondAt lengths marks i = cond (ltb (i + 1) (length lengths)) (cond (eqb (getD marks (i + 1) 0) 0) (getD lengths (i + 1) 0) 0) 0
+secondAt lengths marks i =
+    cond (ltb (i + 1) (length lengths)) (cond (eqb (getD marks (i + 1) 0) 0) (getD lengths (i + 1) 0) 0) 0
 
 unfoldable pub secondLengths : List ℕ → List ℕ → List ℕ
 secondLengths lengths marks = tabulate (secondAt lengths marks) (length lengths)
 
 -- whether the hit patterns a and b match, by how many patterns each holds and the first two's first-streak lengths
 unfoldable pub matches : List ℕ → List ℕ → List ℕ → ℕ → ℕ → Bool
-matches sizes firsts seconds a b = eqb (getD sizes a 0) (getD sizes b 0) && (eqb (getD firsts a 0) (getD firsts b 0) && eqb (getD seconds a 0) (getD seconds b 0))
+matches sizes firsts seconds a b =
+    eqb (getD sizes a 0) (getD sizes b 0)
+    && (eqb (getD firsts a 0) (getD firsts b 0) && eqb (getD seconds a 0) (getD seconds b 0))
 
--- the smallest k, from the given one on and with at most `more` tries, whose k-th predecessor of h matches h; else `none`
+-- the smallest k, from the given one on and with at most `more` tries, whose k-th hit pattern before h matches h;
+-- else `none`
 unfoldable pub nearestMatch : List ℕ → List ℕ → List ℕ → ℕ → ℕ → ℕ → ℕ → ℕ
 nearestMatch sizes firsts seconds none h zero k = none
 nearestMatch sizes firsts seconds none h (suc more) k =
-    cond (leb k h) (cond (matches sizes firsts seconds (h - k) h) k (nearestMatch sizes firsts seconds none h more (suc k))) none
+    cond (leb k h)
+    (cond (matches sizes firsts seconds (h - k) h) k (nearestMatch sizes firsts seconds none h more (suc k))) none
 
 unfoldable pub intervalAt : ℕ → List ℕ → List ℕ → List ℕ → ℕ → ℕ
 intervalAt limit sizes firsts seconds h = nearestMatch sizes firsts seconds (limit + 1) h (limit - 1) 1

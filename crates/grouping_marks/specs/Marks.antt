@@ -1,5 +1,6 @@
--- Groups of neighbouring items, by marks: a number for each item, 1 where it opens a group and 0 where it continues one.
--- Streaks, alternating patterns, hit patterns and rhythm groups are all given so. The first item opens a group whatever its mark.
+-- Groups of neighbouring items, by marks: a number for each item, 1 where it opens a group and 0 where it continues it.
+-- Streaks, alternating patterns, hit patterns and rhythm groups are all given so.
+-- The first item opens a group whatever its mark.
 use Prim.Native.Nat.{ℕ, _+_, _-_}
 use mathlib.Core.Bool.{cond}
 use mathlib.Core.List.{List, [], _∷_}

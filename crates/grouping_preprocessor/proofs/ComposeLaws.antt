@@ -23,7 +23,7 @@ use Rattle.grouping_color.proofs.MadeLaws.{streakCounts-made, patternTypes-made
 use Rattle.grouping_color.proofs.MadeLaws.{hitSizes-made, hitFirsts-made, hitSeconds-made, hitIntervals-made}
 use Rattle.grouping_preprocessor.specs.Writes.{streakWrites, patternWrites, hitMarkWrites, intervalsBy, hitWrites, coupledWrites, encoderWrites}
 use Rattle.grouping_preprocessor.specs.Passes.{Regions, Outside, Streaks, Patterns, PatternsFound, Kept, HitMarks, HitMarksFound}
-use Rattle.grouping_preprocessor.specs.Passes.{coupledIn, Hits, HitsFound, Encodes}
+use Rattle.grouping_preprocessor.specs.Passes.{flagsIn, Hits, HitsFound, Encodes}
 
 -- ---- the regions of a call
 
@@ -223,14 +223,14 @@ patterns-made n s w₀ w₁ w₂ w₃ w₄ w₅ w p r hs e₁ e₂ e₃ e₄ e�
 -- ---- hit patterns
 
 pub hit-marks-made : (n p : ℕ) (w₀ w₁ w₂ w : List ℕ) → Regions n w₀ → p ≤ n
-    → w₁ ≡ put (6 * n) (coupledIn n p w₀) w₀
+    → w₁ ≡ put (6 * n) (flagsIn n p w₀) w₀
     → w₂ ≡ put (6 * n) (hitMarks (part (6 * n) p w₁)) w₁
     → w ≡ put (2 * n) (secondLengths (part n p w₂) (part (6 * n) p w₂)) w₂
     → HitMarksFound n p w₀ w
 unfolding hitMarkWrites
 hit-marks-made n p w₀ w₁ w₂ w r hp e₁ e₂ e₃ =
     let x : List ℕ = part n p w₀ in
-    let f : List ℕ = coupledIn n p w₀ in
+    let f : List ℕ = flagsIn n p w₀ in
     let m : List ℕ = hitMarks f in
     let lx : length x ≡ p = length-part n p w₀ (omega arith) in
     let lf : length f ≡ p = length-coupled x (part (5 * n) p w₀) (part (2 * n) p w₀) ∙ lx in
@@ -327,8 +327,8 @@ encoded limit kinds w₀ w₁ w₂ w s p h S P H =
     let y : part n p w₂ ≡ firstLengths kinds = P .firsts ∙ (λ i. groupFirsts (m i) (x i)) ∙ sym (firstLengths-made kinds) in
     let c : part (5 * n) p w₂ ≡ streakCounts kinds = P .counts ∙ ap groupSizes m ∙ sym (streakCounts-made kinds) in
     let u : part (2 * n) p w₂ ≡ patternTypes kinds = P .types-of ∙ (λ i. groupFirsts (m i) (t i)) ∙ sym (patternTypes-made kinds) in
-    let f : coupledIn n p w₂ ≡ coupledPatterns kinds = (λ i. coupled (y i) (c i) (u i)) ∙ sym (coupledPatterns-made kinds) in
-    let g : hitMarks (coupledIn n p w₂) ≡ hitsOpen kinds = ap hitMarks f ∙ sym (hitsOpen-made kinds) in
+    let f : flagsIn n p w₂ ≡ coupledPatterns kinds = (λ i. coupled (y i) (c i) (u i)) ∙ sym (coupledPatterns-made kinds) in
+    let g : hitMarks (flagsIn n p w₂) ≡ hitsOpen kinds = ap hitMarks f ∙ sym (hitsOpen-made kinds) in
     let a : List (Write ℕ) = patternWrites n (streakLengths kinds) (streakTypes kinds) in
     let b : List (Write ℕ) = coupledWrites limit n (firstLengths kinds) (coupledPatterns kinds) in
     record {

@@ -8,8 +8,9 @@ use Rattle.grouping_marks.specs.Over.{part, written}
 use Rattle.grouping_marks.specs.Marks.{groupCount, groupNumbers, groupPlaces, groupSizes, groupFirsts}
 use Rattle.grouping_hits.specs.RepeatingHitPatterns.{hitMarks, secondLengths}
 use Rattle.grouping_color.specs.MonoStreak.{streakMarks, streakOf, streakLengths, streakTypes}
-use Rattle.grouping_color.specs.AlternatingMonoPattern.{patternMarks, coupled}
+use Rattle.grouping_color.specs.AlternatingMonoPattern.{patternMarks}
 use Rattle.grouping_color.specs.Preprocessor.{patternsOpen, hitsOpen, hitCount, hitIntervals}
+use Rattle.grouping_color.specs.Passes.{coupledIn}
 use Rattle.grouping_preprocessor.specs.Writes.{streakWrites, patternWrites, hitMarkWrites, coupledWrites}
 use Rattle.grouping_preprocessor.specs.Writes.{encoderWrites, intervalsBy}
 use Rattle.grouping_preprocessor.specs.declared.Levels.{Levels}
@@ -66,11 +67,11 @@ pub record HitMarks (n p : ℕ) (lengths flags w₀ w : List ℕ) : Type 0 where
   pub kept : Kept n w₀ w
 
 -- which of p patterns are coupled, by the first lengths, streak counts and types that the slice has
-abbrev pub coupledIn : ℕ → ℕ → List ℕ → List ℕ
-coupledIn n p w = coupled (part n p w) (part (5 * n) p w) (part (2 * n) p w)
+abbrev pub flagsIn : ℕ → ℕ → List ℕ → List ℕ
+flagsIn n p w = coupledIn n (5 * n) (2 * n) p w
 
 abbrev pub HitMarksFound : ℕ → ℕ → List ℕ → List ℕ → Type 0
-HitMarksFound n p w₀ w = HitMarks n p (part n p w₀) (coupledIn n p w₀) w₀ w
+HitMarksFound n p w₀ w = HitMarks n p (part n p w₀) (flagsIn n p w₀) w₀ w
 
 -- from p patterns, by their first lengths and coupled flags, to hit patterns
 pub record Hits (limit n p : ℕ) (lengths flags w₀ w : List ℕ) (h : ℕ) : Type 0 where
@@ -83,7 +84,7 @@ pub record Hits (limit n p : ℕ) (lengths flags w₀ w : List ℕ) (h : ℕ) : 
   pub kept : Kept n w₀ w
 
 abbrev pub HitsFound : ℕ → ℕ → ℕ → List ℕ → List ℕ → ℕ → Type 0
-HitsFound limit n p w₀ w h = Hits limit n p (part n p w₀) (coupledIn n p w₀) w₀ w h
+HitsFound limit n p w₀ w h = Hits limit n p (part n p w₀) (flagsIn n p w₀) w₀ w h
 
 -- the tables from which each object's six numbers are looked up
 pub record Tables (limit : ℕ) (kinds w₀ w : List ℕ) (k : Levels) : Type 0 where

@@ -1,6 +1,6 @@
 -- What the encoder writes, list by list. It works in the first 8 n places of one slice, in eight regions of n places,
--- region r from place r * n on. A list is written from its region's first place on; past its end the region keeps what it held.
--- Later passes read
+-- region r from place r * n on. A list is written from its region's first place on, and past its end the region keeps
+-- what it held. Later passes read
 --   region 0 object: streak      region 3 streak: pattern      region 4 streak: place in its pattern
 --   region 1 pattern: hit pattern      region 2 pattern: place in its hit pattern      region 7 hit pattern: interval
 use Prim.Native.Nat.{ℕ, _*_}
@@ -36,7 +36,7 @@ patternWrites n lengths types =
     ∷ write (5 * n) (groupSizes marks)
     ∷ []
 
--- which patterns open a hit pattern, by their first lengths and coupled flags: the flags, the marks, each pattern's second length
+-- which patterns open a hit pattern, by their first lengths and coupled flags: the flags, the marks, the second lengths
 unfoldable pub hitMarkWrites : ℕ → List ℕ → List ℕ → List (Write ℕ)
 hitMarkWrites n lengths flags =
     let marks = hitMarks flags in
@@ -47,7 +47,8 @@ abbrev pub intervalsBy : ℕ → List ℕ → List ℕ → List ℕ → List ℕ
 intervalsBy limit firsts seconds marks =
     intervals limit (groupSizes marks) (groupFirsts marks firsts) (groupFirsts marks seconds)
 
--- the hit patterns, by the same: each one's size, first and second length and interval, each pattern's hit pattern and place
+-- the hit patterns, by the same: each one's size, first and second length and interval, each pattern's hit pattern and
+-- its place there
 unfoldable pub hitWrites : ℕ → ℕ → List ℕ → List ℕ → List ℕ → List (Write ℕ)
 hitWrites limit n firsts seconds marks =
     write (5 * n) (groupSizes marks)

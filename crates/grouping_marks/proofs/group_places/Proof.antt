@@ -27,8 +27,9 @@ add-p c =
 
 loop-again : tie.Need-loop-again Inv-loop μ-loop
 loop-again c =
-    let l = c .before .before .before in (
-      turn-part (l .loop .inv .0) (l .before .before .pre) (c .before .before .loop-test .taken) (c .place-by-mark .ensures) (ap (λ (n : ℕ). n + 1) (c .place-by-mark .ensures)),
+    let l = c .before .before .before in
+    let place = c .place-by-mark .ensures in (
+      turn-part (l .loop .inv .0) (l .before .before .pre) (c .before .before .loop-test .taken) place (ap (λ (n : ℕ). n + 1) place),
       omega (arith, place-le (l .loop .p) (getD (l .loop .w) (l .before .before .args .from + l .loop .i) 0)),
     )
 
