@@ -17,9 +17,9 @@ use Rattle.grouping_marks.proofs.NumberLaws.{numbers-rise}
 use Rattle.grouping_marks.proofs.SplitLaws.{Split, split-numbers, split-length, split-at, split-before}
 use Rattle.grouping_chart.specs.Object.{isNote}
 use Rattle.grouping_color.specs.MonoStreak.{streakMarks, streakOf, streakLengths}
-use Rattle.grouping_color.specs.Preprocessor.{patternsOpen, coupledPatterns, patternOf}
+use Rattle.grouping_color.specs.Preprocessor.{patternsOpen, coupledPatterns, alternatingOf}
 use Rattle.grouping_color.proofs.LengthLaws.{length-streakMarks}
-use Rattle.grouping_color.proofs.BoundLaws.{length-streakOf, length-patternsOpen, length-patternOf, streak-below, patternOf-looked}
+use Rattle.grouping_color.proofs.BoundLaws.{length-streakOf, length-patternsOpen, length-alternatingOf, streak-below, alternatingOf-looked}
 use Rattle.grouping_color.proofs.MadeLaws.{streakOf-made}
 use Rattle.grouping_color.proofs.StreakCutLaws.{HasNote, streakMarksAfter, streakMarks-cut, streakMarks-agree}
 use Rattle.agreement.specs.Landmark.{Landmark}
@@ -33,8 +33,8 @@ at-back : (front tail : List ℕ) (xs : List ℕ) (i j : ℕ) → xs ≡ front +
 at-back front tail xs i j e f = (λ k. getD (e k) (f k) 0) ∙ getD-append-add front tail j 0
 
 -- the objects' patterns never fall
-pattern-rises : (kinds : List ℕ) (i j : ℕ) → i ≤ j → j < length kinds → getD (patternOf kinds) i 0 ≤ getD (patternOf kinds) j 0
-pattern-rises kinds i j l h = rw (← patternOf-looked kinds) (
+pattern-rises : (kinds : List ℕ) (i j : ℕ) → i ≤ j → j < length kinds → getD (alternatingOf kinds) i 0 ≤ getD (alternatingOf kinds) j 0
+pattern-rises kinds i j l h = rw (← alternatingOf-looked kinds) (
     let a = getD-gathered (groupNumbers (patternsOpen kinds)) (streakOf kinds) i (omega (arith, length-streakOf kinds)) in
     let b = getD-gathered (groupNumbers (patternsOpen kinds)) (streakOf kinds) j (omega (arith, length-streakOf kinds)) in
     let r : getD (streakOf kinds) i 0 ≤ getD (streakOf kinds) j 0 = rw (streakOf-made kinds) (numbers-rise (streakMarks kinds) i j l (omega (arith, length-streakMarks kinds))) in
@@ -145,8 +145,8 @@ module _ (front rest : List ℕ) {n position : ℕ} (m : Landmark (front ++ rest
           let l : length (here .streaks) ≤ m .last = ltb-false (m .last) (length (here .streaks)) h in
           let j : ℕ = m .last - length (here .streaks) in
           let o : length (here .streaks) + j ≡ m .last = omega arith in
-          let i : j < length (backPattern (back unequal uncoupled)) = omega (arith, objects-back here, m .last-there, split-length (patterns-split here), length-patternOf (front ++ rest)) in
-          let v : getD (patternOf (front ++ rest)) (m .last) 0 ≡ length (here .hits) + getD (backPattern (back unequal uncoupled)) j 0 = rw o at (split-at (patterns-split here) j i) in
+          let i : j < length (backPattern (back unequal uncoupled)) = omega (arith, objects-back here, m .last-there, split-length (patterns-split here), length-alternatingOf (front ++ rest)) in
+          let v : getD (alternatingOf (front ++ rest)) (m .last) 0 ≡ length (here .hits) + getD (backPattern (back unequal uncoupled)) j 0 = rw o at (split-at (patterns-split here) j i) in
           absurd (omega (arith, v, second-below, m .last-of-second))
 
   none-between : m .last + 1 < length (here .streaks) → ⊥

@@ -12,7 +12,7 @@ use borrow.Author.Tests.{ltb-true, leb-true, eqb-true, eqb-false, lt-ltb, le-leb
 use Rattle.grouping_marks.specs.Marks.{groupNumbers}
 use Rattle.grouping_chart.specs.Object.{isNote}
 use Rattle.grouping_color.specs.MonoStreak.{streakMarks, streakOf, streakLengths}
-use Rattle.grouping_color.specs.Preprocessor.{patternsOpen, coupledPatterns, patternOf}
+use Rattle.grouping_color.specs.Preprocessor.{patternsOpen, coupledPatterns, alternatingOf}
 use Rattle.agreement.specs.Landmark.{Landmark}
 use Rattle.agreement.specs.LandmarkTest.{anyBelow, allTrue, objectServes, streakServes, patternServes, endsAt, landmarkBy, isLandmark}
 
@@ -78,11 +78,11 @@ none-found n test h = by (anyBelow n test) refl
 -- ---- the test
 
 module _ (kinds : List ℕ) (m position : ℕ) where
-  ends-last : (pattern i : ℕ) → endsAt (patternOf kinds) (length kinds) (pattern + 1) position ≡ true → position ≤ i → i < length kinds → getD (patternOf kinds) i 0 ≡ pattern + 1 → ⊥
+  ends-last : (pattern i : ℕ) → endsAt (alternatingOf kinds) (length kinds) (pattern + 1) position ≡ true → position ≤ i → i < length kinds → getD (alternatingOf kinds) i 0 ≡ pattern + 1 → ⊥
   unfolding endsAt
   ends-last pattern i d l h e =
       let n = not-true _ (all-first _ _ (all-rest _ _ (all-rest _ _ (all-rest _ _ d)))) in
-      let y = found-any _ (λ (i : ℕ). allTrue (leb position i ∷ eqb (getD (patternOf kinds) i 0) (pattern + 1) ∷ [])) i h
+      let y = found-any _ (λ (i : ℕ). allTrue (leb position i ∷ eqb (getD (alternatingOf kinds) i 0) (pattern + 1) ∷ [])) i h
       (all-more _ _ (le-leb position i l) (all-more _ _ (eq-eqb _ _ e) all-none)) in
       let z : false ≡ true = sym n ∙ y in
       let q : _≡_ {A = ℕ} 0 1 = cc in
@@ -92,7 +92,7 @@ module _ (kinds : List ℕ) (m position : ℕ) where
   landmark-of : (object streak pattern : ℕ) → object < length kinds → objectServes kinds (streakMarks kinds) m object ≡ true
       → streakServes (streakMarks kinds) (streakOf kinds) (streakLengths kinds) (patternsOpen kinds) object streak ≡ true
       → patternServes (patternsOpen kinds) (groupNumbers (patternsOpen kinds)) (coupledPatterns kinds) streak pattern ≡ true
-      → endsAt (patternOf kinds) (length kinds) (pattern + 1) position ≡ true → Landmark kinds m position
+      → endsAt (alternatingOf kinds) (length kinds) (pattern + 1) position ≡ true → Landmark kinds m position
   unfolding objectServes streakServes patternServes endsAt
   landmark-of object streak pattern h a b c d =
       let y = any-found _ _ (all-first _ _ (all-rest _ _ a)) in
@@ -158,18 +158,18 @@ module _ (kinds : List ℕ) (m position : ℕ) where
         all-more _ _ (le-leb _ _ (x .pattern-from))
         (all-more _ _ (lt-ltb _ _ (x .pattern-next)) (all-more _ _ (eq-eqb _ _ (x .pattern-uncoupled)) (all-more _ _ (eq-eqb _ _ (x .next-uncoupled)) all-none)))
 
-    end-test : endsAt (patternOf kinds) (length kinds) (x .pattern + 1) position ≡ true
+    end-test : endsAt (alternatingOf kinds) (length kinds) (x .pattern + 1) position ≡ true
     unfolding endsAt
     end-test =
         all-more _ _ (lt-ltb 0 position (omega (arith, x .just-after)))
         (all-more _ _ (le-leb position (length kinds) (omega (arith, x .just-after, x .last-there)))
-        (all-more _ _ (eq-eqb _ _ (ap (λ (i : ℕ). getD (patternOf kinds) i 0) before ∙ x .last-of-second))
-        (all-more _ _ (not-of _ (none-found (length kinds) (λ (i : ℕ). allTrue (leb position i ∷ eqb (getD (patternOf kinds) i 0) (x .pattern + 1) ∷ [])) none)) all-none)))
+        (all-more _ _ (eq-eqb _ _ (ap (λ (i : ℕ). getD (alternatingOf kinds) i 0) before ∙ x .last-of-second))
+        (all-more _ _ (not-of _ (none-found (length kinds) (λ (i : ℕ). allTrue (leb position i ∷ eqb (getD (alternatingOf kinds) i 0) (x .pattern + 1) ∷ [])) none)) all-none)))
       where
         before : position - 1 ≡ x .last
         before = omega (arith, x .just-after)
 
-        none : (i : ℕ) → i < length kinds → allTrue (leb position i ∷ eqb (getD (patternOf kinds) i 0) (x .pattern + 1) ∷ []) ≡ true → ⊥
+        none : (i : ℕ) → i < length kinds → allTrue (leb position i ∷ eqb (getD (alternatingOf kinds) i 0) (x .pattern + 1) ∷ []) ≡ true → ⊥
         none i h e =
             let l : position ≤ i = leb-true _ _ (all-first _ _ e) in
             x .last-is-last i (omega (arith, x .just-after)) h (eqb-true _ _ (all-first _ _ (all-rest _ _ e)))

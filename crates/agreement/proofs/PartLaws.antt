@@ -17,9 +17,9 @@ use Rattle.grouping_hits.proofs.LengthLaws.{length-hitMarks, length-secondLengt
 use Rattle.grouping_hits.proofs.HitCutLaws.{secondLengths-cut}
 use Rattle.grouping_hits.proofs.IntervalCutLaws.{intervals-back}
 use Rattle.grouping_color.specs.MonoStreak.{streakMarks, streakOf}
-use Rattle.grouping_color.specs.Preprocessor.{patternsOpen, firstLengths, streakCounts, patternTypes, coupledPatterns, hitsOpen, hitCount, hitSizes, hitFirsts, hitSeconds, streakPlaceOf, patternOf, patternPlaceOf, hitOf, intervalOf}
+use Rattle.grouping_color.specs.Preprocessor.{patternsOpen, firstLengths, streakCounts, patternTypes, coupledPatterns, hitsOpen, hitCount, hitSizes, hitFirsts, hitSeconds, streakPlaceOf, alternatingOf, patternPlaceOf, hitOf, intervalOf}
 use Rattle.grouping_color.proofs.LengthLaws.{length-streakMarks, length-coupled}
-use Rattle.grouping_color.proofs.BoundLaws.{length-patternsOpen, length-hitsOpen, streakPlaceOf-looked, patternOf-looked, patternPlaceOf-looked, hitOf-looked, intervalOf-looked}
+use Rattle.grouping_color.proofs.BoundLaws.{length-patternsOpen, length-hitsOpen, streakPlaceOf-looked, alternatingOf-looked, patternPlaceOf-looked, hitOf-looked, intervalOf-looked}
 use Rattle.grouping_color.proofs.MadeLaws.{streakOf-made, coupledPatterns-made, hitsOpen-made, hitCount-made, hitSizes-made, hitFirsts-made, hitSeconds-made, hitIntervals-made}
 use Rattle.agreement.specs.Agreement.{HitsCut, Agree}
 
@@ -79,9 +79,9 @@ module _ {kinds : List ℕ} {k : Back} (x : Parted kinds k) where
   streaks-inside : Below (groupNumbers (k .streaks)) (length (k .patterns))
   streaks-inside i h = omega (arith, below-numbers (k .streaks) i h, back-patterns)
 
-  pub patterns-split : Split (patternOf kinds) (length (x .streaks)) (length (x .hits)) (backPattern k)
+  pub patterns-split : Split (alternatingOf kinds) (length (x .streaks)) (length (x .hits)) (backPattern k)
   unfolding backPattern
-  patterns-split = rw (← patternOf-looked kinds) (split-gathered streaks-split patterns-table (λ i h. omega (arith, streaks-inside i h, length-numbers (k .patterns))))
+  patterns-split = rw (← alternatingOf-looked kinds) (split-gathered streaks-split patterns-table (λ i h. omega (arith, streaks-inside i h, length-numbers (k .patterns))))
 
   patterns-inside : Below (backPattern k) (length (k .hits))
   unfolding backPattern
@@ -132,7 +132,7 @@ module _ {kinds : List ℕ} {k : Back} (x : Parted kinds k) where
     pattern-place-back : getD (patternPlaceOf kinds) (length (x .streaks) + j) 0 ≡ getD (groupPlaces (k .hits)) (getD (backPattern k) j 0) 0
     pattern-place-back =
         ap (λ (l : List ℕ). getD l (length (x .streaks) + j) 0) (sym (patternPlaceOf-looked kinds))
-        ∙ ap (λ (l : List ℕ). getD (gathered l (patternOf kinds)) (length (x .streaks) + j) 0)
+        ∙ ap (λ (l : List ℕ). getD (gathered l (alternatingOf kinds)) (length (x .streaks) + j) 0)
         (ap groupPlaces (x .hits-whole) ∙ places-cut (x .hits) (k .hits) (x .hits-open))
         ∙ split-looked patterns-split (groupPlaces (x .hits)) (groupPlaces (k .hits)) (length-places (x .hits)) j (omega (arith, pattern-long))
 

@@ -6,7 +6,7 @@ use mathlib.Core.List.{List}
 use lib.Dec.{eqb}
 use lib.ListN.{length, drop, getD}
 use Rattle.grouping_color.specs.MonoStreak.{streakOf}
-use Rattle.grouping_color.specs.Preprocessor.{patternOf, hitOf, streakPlaceOf, patternPlaceOf, intervalOf, hitCount, hitSizes, hitFirsts, hitSeconds}
+use Rattle.grouping_color.specs.Preprocessor.{alternatingOf, hitOf, streakPlaceOf, patternPlaceOf, intervalOf, hitCount, hitSizes, hitFirsts, hitSeconds}
 
 -- objects a + j and b + j have the same answer to whether they are of the same group as the object before
 abbrev pub FirstAlike : List ℕ → List ℕ → ℕ → ℕ → ℕ → Type 0
@@ -32,7 +32,7 @@ pub record Agree (limit : ℕ) (kinds : List ℕ) (a g : ℕ) (kinds′ : List �
   -- counted from the landmark, counterparts are of the same hit pattern
   pub hit : (j : ℕ) → a + j < length kinds → getD (hitOf kinds) (a + j) 0 + h ≡ getD (hitOf kinds′) (b + j) 0 + g
   pub hit-first : (j : ℕ) → a + j < length kinds → FirstAlike (hitOf kinds) (hitOf kinds′) a b j
-  pub pattern-first : (j : ℕ) → a + j < length kinds → FirstAlike (patternOf kinds) (patternOf kinds′) a b j
+  pub pattern-first : (j : ℕ) → a + j < length kinds → FirstAlike (alternatingOf kinds) (alternatingOf kinds′) a b j
   pub streak-first : (j : ℕ) → a + j < length kinds → FirstAlike (streakOf kinds) (streakOf kinds′) a b j
   pub pattern-place : (j : ℕ) → a + j < length kinds → getD (patternPlaceOf kinds) (a + j) 0 ≡ getD (patternPlaceOf kinds′) (b + j) 0
   pub streak-place : (j : ℕ) → a + j < length kinds → getD (streakPlaceOf kinds) (a + j) 0 ≡ getD (streakPlaceOf kinds′) (b + j) 0

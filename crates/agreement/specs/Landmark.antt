@@ -9,7 +9,7 @@ use lib.ListN.{length, getD}
 use Rattle.grouping_marks.specs.Marks.{groupCount, groupNumbers}
 use Rattle.grouping_chart.specs.Object.{isNote}
 use Rattle.grouping_color.specs.MonoStreak.{streakMarks, streakOf, streakLengths}
-use Rattle.grouping_color.specs.Preprocessor.{patternsOpen, coupledPatterns, patternOf}
+use Rattle.grouping_color.specs.Preprocessor.{patternsOpen, coupledPatterns, alternatingOf}
 
 -- a colour landmark of a chart with these kinds, where its last m objects are the common tail: `position` objects stand before the landmark.
 -- Objects, streaks and patterns are given by their numbers in the chart, from 0.
@@ -37,6 +37,6 @@ pub record Landmark (kinds : List ℕ) (m position : ℕ) : Type 0 where
   -- the last object of the second pattern
   pub last : ℕ
   pub last-there : last < length kinds
-  pub last-of-second : getD (patternOf kinds) last 0 ≡ pattern + 1
-  pub last-is-last : (i : ℕ) → last < i → i < length kinds → getD (patternOf kinds) i 0 ≡ pattern + 1 → ⊥
+  pub last-of-second : getD (alternatingOf kinds) last 0 ≡ pattern + 1
+  pub last-is-last : (i : ℕ) → last < i → i < length kinds → getD (alternatingOf kinds) i 0 ≡ pattern + 1 → ⊥
   pub just-after : position ≡ last + 1

@@ -7,7 +7,7 @@ use lib.ListN.{length, getD}
 use Rattle.grouping_marks.specs.Marks.{groupCount, groupNumbers}
 use Rattle.grouping_chart.specs.Object.{isNote}
 use Rattle.grouping_color.specs.MonoStreak.{streakMarks, streakOf, streakLengths}
-use Rattle.grouping_color.specs.Preprocessor.{patternsOpen, coupledPatterns, patternOf}
+use Rattle.grouping_color.specs.Preprocessor.{patternsOpen, coupledPatterns, alternatingOf}
 
 -- some number below n passes the test
 unfoldable pub anyBelow : ℕ → (ℕ → Bool) → Bool
@@ -52,7 +52,7 @@ landmarkBy kinds marks numbers lengths opens groups flags patterns m position =
 
 unfoldable pub isLandmark : List ℕ → ℕ → ℕ → Bool
 isLandmark kinds m position =
-    landmarkBy kinds (streakMarks kinds) (streakOf kinds) (streakLengths kinds) (patternsOpen kinds) (groupNumbers (patternsOpen kinds)) (coupledPatterns kinds) (patternOf kinds) m position
+    landmarkBy kinds (streakMarks kinds) (streakOf kinds) (streakLengths kinds) (patternsOpen kinds) (groupNumbers (patternsOpen kinds)) (coupledPatterns kinds) (alternatingOf kinds) m position
 
 -- the positions below n at which there is a landmark, in rising order
 unfoldable pub landmarksBelow : List ℕ → ℕ → ℕ → List ℕ

@@ -12,10 +12,10 @@ use Rattle.grouping_marks.specs.Scan.{scan, after, tabulate, gathered}
 use Rattle.grouping_marks.specs.Marks.{opened, groupCount, groupNumbers, sizesFrom, groupSizes, firstsFrom, groupFirsts}
 use Rattle.grouping_chart.specs.Object.{isNote, notes, noteIdx, noteBefore, previousNote}
 use Rattle.grouping_chart.specs.Settings.{baseSettings}
-use Rattle.grouping_hits.specs.RepeatingHitPatterns.{stageAfter, opensHit, hitMarks}
+use Rattle.grouping_hits.specs.RepeatingHitPatterns.{coupledRun, hitSize, hitMarksAfter, hitMarks}
 use Rattle.grouping_color.specs.MonoStreak.{continues, opensStreak, streakMarks, streakOf, streakLengths, streakTypes}
 use Rattle.grouping_color.specs.AlternatingMonoPattern.{opensPattern, patternMarks, coupledAt, coupled}
-use Rattle.grouping_color.specs.Preprocessor.{patternsOpen, firstLengths, streakCounts, patternTypes, coupledPatterns, hitsOpen, patternOf, hitOf}
+use Rattle.grouping_color.specs.Preprocessor.{patternsOpen, firstLengths, streakCounts, patternTypes, coupledPatterns, hitsOpen, alternatingOf, hitOf}
 use Rattle.evaluator_values.specs.Colour.{colourAt}
 use Rattle.evaluator_calls.specs.Stretch.{meanOf}
 use Rattle.agreement.specs.CommonTail.{CommonTail}
@@ -28,16 +28,16 @@ abbrev tail : List ℕ
 tail = 0 ∷ 1 ∷ 1 ∷ 0 ∷ 0 ∷ 0 ∷ 1 ∷ 0 ∷ 0 ∷ 1 ∷ 1 ∷ 1 ∷ 0 ∷ 1 ∷ 1 ∷ 0 ∷ 0 ∷ 0 ∷ 1 ∷ 0 ∷ 0 ∷ 1 ∷ 1 ∷ 1 ∷ 0 ∷ 1 ∷ 1 ∷ 0 ∷ 0 ∷ 0 ∷ 1 ∷ 0 ∷ 0 ∷ 1 ∷ 1 ∷ 1 ∷ 0 ∷ 1 ∷ 1 ∷ []
 
 -- the object behind the fourth streak is of the fifth pattern
-fifth : getD (patternOf tail) 7 0 ≡ 4
-unfolding scan after tabulate gathered opened groupCount groupNumbers sizesFrom groupSizes firstsFrom groupFirsts isNote notes noteIdx noteBefore previousNote continues opensStreak streakMarks streakOf streakLengths streakTypes opensPattern patternMarks coupledAt coupled patternsOpen firstLengths streakCounts patternTypes patternOf coupledPatterns
+fifth : getD (alternatingOf tail) 7 0 ≡ 4
+unfolding scan after tabulate gathered opened groupCount groupNumbers sizesFrom groupSizes firstsFrom groupFirsts isNote notes noteIdx noteBefore previousNote continues opensStreak streakMarks streakOf streakLengths streakTypes opensPattern patternMarks coupledAt coupled patternsOpen firstLengths streakCounts patternTypes alternatingOf coupledPatterns
 fifth = refl
 
-past : (i : ℕ) → 6 < i → i < 39 → getD (patternOf tail) i 0 ≡ 3 → ⊥
+past : (i : ℕ) → 6 < i → i < 39 → getD (alternatingOf tail) i 0 ≡ 3 → ⊥
 past i l h e = omega (arith, fifth, pattern-rises tail 7 i l h)
 
 -- (a) object 1 with note 0 before it, (b) streaks 1 and 2, (c) patterns 2 and 3
 landmark : Landmark tail 39 7
-unfolding scan after tabulate gathered opened groupCount groupNumbers sizesFrom groupSizes firstsFrom groupFirsts isNote notes noteIdx noteBefore previousNote continues opensStreak streakMarks streakOf streakLengths streakTypes opensPattern patternMarks coupledAt coupled patternsOpen firstLengths streakCounts patternTypes patternOf coupledPatterns
+unfolding scan after tabulate gathered opened groupCount groupNumbers sizesFrom groupSizes firstsFrom groupFirsts isNote notes noteIdx noteBefore previousNote continues opensStreak streakMarks streakOf streakLengths streakTypes opensPattern patternMarks coupledAt coupled patternsOpen firstLengths streakCounts patternTypes alternatingOf coupledPatterns
 landmark = record {
   object = 1;
   object-there = omega arith;
@@ -64,7 +64,7 @@ landmark = record {
 }
 
 sixteenth : getD (hitOf tail) 7 0 + 16 ≡ getD (hitOf tail) 37 0 + 1
-unfolding scan after tabulate gathered opened groupCount groupNumbers sizesFrom groupSizes firstsFrom groupFirsts isNote notes noteIdx noteBefore previousNote continues opensStreak streakMarks streakOf streakLengths streakTypes opensPattern patternMarks coupledAt coupled patternsOpen firstLengths streakCounts patternTypes patternOf coupledPatterns stageAfter opensHit hitMarks hitsOpen hitOf
+unfolding scan after tabulate gathered opened groupCount groupNumbers sizesFrom groupSizes firstsFrom groupFirsts isNote notes noteIdx noteBefore previousNote continues opensStreak streakMarks streakOf streakLengths streakTypes opensPattern patternMarks coupledAt coupled patternsOpen firstLengths streakCounts patternTypes alternatingOf coupledPatterns coupledRun hitSize hitMarksAfter hitMarks hitsOpen hitOf
 sixteenth = refl
 
 settled : Settled (baseSettings .limit) tail 7 37

@@ -9,9 +9,9 @@ use Rattle.grouping_marks.specs.Marks.{groupNumbers}
 use Rattle.grouping_marks.proofs.FillLaws.{getD-gathered}
 use Rattle.grouping_marks.proofs.NumberLaws.{numbers-rise}
 use Rattle.grouping_color.specs.MonoStreak.{streakMarks, streakOf}
-use Rattle.grouping_color.specs.Preprocessor.{patternsOpen, hitsOpen, patternOf, hitOf}
+use Rattle.grouping_color.specs.Preprocessor.{patternsOpen, hitsOpen, alternatingOf, hitOf}
 use Rattle.grouping_color.proofs.LengthLaws.{length-streakMarks}
-use Rattle.grouping_color.proofs.BoundLaws.{length-streakOf, length-patternsOpen, length-patternOf, length-hitsOpen, streak-below, patternOf-below, patternOf-looked, hitOf-looked}
+use Rattle.grouping_color.proofs.BoundLaws.{length-streakOf, length-patternsOpen, length-alternatingOf, length-hitsOpen, streak-below, alternatingOf-below, alternatingOf-looked, hitOf-looked}
 use Rattle.grouping_color.proofs.MadeLaws.{streakOf-made}
 
 abbrev Rising : ℕ → List ℕ → Type 0
@@ -32,12 +32,12 @@ module _ (kinds : List ℕ) where
   streak-rises : Rising (length kinds) (streakOf kinds)
   streak-rises i j l h = rw (streakOf-made kinds) (numbers-rise (streakMarks kinds) i j l (omega (arith, length-streakMarks kinds)))
 
-  pub pattern-rises : Rising (length kinds) (patternOf kinds)
+  pub pattern-rises : Rising (length kinds) (alternatingOf kinds)
   pattern-rises =
-      rw (← patternOf-looked kinds)
+      rw (← alternatingOf-looked kinds)
       (gathered-rises (length kinds) (patternsOpen kinds) (streakOf kinds) (length-streakOf kinds) (λ i h. omega (arith, streak-below kinds i h, length-patternsOpen kinds)) streak-rises)
 
   pub hit-rises : Rising (length kinds) (hitOf kinds)
   hit-rises =
       rw (← hitOf-looked kinds)
-      (gathered-rises (length kinds) (hitsOpen kinds) (patternOf kinds) (length-patternOf kinds) (λ i h. omega (arith, patternOf-below kinds i h, length-hitsOpen kinds)) pattern-rises)
+      (gathered-rises (length kinds) (hitsOpen kinds) (alternatingOf kinds) (length-alternatingOf kinds) (λ i h. omega (arith, alternatingOf-below kinds i h, length-hitsOpen kinds)) pattern-rises)

@@ -7,7 +7,7 @@ use native.Mathlib.Omega.{arith}
 use lib.ListN.{length, getD}
 use lib.Ieee.{Float, nan}
 use Rattle.grouping_color.specs.MonoStreak.{streakOf}
-use Rattle.grouping_color.specs.Preprocessor.{patternOf, hitOf}
+use Rattle.grouping_color.specs.Preprocessor.{alternatingOf, hitOf}
 use Rattle.evaluator_values.specs.Colour.{isFirst, colourAt}
 use Rattle.evaluator_values.proofs.StandingLaws.{change-first}
 use Rattle.evaluator_values.proofs.AlikeLaws.{StandingAlike, colour-alike}
@@ -27,7 +27,7 @@ module _ {limit : ℕ} {kinds : List ℕ} {a g : ℕ} {kinds′ : List ℕ} {b h
     outer = r .pattern-place j l;
     inner = r .streak-place j l;
     streak = first-agree (streakOf kinds) (streakOf kinds′) a b j (r .cut .some) (r .cut′ .some) (r .streak-first j l);
-    pattern = first-agree (patternOf kinds) (patternOf kinds′) a b j (r .cut .some) (r .cut′ .some) (r .pattern-first j l);
+    pattern = first-agree (alternatingOf kinds) (alternatingOf kinds′) a b j (r .cut .some) (r .cut′ .some) (r .pattern-first j l);
     hit = first-agree (hitOf kinds) (hitOf kinds′) a b j (r .cut .some) (r .cut′ .some) (r .hit-first j l);
   }
 

@@ -9,7 +9,7 @@ use lib.Dec.{eqb}
 use lib.ListN.{getD}
 use lib.Ieee.{Float, nan, binary64, mul}
 use Rattle.grouping_color.specs.MonoStreak.{streakOf}
-use Rattle.grouping_color.specs.Preprocessor.{streakPlaceOf, patternOf, patternPlaceOf, hitOf, intervalOf}
+use Rattle.grouping_color.specs.Preprocessor.{streakPlaceOf, alternatingOf, patternPlaceOf, hitOf, intervalOf}
 use Rattle.evaluator_color.specs.Color.{objectSum}
 use Rattle.evaluator_color.specs.RatioPenalty.{ratioPenalty}
 use Rattle.evaluator_color.proofs.PenaltyCases.{tested}
@@ -26,7 +26,7 @@ pub record StandingAlike (limit : ℕ) (kinds : List ℕ) (i : ℕ) (kinds′ : 
   pub outer : getD (patternPlaceOf kinds) i 0 ≡ getD (patternPlaceOf kinds′) i′ 0
   pub inner : getD (streakPlaceOf kinds) i 0 ≡ getD (streakPlaceOf kinds′) i′ 0
   pub streak : isFirst (streakOf kinds) i ≡ isFirst (streakOf kinds′) i′
-  pub pattern : isFirst (patternOf kinds) i ≡ isFirst (patternOf kinds′) i′
+  pub pattern : isFirst (alternatingOf kinds) i ≡ isFirst (alternatingOf kinds′) i′
   pub hit : isFirst (hitOf kinds) i ≡ isFirst (hitOf kinds′) i′
 
 standing-alike : {limit : ℕ} {kinds : List ℕ} {i : ℕ} {kinds′ : List ℕ} {i′ : ℕ} → StandingAlike limit kinds i kinds′ i′

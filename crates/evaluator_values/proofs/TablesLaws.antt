@@ -9,16 +9,16 @@ use Rattle.grouping_marks.specs.Scan.{gathered}
 use Rattle.grouping_marks.proofs.OverLaws.{getD-part}
 use Rattle.grouping_marks.proofs.FillLaws.{getD-gathered}
 use Rattle.grouping_color.specs.MonoStreak.{streakOf}
-use Rattle.grouping_color.specs.Preprocessor.{hitIntervals, streakPlaceOf, patternOf, patternPlaceOf, hitOf, intervalOf}
-use Rattle.grouping_color.proofs.BoundLaws.{streakPlaceOf-looked, patternOf-looked, patternPlaceOf-looked, hitOf-looked, intervalOf-looked, length-streakOf}
-use Rattle.grouping_color.proofs.BoundLaws.{length-patternOf, length-hitOf, streak-below, patternOf-below, hitOf-below}
+use Rattle.grouping_color.specs.Preprocessor.{hitIntervals, streakPlaceOf, alternatingOf, patternPlaceOf, hitOf, intervalOf}
+use Rattle.grouping_color.proofs.BoundLaws.{streakPlaceOf-looked, alternatingOf-looked, patternPlaceOf-looked, hitOf-looked, intervalOf-looked, length-streakOf}
+use Rattle.grouping_color.proofs.BoundLaws.{length-alternatingOf, length-hitOf, streak-below, alternatingOf-below, hitOf-below}
 use Rattle.grouping_preprocessor.specs.Passes.{Regions, Tables}
-use Rattle.grouping_preprocessor.specs.declared.Counts.{Counts}
+use Rattle.grouping_preprocessor.specs.declared.Levels.{Levels}
 use Rattle.evaluator_values.specs.Passes.{Tabled, ObjectIn, NumbersAt}
 use Rattle.evaluator_values.specs.declared.Numbers.{Numbers}
 
 -- ---- the encoder's answer says where its tables lie
-pub tabled : {limit : ℕ} {kinds w₀ w : List ℕ} {k : Counts} → Regions (length kinds) w₀ → Tables limit kinds w₀ w k → Tabled kinds w k
+pub tabled : {limit : ℕ} {kinds w₀ w : List ℕ} {k : Levels} → Regions (length kinds) w₀ → Tables limit kinds w₀ w k → Tabled kinds w k
 tabled {limit} {kinds} r t = record {
   regions = record { few = r .few; room = omega (arith, r .room, t .outside .same) };
   tables = record {
@@ -47,7 +47,7 @@ entry-is : (w : List ℕ) (a m : ℕ) (table idx answer : List ℕ) (i s : ℕ) 
 entry-is w a m table idx answer i s t g h r e =
     sym (getD-part a m w s 0 r) ∙ (λ j. getD (t j) (e j) 0) ∙ sym (getD-gathered table idx i h) ∙ ap (λ (l : List ℕ). getD l i 0) g
 
-module _ {kinds w : List ℕ} {k : Counts} {i : ℕ} (o : ObjectIn kinds w k i) where
+module _ {kinds w : List ℕ} {k : Levels} {i : ℕ} (o : ObjectIn kinds w k i) where
   streak-is : getD w i 0 ≡ getD (streakOf kinds) i 0
   streak-is =
       let z : 0 + i ≡ i = omega arith in
@@ -56,18 +56,18 @@ module _ {kinds w : List ℕ} {k : Counts} {i : ℕ} (o : ObjectIn kinds w k i) 
   pub streak-in : getD w i 0 < k .streaks
   streak-in = omega (arith, streak-is, streak-below kinds i (o .within), o .tabled .tables .count-s)
 
-  pattern-is : getD w (3 * length kinds + getD w i 0) 0 ≡ getD (patternOf kinds) i 0
+  pattern-is : getD w (3 * length kinds + getD w i 0) 0 ≡ getD (alternatingOf kinds) i 0
   pattern-is =
-      entry-is w (3 * length kinds) (k .streaks) _ (streakOf kinds) _ i (getD w i 0) (o .tabled .tables .pattern) (patternOf-looked kinds)
+      entry-is w (3 * length kinds) (k .streaks) _ (streakOf kinds) _ i (getD w i 0) (o .tabled .tables .pattern) (alternatingOf-looked kinds)
       (omega (arith, length-streakOf kinds, o .within)) streak-in streak-is
 
   pub pattern-in : getD w (3 * length kinds + getD w i 0) 0 < k .patterns
-  pattern-in = omega (arith, pattern-is, patternOf-below kinds i (o .within), o .tabled .tables .count-p)
+  pattern-in = omega (arith, pattern-is, alternatingOf-below kinds i (o .within), o .tabled .tables .count-p)
 
   hit-is : getD w (length kinds + getD w (3 * length kinds + getD w i 0) 0) 0 ≡ getD (hitOf kinds) i 0
   hit-is =
-      entry-is w (length kinds) (k .patterns) _ (patternOf kinds) _ i (getD w (3 * length kinds + getD w i 0) 0) (o .tabled .tables .hit) (hitOf-looked kinds)
-      (omega (arith, length-patternOf kinds, o .within)) pattern-in pattern-is
+      entry-is w (length kinds) (k .patterns) _ (alternatingOf kinds) _ i (getD w (3 * length kinds + getD w i 0) 0) (o .tabled .tables .hit) (hitOf-looked kinds)
+      (omega (arith, length-alternatingOf kinds, o .within)) pattern-in pattern-is
 
   hit-in : getD w (length kinds + getD w (3 * length kinds + getD w i 0) 0) 0 < k .hits
   hit-in = omega (arith, hit-is, hitOf-below kinds i (o .within), o .tabled .tables .count-h)
@@ -88,8 +88,8 @@ module _ {kinds w : List ℕ} {k : Counts} {i : ℕ} (o : ObjectIn kinds w k i) 
 
     pub outer-is : getD w (2 * length kinds + r .pattern) 0 ≡ getD (patternPlaceOf kinds) i 0
     outer-is =
-        entry-is w (2 * length kinds) (k .patterns) _ (patternOf kinds) _ i (r .pattern) (o .tabled .tables .pattern-place) (patternPlaceOf-looked kinds)
-        (omega (arith, length-patternOf kinds, o .within)) (a .in-patterns) (a .patterns)
+        entry-is w (2 * length kinds) (k .patterns) _ (alternatingOf kinds) _ i (r .pattern) (o .tabled .tables .pattern-place) (patternPlaceOf-looked kinds)
+        (omega (arith, length-alternatingOf kinds, o .within)) (a .in-patterns) (a .patterns)
 
     pub inner-is : getD w (4 * length kinds + r .streak) 0 ≡ getD (streakPlaceOf kinds) i 0
     inner-is =

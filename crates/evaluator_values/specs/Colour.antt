@@ -9,7 +9,7 @@ use Rattle.grouping_marks.specs.Scan.{tabulate}
 use Rattle.grouping_chart.specs.Chart.{Chart}
 use Rattle.grouping_chart.specs.Settings.{Settings}
 use Rattle.grouping_color.specs.MonoStreak.{streakOf}
-use Rattle.grouping_color.specs.Preprocessor.{streakPlaceOf, patternOf, patternPlaceOf, hitOf, intervalOf}
+use Rattle.grouping_color.specs.Preprocessor.{streakPlaceOf, alternatingOf, patternPlaceOf, hitOf, intervalOf}
 use Rattle.evaluator_color.specs.declared.Standing.{Standing}
 use Rattle.evaluator_color.specs.Color.{objectSum}
 use Rattle.evaluator_color.specs.RatioPenalty.{ratioPenalty}
@@ -25,7 +25,7 @@ standingAt limit kinds i = record {
   outer = getD (patternPlaceOf kinds) i 0;
   inner = getD (streakPlaceOf kinds) i 0;
   streak = isFirst (streakOf kinds) i;
-  pattern = isFirst (patternOf kinds) i;
+  pattern = isFirst (alternatingOf kinds) i;
   hit = isFirst (hitOf kinds) i;
 }
 

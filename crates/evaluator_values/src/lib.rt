@@ -8,7 +8,7 @@ ghost use Rattle.evaluator_values.specs.Colour.{colourAt, colourValues};
 ghost use Rattle.evaluator_values.specs.Passes.{ObjectIn, NumbersAt, StandingIs, Lent};
 use evaluator_color::Standing;
 use grouping_chart::object::ObjectIndex;
-use grouping_preprocessor::Counts;
+use grouping_preprocessor::Levels;
 
 // An object's group number on each level.
 pub struct Numbers {
@@ -17,7 +17,7 @@ pub struct Numbers {
     pub hit: usize,
 }
 
-fn numbers_at(kind: &[u8], w: &[u16], k: Counts, idx: ObjectIndex) -> Numbers
+fn numbers_at(kind: &[u8], w: &[u16], k: Levels, idx: ObjectIndex) -> Numbers
     requires { ⌜ ObjectIn (now kind) (now w) k (idx .0) ⌝ }
     ensures { λ r. ⌜ NumbersAt (now (kind .entry)) k (idx .0) r ⌝ }
 {
@@ -33,7 +33,7 @@ fn numbers_at(kind: &[u8], w: &[u16], k: Counts, idx: ObjectIndex) -> Numbers
     }
 }
 
-fn standing_at(kind: &[u8], w: &[u16], k: Counts, idx: ObjectIndex) -> Standing
+fn standing_at(kind: &[u8], w: &[u16], k: Levels, idx: ObjectIndex) -> Standing
     requires { ⌜ ObjectIn (now kind) (now w) k (idx .0) ⌝ }
     ensures { λ r. ⌜ StandingIs (k .limit) (now (kind .entry)) (idx .0) r ⌝ }
 {
@@ -84,7 +84,7 @@ fn value_at(
     kind: &[u8],
     ratio: &[f64],
     w: &[u16],
-    k: Counts,
+    k: Levels,
     tolerance: f64,
     idx: ObjectIndex,
 ) -> f64
@@ -104,7 +104,7 @@ pub fn fill_values(
     kind: &[u8],
     ratio: &[f64],
     w: &[u16],
-    k: Counts,
+    k: Levels,
     tolerance: f64,
     value: &mut [f64],
 )

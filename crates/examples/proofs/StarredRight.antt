@@ -10,16 +10,16 @@ use Rattle.numeric.specs.TotalOrder.{totalOrder}
 use Rattle.numeric.specs.RoundTiesEven.{roundTiesEven}
 use Rattle.grouping_marks.specs.Over.{over}
 use Rattle.grouping_marks.specs.Scan.{scan, after, tabulate, gathered}
-use Rattle.grouping_marks.specs.Marks.{opened, groupCount, groupNumbers, placeAt, groupPlaces, sizesFrom, groupSizes, firstsFrom, groupFirsts}
+use Rattle.grouping_marks.specs.Marks.{opened, groupCount, groupNumbers, placeByMark, groupPlaces, sizesFrom, groupSizes, firstsFrom, groupFirsts}
 use Rattle.grouping_chart.specs.Object.{isNote, notes, noteIdx, noteBefore, previousNote}
 use Rattle.grouping_chart.specs.Chart.{even}
 use Rattle.grouping_chart.specs.Room.{anyShort, shortRefusal}
 use Rattle.grouping_chart.specs.Lent.{answered}
 use Rattle.grouping_chart.specs.Refusal.{timeGood, ratioGood, objectRefusal, firstRefused, verdict}
-use Rattle.grouping_hits.specs.RepeatingHitPatterns.{stageAfter, opensHit, hitMarks, secondAt, secondLengths, matches, nearestMatch, intervalAt, intervals}
+use Rattle.grouping_hits.specs.RepeatingHitPatterns.{coupledRun, hitSize, hitMarksAfter, hitMarks, secondAt, secondLengths, matches, nearestMatch, intervalAt, intervals}
 use Rattle.grouping_color.specs.MonoStreak.{continues, opensStreak, streakMarks, streakOf, streakLengths, streakTypes}
 use Rattle.grouping_color.specs.AlternatingMonoPattern.{opensPattern, patternMarks, coupledAt, coupled}
-use Rattle.grouping_color.specs.Preprocessor.{patternsOpen, firstLengths, streakCounts, patternTypes, coupledPatterns, hitsOpen, hitCount, hitSizes, hitFirsts, hitSeconds, hitIntervals, streakPlaceOf, patternOf, patternPlaceOf, hitOf, intervalOf}
+use Rattle.grouping_color.specs.Preprocessor.{patternsOpen, firstLengths, streakCounts, patternTypes, coupledPatterns, hitsOpen, hitCount, hitSizes, hitFirsts, hitSeconds, hitIntervals, streakPlaceOf, alternatingOf, patternPlaceOf, hitOf, intervalOf}
 use Rattle.grouping_encode.specs.Encode as encode
 use Rattle.grouping_sort.specs.Ordered.{insert, ordered}
 use Rattle.grouping_normalizer.specs.Normalizer.{alike, unrepeated, distinct, setsAfter, sets, holds, middle, middleOf, normalOf, normalized}
@@ -33,5 +33,5 @@ use Rattle.examples.specs.Question.{whole, bitsOf, chart, encodeMemory, 
 use Rattle.examples.specs.Starred.{Example, encoding, starred}
 
 pub starred-right : map (λ (e : Example). answer (e .question)) starred ≡ map (λ (e : Example). e .outcome) starred
-unfolding starred encoding answer whole bitsOf chart encodeMemory colourMemory encodeAnswer colourAnswer encodeShown colourShown millis answered encode.encodeOutcome encode.filled calls.colourOutcome anyShort shortRefusal calls.filled verdict even firstRefused objectRefusal timeGood ratioGood within colourValues colourAt standingAt isFirst over tabulate scan after gathered opened groupCount groupNumbers placeAt groupPlaces sizesFrom groupSizes firstsFrom groupFirsts isNote notes noteIdx noteBefore previousNote continues opensStreak streakMarks streakOf streakLengths streakTypes opensPattern patternMarks coupledAt coupled stageAfter opensHit hitMarks secondAt secondLengths matches nearestMatch intervalAt intervals patternsOpen firstLengths streakCounts patternTypes coupledPatterns hitsOpen hitCount hitSizes hitFirsts hitSeconds hitIntervals streakPlaceOf patternOf patternPlaceOf hitOf intervalOf intervalMarks marksAfter isRise normalized normalOf middleOf middle holds sets setsAfter distinct unrepeated alike ordered insert totalOrder walkPenalty somePair similarTo similar present eightTenths objectSum hitValue altValue monoValue addIf ratio.ratioPenalty ratio.lowered logisticAt tableBits roundTiesEven isNear absOf round add sub mul div le lt eq ofInt ofBits toBits
+unfolding starred encoding answer whole bitsOf chart encodeMemory colourMemory encodeAnswer colourAnswer encodeShown colourShown millis answered encode.encodeOutcome encode.filled calls.colourOutcome anyShort shortRefusal calls.filled verdict even firstRefused objectRefusal timeGood ratioGood within colourValues colourAt standingAt isFirst over tabulate scan after gathered opened groupCount groupNumbers placeByMark groupPlaces sizesFrom groupSizes firstsFrom groupFirsts isNote notes noteIdx noteBefore previousNote continues opensStreak streakMarks streakOf streakLengths streakTypes opensPattern patternMarks coupledAt coupled coupledRun hitSize hitMarksAfter hitMarks secondAt secondLengths matches nearestMatch intervalAt intervals patternsOpen firstLengths streakCounts patternTypes coupledPatterns hitsOpen hitCount hitSizes hitFirsts hitSeconds hitIntervals streakPlaceOf alternatingOf patternPlaceOf hitOf intervalOf intervalMarks marksAfter isRise normalized normalOf middleOf middle holds sets setsAfter distinct unrepeated alike ordered insert totalOrder walkPenalty somePair similarTo similar present eightTenths objectSum hitValue altValue monoValue addIf ratio.ratioPenalty ratio.lowered logisticAt tableBits roundTiesEven isNear absOf round add sub mul div le lt eq ofInt ofBits toBits
 starred-right = refl

@@ -1,4 +1,5 @@
--- How long the six lists are, one number an object, and how far the numbers go: each is below its level's count, and an interval is below the search limit or one above it.
+-- How long the six lists are, one number an object, and how far the numbers go: each is below its level's count, and an interval is
+-- below the search limit or one above it.
 use mathlib.Core.Path.{_≡_, refl, _∙_}
 use mathlib.Core.Logic.{_⊎_}
 use mathlib.Core.List.{List}
@@ -12,8 +13,9 @@ use Rattle.grouping_marks.proofs.MarksLaws.{length-numbers, numbers-below, leng
 use Rattle.grouping_hits.proofs.LengthLaws.{length-hitMarks, length-intervals}
 use Rattle.grouping_hits.proofs.RangeLaws.{interval-range, interval-byte}
 use Rattle.grouping_color.specs.MonoStreak.{streakMarks, streakOf, streakLengths}
-use Rattle.grouping_color.specs.AlternatingMonoPattern.{coupled}
-use Rattle.grouping_color.specs.Preprocessor.{patternsOpen, firstLengths, streakCounts, patternTypes, coupledPatterns, hitsOpen, hitCount, hitSizes, hitFirsts, hitSeconds, hitIntervals, streakPlaceOf, patternOf, patternPlaceOf, hitOf, intervalOf}
+use Rattle.grouping_color.specs.Preprocessor.{patternsOpen, firstLengths, streakCounts, patternTypes, coupledPatterns, hitsOpen}
+use Rattle.grouping_color.specs.Preprocessor.{hitCount, hitSizes, hitFirsts, hitSeconds, hitIntervals}
+use Rattle.grouping_color.specs.Preprocessor.{streakPlaceOf, alternatingOf, patternPlaceOf, hitOf, intervalOf}
 use Rattle.grouping_color.proofs.LengthLaws.{length-streakMarks, length-patternMarks, length-coupled}
 
 -- ---- the levels of a chart's kinds
@@ -34,7 +36,7 @@ module _ (kinds : List ℕ) where
   pub length-hitsOpen : length (hitsOpen kinds) ≡ groupCount (patternsOpen kinds)
   unfolding coupledPatterns hitsOpen firstLengths
   length-hitsOpen =
-      length-hitMarks (coupled (firstLengths kinds) (streakCounts kinds) (patternTypes kinds)) ∙ length-coupled (firstLengths kinds) (streakCounts kinds) (patternTypes kinds)
+      length-hitMarks (coupledPatterns kinds) ∙ length-coupled (firstLengths kinds) (streakCounts kinds) (patternTypes kinds)
       ∙ length-firsts (patternsOpen kinds) (streakLengths kinds) (omega (arith, lengths-even))
 
   -- each number is below its level's count
@@ -50,7 +52,8 @@ module _ (kinds : List ℕ) where
   hit-below j h = numbers-below (hitsOpen kinds) j (omega (arith, length-hitsOpen))
 
   -- a hit pattern's interval is below the limit, or one above it
-  pub hit-interval-range : (limit j : ℕ) → j < hitCount kinds → (getD (hitIntervals limit kinds) j 0 < limit) ⊎ (getD (hitIntervals limit kinds) j 0 ≡ limit + 1)
+  pub hit-interval-range : (limit j : ℕ) → j < hitCount kinds
+      → (getD (hitIntervals limit kinds) j 0 < limit) ⊎ (getD (hitIntervals limit kinds) j 0 ≡ limit + 1)
   unfolding hitIntervals hitSizes hitCount
   hit-interval-range limit j h = interval-range limit (hitSizes kinds) (hitFirsts kinds) (hitSeconds kinds) j (omega (arith, length-sizes (hitsOpen kinds)))
 
@@ -58,42 +61,44 @@ module _ (kinds : List ℕ) where
   unfolding hitIntervals
   hit-interval-byte limit l j = interval-byte limit (hitSizes kinds) (hitFirsts kinds) (hitSeconds kinds) l j
 
-  pub length-patternOf : length (patternOf kinds) ≡ length kinds
-  unfolding patternOf
-  length-patternOf = length-gathered (groupNumbers (patternsOpen kinds)) (streakOf kinds) ∙ length-streakOf
+  pub length-alternatingOf : length (alternatingOf kinds) ≡ length kinds
+  unfolding alternatingOf
+  length-alternatingOf = length-gathered (groupNumbers (patternsOpen kinds)) (streakOf kinds) ∙ length-streakOf
 
   pub length-hitOf : length (hitOf kinds) ≡ length kinds
   unfolding hitOf
-  length-hitOf = length-gathered (groupNumbers (hitsOpen kinds)) (patternOf kinds) ∙ length-patternOf
+  length-hitOf = length-gathered (groupNumbers (hitsOpen kinds)) (alternatingOf kinds) ∙ length-alternatingOf
 
   pub length-intervalOf : (limit : ℕ) → length (intervalOf limit kinds) ≡ length kinds
   unfolding intervalOf
   length-intervalOf limit = length-gathered (hitIntervals limit kinds) (hitOf kinds) ∙ length-hitOf
 
-  pub patternOf-below : (i : ℕ) → i < length kinds → getD (patternOf kinds) i 0 < groupCount (patternsOpen kinds)
-  unfolding patternOf
-  patternOf-below i h =
-      rw (getD-gathered (groupNumbers (patternsOpen kinds)) (streakOf kinds) i (omega (arith, length-streakOf))) (pattern-below (getD (streakOf kinds) i 0) (streak-below i h))
+  pub alternatingOf-below : (i : ℕ) → i < length kinds → getD (alternatingOf kinds) i 0 < groupCount (patternsOpen kinds)
+  unfolding alternatingOf
+  alternatingOf-below i h =
+      rw (getD-gathered (groupNumbers (patternsOpen kinds)) (streakOf kinds) i (omega (arith, length-streakOf)))
+      (pattern-below (getD (streakOf kinds) i 0) (streak-below i h))
 
   pub hitOf-below : (i : ℕ) → i < length kinds → getD (hitOf kinds) i 0 < hitCount kinds
   unfolding hitOf
   hitOf-below i h =
-      rw (getD-gathered (groupNumbers (hitsOpen kinds)) (patternOf kinds) i (omega (arith, length-patternOf))) (hit-below (getD (patternOf kinds) i 0) (patternOf-below i h))
+      rw (getD-gathered (groupNumbers (hitsOpen kinds)) (alternatingOf kinds) i (omega (arith, length-alternatingOf)))
+      (hit-below (getD (alternatingOf kinds) i 0) (alternatingOf-below i h))
 
   -- ---- each object's numbers, looked up level by level
   pub streakPlaceOf-looked : gathered (groupPlaces (patternsOpen kinds)) (streakOf kinds) ≡ streakPlaceOf kinds
   unfolding streakPlaceOf
   streakPlaceOf-looked = refl
 
-  pub patternOf-looked : gathered (groupNumbers (patternsOpen kinds)) (streakOf kinds) ≡ patternOf kinds
-  unfolding patternOf
-  patternOf-looked = refl
+  pub alternatingOf-looked : gathered (groupNumbers (patternsOpen kinds)) (streakOf kinds) ≡ alternatingOf kinds
+  unfolding alternatingOf
+  alternatingOf-looked = refl
 
-  pub patternPlaceOf-looked : gathered (groupPlaces (hitsOpen kinds)) (patternOf kinds) ≡ patternPlaceOf kinds
+  pub patternPlaceOf-looked : gathered (groupPlaces (hitsOpen kinds)) (alternatingOf kinds) ≡ patternPlaceOf kinds
   unfolding patternPlaceOf
   patternPlaceOf-looked = refl
 
-  pub hitOf-looked : gathered (groupNumbers (hitsOpen kinds)) (patternOf kinds) ≡ hitOf kinds
+  pub hitOf-looked : gathered (groupNumbers (hitsOpen kinds)) (alternatingOf kinds) ≡ hitOf kinds
   unfolding hitOf
   hitOf-looked = refl
 

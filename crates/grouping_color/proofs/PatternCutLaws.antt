@@ -1,5 +1,5 @@
--- Alternating patterns: a boundary between two streaks of unequal length cuts the list of streaks, and the patterns behind it are those of the back alone;
--- whether a pattern is coupled hangs on what follows it alone.
+-- Alternating patterns: a boundary between two streaks of unequal length cuts the list of streaks, and the patterns behind it are those
+-- of the back alone; whether a pattern is coupled hangs on what follows it alone.
 use mathlib.Core.Path.{_≡_, refl, sym, ap, _∙_}
 use mathlib.Core.List.{List, _++_}
 use Prim.Native.Nat.{ℕ, zero, suc, _+_, _-_, _<_}
@@ -26,7 +26,8 @@ unfolding opensPattern
 opensPattern-differs lengths i h n = let z : i ≡ 0 → ⊥ = λ e. omega arith in rw (ne-eqb i 0 z, ne-eqb _ _ n)
 
 -- two lists with the same two lengths at the place and before it
-opensPattern-same : (ls ms : List ℕ) (i j : ℕ) → 0 < i → 0 < j → getD ls i 0 ≡ getD ms j 0 → getD ls (i - 1) 0 ≡ getD ms (j - 1) 0 → opensPattern ls i ≡ opensPattern ms j
+opensPattern-same : (ls ms : List ℕ) (i j : ℕ) → 0 < i → 0 < j → getD ls i 0 ≡ getD ms j 0 → getD ls (i - 1) 0 ≡ getD ms (j - 1) 0
+    → opensPattern ls i ≡ opensPattern ms j
 unfolding opensPattern
 opensPattern-same ls ms i j h k e f =
     let z : i ≡ 0 → ⊥ = λ q. omega arith in
@@ -49,10 +50,10 @@ module _ (front back : List ℕ) (u : Uneven front back) where
 
   back-same : (i : ℕ) → i < length back → opensPattern (front ++ back) (length front + i) ≡ opensPattern back i
   back-same zero h =
+      let last : getD (front ++ back) (length front + 0 - 1) 0 ≡ getD front (length front - 1) 0 =
+      ap (λ (k : ℕ). getD (front ++ back) k 0) (omega arith) ∙ List·getD-append front back 0 (length front - 1) (omega arith) in
       opensPattern-differs (front ++ back) (length front + 0) (omega arith)
-      (λ e. u .differs
-      (sym (getD-append-add front back 0 0) ∙ e ∙ ap (λ (k : ℕ). getD (front ++ back) k 0) (omega arith) ∙ List·getD-append front back 0 (length front - 1) (omega arith)))
-      ∙ sym (opensPattern-first back)
+      (λ e. u .differs (sym (getD-append-add front back 0 0) ∙ e ∙ last)) ∙ sym (opensPattern-first back)
   back-same (suc i) h =
       opensPattern-same (front ++ back) back (length front + suc i) (suc i) (omega arith) (omega arith)
       (getD-append-add front back (suc i) 0)
@@ -84,8 +85,11 @@ module _ (front back : List ℕ) (u : Uneven front back) where
 module _ (ls ls′ cs cs′ ts ts′ : List ℕ) (e : length cs ≡ length ls) (f : length ts ≡ length ls) where
   coupledAt-back : (i : ℕ) → coupledAt (ls ++ ls′) (cs ++ cs′) (ts ++ ts′) (length ls + i) ≡ coupledAt ls′ cs′ ts′ i
   unfolding coupledAt
-  coupledAt-back i = rw (ltb-past ls ls′ i 2, getD-past ls ls′ (length ls) i 2 refl, getD-past cs cs′ (length ls) i 2 e, getD-past ts ts′ (length ls) i 2 f, at ls ls′ refl, at cs cs′ e, at ts ts′ f)
+  coupledAt-back i = rw (ltb-past ls ls′ i 2, on ls ls′ refl, on cs cs′ e, on ts ts′ f, at ls ls′ refl, at cs cs′ e, at ts ts′ f)
     where
+      on : (front back : List ℕ) → length front ≡ length ls → getD (front ++ back) (length ls + i + 2) 0 ≡ getD back (i + 2) 0
+      on front back e = getD-past front back (length ls) i 2 e
+
       at : (front back : List ℕ) → length front ≡ length ls → getD (front ++ back) (length ls + i) 0 ≡ getD back i 0
       at front back e = rw (← e) (getD-append-add front back i 0)
 

@@ -13,6 +13,7 @@ use Rattle.grouping_marks.proofs.OverLaws.{length-part}
 use Rattle.grouping_marks.proofs.FillLaws.{Fill}
 use Rattle.grouping_marks.proofs.StoreLaws.{read-at, fill-apart, table-start, table-turn}
 use Rattle.grouping_color.specs.AlternatingMonoPattern.{opensPattern, patternMarks, coupledAt, coupled}
+use Rattle.grouping_color.specs.Passes.{coupledAtIn, coupledIn}
 
 -- ---- which streak opens a pattern
 
@@ -59,27 +60,27 @@ module _ (w : List ℕ) (lengths counts types m i : ℕ) (t : Triple w lengths c
   inside : i + 2 < m → i + 2 < length (part lengths m w)
   inside h = omega (arith, long)
 
-  pub coupled-end : m ≤ i + 2 → 0 ≡ coupledAt (part lengths m w) (part counts m w) (part types m w) i
+  pub coupled-end : m ≤ i + 2 → 0 ≡ coupledAtIn lengths counts types m w i
   unfolding coupledAt
   coupled-end h = rw (le-ltb (i + 2) (length (part lengths m w)) (omega (arith, long)))
 
   pub coupled-inside : i + 2 < m → (b : Bool)
       → (eqb (getD w (lengths + i) 0) (getD w (lengths + i + 2) 0)
       && (eqb (getD w (counts + i) 0) (getD w (counts + i + 2) 0) && eqb (getD w (types + i) 0) (getD w (types + i + 2) 0))) ≡ b
-      → cond b 1 0 ≡ coupledAt (part lengths m w) (part counts m w) (part types m w) i
+      → cond b 1 0 ≡ coupledAtIn lengths counts types m w i
   unfolding coupledAt
   coupled-inside h b e = rw (lt-ltb _ _ (inside h), here h lengths, two-on h lengths, here h counts, two-on h counts, here h types, two-on h types, e)
 
 module _ {lengths counts types m to : ℕ} {w₀ : List ℕ} (a : TripleApart w₀ lengths counts types m to) where
-  pub coupled-start : Fill (coupled (part lengths m w₀) (part counts m w₀) (part types m w₀)) m to w₀ w₀ 0
+  pub coupled-start : Fill (coupledIn lengths counts types m w₀) m to w₀ w₀ 0
   unfolding coupled
-  coupled-start = table-start (coupledAt (part lengths m w₀) (part counts m w₀) (part types m w₀)) lengths m to w₀ (a .first .read) (a .first .write)
+  coupled-start = table-start (coupledAtIn lengths counts types m w₀) lengths m to w₀ (a .first .read) (a .first .write)
 
-  pub coupled-turn : {w : List ℕ} {i v : ℕ} → Fill (coupled (part lengths m w₀) (part counts m w₀) (part types m w₀)) m to w₀ w i → i < m
-      → v ≡ coupledAt (part lengths m w) (part counts m w) (part types m w) i → Fill (coupled (part lengths m w₀) (part counts m w₀) (part types m w₀)) m to w₀ (set w (to + i) v) (i + 1)
+  pub coupled-turn : {w : List ℕ} {i v : ℕ} → Fill (coupledIn lengths counts types m w₀) m to w₀ w i → i < m
+      → v ≡ coupledAtIn lengths counts types m w i → Fill (coupledIn lengths counts types m w₀) m to w₀ (set w (to + i) v) (i + 1)
   unfolding coupled
   coupled-turn {w} {i} {v} x h q =
       let l : part lengths m w ≡ part lengths m w₀ = fill-apart lengths m x (a .first .apart) in
       let c : part counts m w ≡ part counts m w₀ = fill-apart counts m x (a .second .apart) in
       let t : part types m w ≡ part types m w₀ = fill-apart types m x (a .third .apart) in
-      table-turn (coupledAt (part lengths m w₀) (part counts m w₀) (part types m w₀)) (length (part lengths m w₀)) x h (q ∙ (λ j. coupledAt (l j) (c j) (t j) i))
+      table-turn (coupledAtIn lengths counts types m w₀) (length (part lengths m w₀)) x h (q ∙ (λ j. coupledAt (l j) (c j) (t j) i))

@@ -40,7 +40,8 @@ streakMarks-cut front back =
     ∙ ap (λ (l : List ℕ). l ++ scan seenNext opensSeen (after seenNext seen₀ front) back) (sym (streak-marks-scan front))
 
 -- with a note just before the cut in both charts, the marks behind it are the same
-pub streakMarks-agree : (before before′ shared back : List ℕ) → HasNote shared → streakMarksAfter (before ++ shared) back ≡ streakMarksAfter (before′ ++ shared) back
+pub streakMarks-agree : (before before′ shared back : List ℕ) → HasNote shared
+    → streakMarksAfter (before ++ shared) back ≡ streakMarksAfter (before′ ++ shared) back
 unfolding streakMarksAfter
 streakMarks-agree before before′ shared back n =
     rw (after-append seenNext seen₀ before shared, after-append seenNext seen₀ before′ shared)

@@ -48,7 +48,8 @@ marks-stored to kinds w₀ w e = e ∙ ap (λ (l : List ℕ). put to l w₀) (sy
 
 -- ---- a step of the walk, as the code takes it: by the note's number, the last note's kind, and the two as they are after the object
 
-pub seen-opens : (next last k note v : ℕ) → note ≡ cond (isNote k) next 0 → v ≡ cond (eqb note 0) 1 (cond (eqb last k) 0 1) → v ≡ opensSeen (record { notes = next; last = last }) k
+pub seen-opens : (next last k note v : ℕ) → note ≡ cond (isNote k) next 0 → v ≡ cond (eqb note 0) 1 (cond (eqb last k) 0 1)
+    → v ≡ opensSeen (record { notes = next; last = last }) k
 unfolding opensSeen continues
 seen-opens next last k note v n e =
     e ∙ ap (λ (j : ℕ). cond (eqb j 0) 1 (cond (eqb last k) 0 1)) n ∙ by (isNote k) (eqb next 0) refl

@@ -2,3 +2,4 @@
 pub mod MonoStreak
 pub mod AlternatingMonoPattern
 pub mod Preprocessor
+pub mod Passes

@@ -1,5 +1,5 @@
--- Document 01, mono_streak.rs: "Streak: the first object opens one. A later object continues the open streak exactly when `previous_note` exists and has its kind;
--- so every NonHit opens a streak, and a note may continue a NonHit's streak. A streak's type is the kind of its first object."
+-- Document 01, mono_streak.rs: an object whose previous note has its kind continues the open streak, others open one.
+-- A NonHit is no note, so it always opens one, and a note after it may continue that one.
 use Prim.Native.Nat.{ℕ}
 use mathlib.Core.Bool.{Bool, false, cond}
 use mathlib.Core.List.{List}
@@ -20,7 +20,7 @@ opensStreak kinds i = cond (continues (previousNote kinds i) (getD kinds i 0)) 0
 unfoldable pub streakMarks : List ℕ → List ℕ
 streakMarks kinds = tabulate (opensStreak kinds) (length kinds)
 
--- each object's streak; each streak's length and type
+-- each object's streak; each streak's length and type, which is its first object's kind
 unfoldable pub streakOf : List ℕ → List ℕ
 streakOf kinds = groupNumbers (streakMarks kinds)
 

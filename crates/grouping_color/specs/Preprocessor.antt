@@ -1,4 +1,5 @@
--- Document 01, color/preprocessor.rs and "Calls": per object six numbers: streak, its place in its pattern; alternating pattern, its place; hit pattern; interval.
+-- Document 01, color/preprocessor.rs: the levels of a chart's kinds, from streaks to hit patterns, and an object's six
+-- numbers: its streak and alternating pattern, each with its place in the level above, its hit pattern, the interval.
 use Prim.Native.Nat.{ℕ}
 use mathlib.Core.List.{List}
 use Rattle.grouping_marks.specs.Scan.{gathered}
@@ -30,7 +31,7 @@ hitsOpen kinds = hitMarks (coupledPatterns kinds)
 unfoldable pub hitCount : List ℕ → ℕ
 hitCount kinds = groupCount (hitsOpen kinds)
 
--- of each hit pattern how many patterns it holds and the first two's first-streak lengths; its interval under the search limit
+-- of each hit pattern how many patterns it holds and the first two's first-streak lengths; its interval under the limit
 unfoldable pub hitSizes : List ℕ → List ℕ
 hitSizes kinds = groupSizes (hitsOpen kinds)
 
@@ -47,14 +48,14 @@ hitIntervals limit kinds = intervals limit (hitSizes kinds) (hitFirsts kinds) (h
 unfoldable pub streakPlaceOf : List ℕ → List ℕ
 streakPlaceOf kinds = gathered (groupPlaces (patternsOpen kinds)) (streakOf kinds)
 
-unfoldable pub patternOf : List ℕ → List ℕ
-patternOf kinds = gathered (groupNumbers (patternsOpen kinds)) (streakOf kinds)
+unfoldable pub alternatingOf : List ℕ → List ℕ
+alternatingOf kinds = gathered (groupNumbers (patternsOpen kinds)) (streakOf kinds)
 
 unfoldable pub patternPlaceOf : List ℕ → List ℕ
-patternPlaceOf kinds = gathered (groupPlaces (hitsOpen kinds)) (patternOf kinds)
+patternPlaceOf kinds = gathered (groupPlaces (hitsOpen kinds)) (alternatingOf kinds)
 
 unfoldable pub hitOf : List ℕ → List ℕ
-hitOf kinds = gathered (groupNumbers (hitsOpen kinds)) (patternOf kinds)
+hitOf kinds = gathered (groupNumbers (hitsOpen kinds)) (alternatingOf kinds)
 
 unfoldable pub intervalOf : ℕ → List ℕ → List ℕ
 intervalOf limit kinds = gathered (hitIntervals limit kinds) (hitOf kinds)

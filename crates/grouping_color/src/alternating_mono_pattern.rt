@@ -4,7 +4,8 @@ ghost use Prim.Native.Nat.{_+_, _≤_, _<_};
 ghost use lib.ListN.{length};
 ghost use Rattle.grouping_marks.specs.Over.{put, part};
 ghost use Rattle.grouping_marks.specs.Passes.{Apart, Triple, TripleApart};
-ghost use Rattle.grouping_color.specs.AlternatingMonoPattern.{opensPattern, patternMarks, coupledAt, coupled};
+ghost use Rattle.grouping_color.specs.AlternatingMonoPattern.{opensPattern, patternMarks};
+ghost use Rattle.grouping_color.specs.Passes.{coupledAtIn, coupledIn};
 
 fn opens_pattern(w: &[u16], from: usize, m: usize, i: usize) -> u16
     requires { ⌜ from + m ≤ length (now w) ⌝ ∗ ⌜ i < m ⌝ }
@@ -31,7 +32,7 @@ pub fn mark_patterns(w: &mut [u16], from: usize, m: usize, to: usize)
 
 fn is_coupled(w: &[u16], lengths: usize, counts: usize, types: usize, m: usize, i: usize) -> u16
     requires { ⌜ Triple (now w) lengths counts types m ⌝ ∗ ⌜ i < m ⌝ }
-    ensures { λ r. ⌜ r ≡ coupledAt (part lengths m (now (w .entry))) (part counts m (now (w .entry))) (part types m (now (w .entry))) i ⌝ }
+    ensures { λ r. ⌜ r ≡ coupledAtIn lengths counts types m (now (w .entry)) i ⌝ }
 {
     if m - i <= 2 {
         return 0;
@@ -49,7 +50,7 @@ fn is_coupled(w: &[u16], lengths: usize, counts: usize, types: usize, m: usize, 
 // Marks the coupled patterns.
 pub fn mark_coupled(w: &mut [u16], lengths: usize, counts: usize, types: usize, m: usize, to: usize)
     requires { ⌜ TripleApart (now w) lengths counts types m to ⌝ }
-    ensures { λ r. ⌜ now (w .exit) ≡ put to (coupled (part lengths m (now (w .entry))) (part counts m (now (w .entry))) (part types m (now (w .entry)))) (now (w .entry)) ⌝ }
+    ensures { λ r. ⌜ now (w .exit) ≡ put to (coupledIn lengths counts types m (now (w .entry))) (now (w .entry)) ⌝ }
 {
     let mut i = 0;
     while i < m {

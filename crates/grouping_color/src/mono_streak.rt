@@ -10,7 +10,7 @@ ghost use Rattle.grouping_color.specs.MonoStreak.{streakMarks};
 use grouping_chart::object::NoteIndex;
 use grouping_chart::object::ObjectIndex;
 
-// 0 where an object of kind k with this note number continues the open streak: there is a previous note, and it has kind k.
+// 0 where an object of kind k with this note number continues the open streak: the note before exists and has kind k.
 fn opens_streak(note: NoteIndex, last: u8, k: u8) -> u16
     ensures { λ r. ⌜ r ≡ cond (eqb (note .0) 0) 1 (cond (eqb last k) 0 1) ⌝ }
 {

@@ -8,14 +8,14 @@ use Rattle.grouping_marks.specs.Scan.{gathered}
 use Rattle.grouping_marks.specs.Marks.{groupCount, groupNumbers}
 use Rattle.grouping_marks.proofs.OverLaws.{over-agree}
 use Rattle.grouping_color.specs.MonoStreak.{streakMarks, streakOf}
-use Rattle.grouping_color.specs.Preprocessor.{patternsOpen, hitsOpen, hitCount, streakPlaceOf, patternOf, patternPlaceOf, hitOf, intervalOf}
+use Rattle.grouping_color.specs.Preprocessor.{patternsOpen, hitsOpen, hitCount, streakPlaceOf, alternatingOf, patternPlaceOf, hitOf, intervalOf}
 use Rattle.grouping_preprocessor.specs.Passes.{Tables}
-use Rattle.grouping_preprocessor.specs.declared.Counts.{Counts}
-use Rattle.grouping_color.proofs.BoundLaws.{streakPlaceOf-looked, patternOf-looked, patternPlaceOf-looked, hitOf-looked, intervalOf-looked, length-patternOf, streak-below, hit-below, patternOf-below, hit-interval-byte}
+use Rattle.grouping_preprocessor.specs.declared.Levels.{Levels}
+use Rattle.grouping_color.proofs.BoundLaws.{streakPlaceOf-looked, alternatingOf-looked, patternPlaceOf-looked, hitOf-looked, intervalOf-looked, length-alternatingOf, streak-below, hit-below, alternatingOf-below, hit-interval-byte}
 use Rattle.grouping_encode.specs.Passes.{Below, PatternsRoom, PatternsSpread, HitsRoom, HitsSpread, AnswerRoom, Encoded}
 use Rattle.grouping_encode.proofs.SpreadLaws.{written-front}
 
-module _ (limit : ℕ) (kinds w₀ w : List ℕ) (k : Counts) (t : Tables limit kinds w₀ w k) where
+module _ (limit : ℕ) (kinds w₀ w : List ℕ) (k : Levels) (t : Tables limit kinds w₀ w k) where
   abbrev n : ℕ
   n = length kinds
 
@@ -37,8 +37,8 @@ module _ (limit : ℕ) (kinds w₀ w : List ℕ) (k : Counts) (t : Tables limit 
   streakPlaces : gathered (part (4 * n) (k .streaks) w) (part 0 n w) ≡ streakPlaceOf kinds
   streakPlaces = (λ i. gathered (t .streak-place i) (t .streak i)) ∙ streakPlaceOf-looked kinds
 
-  patterns : gathered (part (3 * n) (k .streaks) w) (part 0 n w) ≡ patternOf kinds
-  patterns = (λ i. gathered (t .pattern i) (t .streak i)) ∙ patternOf-looked kinds
+  patterns : gathered (part (3 * n) (k .streaks) w) (part 0 n w) ≡ alternatingOf kinds
+  patterns = (λ i. gathered (t .pattern i) (t .streak i)) ∙ alternatingOf-looked kinds
 
   pub patterns-room : (streak place pattern outer hit interval : List ℕ) → AnswerRoom n limit streak place pattern outer hit interval w₀ → PatternsRoom n k w streak place pattern
   patterns-room streak place pattern outer hit interval r = record {
@@ -53,11 +53,11 @@ module _ (limit : ℕ) (kinds w₀ w : List ℕ) (k : Counts) (t : Tables limit 
 
   module _ (streak₀ streak place₀ place pattern₀ pattern : List ℕ) (p : PatternsSpread n k w streak₀ streak place₀ place pattern₀ pattern) where
     -- the front of the pattern slice
-    pattern-front : take n pattern ≡ patternOf kinds
-    pattern-front = written-front (patternOf kinds) pattern₀ pattern n (length-patternOf kinds) (p .patterns ∙ ap (λ (xs : List ℕ). over xs pattern₀) patterns)
+    pattern-front : take n pattern ≡ alternatingOf kinds
+    pattern-front = written-front (alternatingOf kinds) pattern₀ pattern n (length-alternatingOf kinds) (p .patterns ∙ ap (λ (xs : List ℕ). over xs pattern₀) patterns)
 
     patterns-below : Below n (take n pattern) (k .patterns)
-    patterns-below = below-of n (k .patterns) (groupCount (patternsOpen kinds)) (take n pattern) (patternOf kinds) pattern-front (t .count-p) (patternOf-below kinds)
+    patterns-below = below-of n (k .patterns) (groupCount (patternsOpen kinds)) (take n pattern) (alternatingOf kinds) pattern-front (t .count-p) (alternatingOf-below kinds)
 
     pub hits-room : (outer hit interval : List ℕ) → AnswerRoom n limit streak₀ place₀ pattern₀ outer hit interval w₀ → length pattern ≡ length pattern₀ → HitsRoom n k w pattern outer hit interval
     hits-room outer hit interval r e = record {

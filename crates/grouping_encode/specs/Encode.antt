@@ -11,7 +11,7 @@ use Rattle.grouping_chart.specs.Lent.{Outcome, outcome, answered, Slice, lent, 
 use Rattle.grouping_chart.specs.Settings.{Settings}
 use Rattle.grouping_chart.specs.declared.chart.Verdict.{Verdict}
 use Rattle.grouping_color.specs.MonoStreak.{streakOf}
-use Rattle.grouping_color.specs.Preprocessor.{streakPlaceOf, patternOf, patternPlaceOf, hitOf, intervalOf, hitCount}
+use Rattle.grouping_color.specs.Preprocessor.{streakPlaceOf, alternatingOf, patternPlaceOf, hitOf, intervalOf, hitCount}
 use Rattle.grouping_encode.specs.declared.Encoding.{Encoding}
 use Rattle.grouping_encode.specs.declared.Encoding.the-variants.{Done}
 use Rattle.grouping_encode.specs.declared.Encoding.the-variants as answer
@@ -47,7 +47,7 @@ unfoldable pub filled : Settings → List ℕ → Memory → Memory
 filled s kinds m = record {
   streak = over (streakOf kinds) (m .streak);
   streakPlace = over (streakPlaceOf kinds) (m .streakPlace);
-  pattern = over (patternOf kinds) (m .pattern);
+  pattern = over (alternatingOf kinds) (m .pattern);
   patternPlace = over (patternPlaceOf kinds) (m .patternPlace);
   hit = over (hitOf kinds) (m .hit);
   interval = over (intervalOf (s .limit) kinds) (m .interval);

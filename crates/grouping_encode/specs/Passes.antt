@@ -6,15 +6,15 @@ use lib.ListN.{length, take, getD, replicate}
 use Rattle.grouping_marks.specs.Over.{over, part}
 use Rattle.grouping_marks.specs.Scan.{gathered}
 use Rattle.grouping_color.specs.MonoStreak.{streakOf}
-use Rattle.grouping_color.specs.Preprocessor.{streakPlaceOf, patternOf, patternPlaceOf, hitOf, intervalOf, hitCount}
-use Rattle.grouping_preprocessor.specs.declared.Counts.{Counts}
+use Rattle.grouping_color.specs.Preprocessor.{streakPlaceOf, alternatingOf, patternPlaceOf, hitOf, intervalOf, hitCount}
+use Rattle.grouping_preprocessor.specs.declared.Levels.{Levels}
 
 -- every one of the first n numbers is below k
 pub record Below (n : ℕ) (numbers : List ℕ) (k : ℕ) : Type 0 where
   pub below : (i : ℕ) → i < n → getD numbers i 0 < k
 
 -- the streaks' tables, and room for three answers
-pub record PatternsRoom (n : ℕ) (k : Counts) (work streak place pattern : List ℕ) : Type 0 where
+pub record PatternsRoom (n : ℕ) (k : Levels) (work streak place pattern : List ℕ) : Type 0 where
   pub few : n ≤ 16384
   pub streaks : k .streaks ≤ n
   pub tables : 8 * n ≤ length work
@@ -23,13 +23,13 @@ pub record PatternsRoom (n : ℕ) (k : Counts) (work streak place pattern : List
   pub pattern-room : n ≤ length pattern
   pub in-table : Below n (part 0 n work) (k .streaks)
 
-pub record PatternsSpread (n : ℕ) (k : Counts) (work streak₀ streak place₀ place pattern₀ pattern : List ℕ) : Type 0 where
+pub record PatternsSpread (n : ℕ) (k : Levels) (work streak₀ streak place₀ place pattern₀ pattern : List ℕ) : Type 0 where
   pub streaks : streak ≡ over (part 0 n work) streak₀
   pub places : place ≡ over (gathered (part (4 * n) (k .streaks) work) (part 0 n work)) place₀
   pub patterns : pattern ≡ over (gathered (part (3 * n) (k .streaks) work) (part 0 n work)) pattern₀
 
 -- the patterns' tables, and room for three answers
-pub record HitsRoom (n : ℕ) (k : Counts) (work pattern place hit interval : List ℕ) : Type 0 where
+pub record HitsRoom (n : ℕ) (k : Levels) (work pattern place hit interval : List ℕ) : Type 0 where
   pub few : n ≤ 16384
   pub patterns : k .patterns ≤ n
   pub hits : k .hits ≤ n
@@ -42,7 +42,7 @@ pub record HitsRoom (n : ℕ) (k : Counts) (work pattern place hit interval : Li
   pub in-hits : Below (k .patterns) (part n (k .patterns) work) (k .hits)
   pub bytes : (j : ℕ) → getD (part (7 * n) (k .hits) work) j 0 < 256
 
-pub record HitsSpread (n : ℕ) (k : Counts) (work pattern place₀ place hit₀ hit interval₀ interval : List ℕ) : Type 0 where
+pub record HitsSpread (n : ℕ) (k : Levels) (work pattern place₀ place hit₀ hit interval₀ interval : List ℕ) : Type 0 where
   pub places : place ≡ over (gathered (part (2 * n) (k .patterns) work) (take n pattern)) place₀
   pub hits : hit ≡ over (gathered (part n (k .patterns) work) (take n pattern)) hit₀
   pub intervals : interval ≡ over (gathered (part (7 * n) (k .hits) work) (gathered (part n (k .patterns) work) (take n pattern))) interval₀
@@ -65,7 +65,7 @@ pub record Encoded (limit : ℕ) (kinds streak₀ streak streakPlace₀ streakPl
   pub counted : count ≡ hitCount kinds
   pub streaks : streak ≡ over (streakOf kinds) streak₀
   pub streak-places : streakPlace ≡ over (streakPlaceOf kinds) streakPlace₀
-  pub patterns : pattern ≡ over (patternOf kinds) pattern₀
+  pub patterns : pattern ≡ over (alternatingOf kinds) pattern₀
   pub pattern-places : patternPlace ≡ over (patternPlaceOf kinds) patternPlace₀
   pub hits : hit ≡ over (hitOf kinds) hit₀
   pub intervals : interval ≡ over (intervalOf limit kinds) interval₀

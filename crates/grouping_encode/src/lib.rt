@@ -12,7 +12,7 @@ use grouping_chart::object::ObjectIndex;
 use grouping_chart::room::short_refusal;
 use grouping_chart::settings;
 use grouping_marks::fill;
-use grouping_preprocessor::Counts;
+use grouping_preprocessor::Levels;
 
 // The number of hit patterns, or the first refusal that applies and its place.
 pub enum Encoding {
@@ -53,7 +53,7 @@ fn too_short(
 // Gives each object its streak, the streak's place and its pattern, from the encoder's tables.
 fn spread_patterns(
     n: usize,
-    k: Counts,
+    k: Levels,
     work: &[u16],
     streak: &mut [u16],
     inner: &mut [u16],
@@ -71,7 +71,7 @@ fn spread_patterns(
 // Gives each object its pattern's place, its hit pattern and the interval, by its pattern.
 fn spread_hits(
     n: usize,
-    k: Counts,
+    k: Levels,
     work: &[u16],
     pattern: &[u16],
     outer: &mut [u16],

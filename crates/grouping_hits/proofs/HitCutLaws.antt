@@ -9,10 +9,11 @@ use lib.ListN.{length, getD}
 use Rattle.grouping_marks.specs.Scan.{scan, after, tabulate}
 use Rattle.grouping_marks.proofs.ScanLaws.{scan-append, after-append}
 use Rattle.grouping_marks.proofs.WalkLaws.{after-none, after-first, getD-scan}
-use Rattle.grouping_marks.proofs.CutLaws.{Opening, opening-at}
+use Rattle.grouping_marks.proofs.CutLaws.{Opening, nothing-left, opens}
 use Rattle.grouping_marks.proofs.TableLaws.{getD-past, ltb-past, tabulate-cut}
-use Rattle.grouping_hits.specs.RepeatingHitPatterns.{stageAfter, opensHit, hitMarks, secondAt, secondLengths}
-use Rattle.grouping_hits.proofs.LengthLaws.{length-hitMarks}
+use Rattle.grouping_hits.specs.RepeatingHitPatterns.{hitMarksAfter, hitMarks, secondAt, secondLengths}
+use Rattle.grouping_hits.specs.Passes.{stageAfter, opensHit}
+use Rattle.grouping_hits.proofs.MarkLaws.{hitMarks-scan}
 
 -- ---- the stages
 
@@ -29,21 +30,19 @@ two-end stage = by (eqb stage 0) (eqb stage 1)
 after-two : (flags : List ℕ) → after stageAfter 0 (flags ++ 0 ∷ 0 ∷ []) ≡ 0
 after-two flags =
     let s : ℕ = after stageAfter 0 flags in
-    after-append stageAfter 0 flags (0 ∷ 0 ∷ []) ∙ after-first stageAfter s 0 (0 ∷ []) ∙ after-first stageAfter (stageAfter s 0) 0 [] ∙ after-none stageAfter _ ∙ two-end s
+    rw (after-append, after-first stageAfter s, after-first stageAfter (stageAfter s 0), after-none) (two-end s)
 
 -- behind them the marks are those of the back alone, and a hit pattern opens there if any pattern is left
 pub hitMarks-cut : (flags back : List ℕ) → hitMarks (flags ++ (0 ∷ 0 ∷ back)) ≡ hitMarks (flags ++ (0 ∷ 0 ∷ [])) ++ hitMarks back
-unfolding hitMarks
 hitMarks-cut flags back =
-    ap (scan stageAfter opensHit 0) (sym (append-assoc flags (0 ∷ 0 ∷ []) back))
-    ∙ scan-append stageAfter opensHit 0 (flags ++ (0 ∷ 0 ∷ [])) back
-    ∙ ap (λ (s : ℕ). scan stageAfter opensHit 0 (flags ++ (0 ∷ 0 ∷ [])) ++ scan stageAfter opensHit s back) (after-two flags)
+    rw (← hitMarks-scan (flags ++ (0 ∷ 0 ∷ back)), ← hitMarks-scan (flags ++ (0 ∷ 0 ∷ [])), ← hitMarks-scan back, ← append-assoc flags (0 ∷ 0 ∷ []) back)
+    (scan-append stageAfter opensHit 0 (flags ++ (0 ∷ 0 ∷ [])) back
+    ∙ ap (λ (s : ℕ). scan stageAfter opensHit 0 (flags ++ (0 ∷ 0 ∷ [])) ++ scan stageAfter opensHit s back) (after-two flags))
 
 pub hitMarks-opening : (back : List ℕ) → Opening (hitMarks back)
-unfolding hitMarks opensHit
-hitMarks-opening back =
-    opening-at (hitMarks back)
-    (λ h. getD-scan stageAfter opensHit 0 back 0 0 0 (omega (arith, length-hitMarks back)) ∙ ap (λ (s : ℕ). opensHit s (getD back 0 0)) (after-none stageAfter 0))
+unfolding hitMarks hitMarksAfter
+hitMarks-opening [] = nothing-left
+hitMarks-opening (c ∷ cs) = opens (λ (e : _≡_ {A = ℕ} 1 0). omega arith)
 
 -- ---- the second lengths
 

@@ -12,7 +12,8 @@ use Rattle.grouping_marks.specs.Passes.{Pair, PairApart}
 use Rattle.grouping_marks.proofs.OverLaws.{length-part}
 use Rattle.grouping_marks.proofs.FillLaws.{Fill}
 use Rattle.grouping_marks.proofs.StoreLaws.{read-at, fill-apart, table-start, table-turn}
-use Rattle.grouping_hits.specs.RepeatingHitPatterns.{stageAfter, opensHit, secondAt, secondLengths}
+use Rattle.grouping_hits.specs.RepeatingHitPatterns.{secondAt, secondLengths}
+use Rattle.grouping_hits.specs.Passes.{stageAfter, opensHit}
 
 -- ---- the stages
 

@@ -5,11 +5,12 @@ use Prim.Native.Nat.{ℕ}
 use lib.ListN.{length}
 use Rattle.grouping_marks.proofs.ScanLaws.{length-scan}
 use Rattle.grouping_marks.proofs.FillLaws.{length-tabulate}
-use Rattle.grouping_hits.specs.RepeatingHitPatterns.{stageAfter, opensHit, hitMarks, secondAt, secondLengths, intervalAt, intervals}
+use Rattle.grouping_hits.specs.RepeatingHitPatterns.{hitMarks, secondAt, secondLengths, intervalAt, intervals}
+use Rattle.grouping_hits.specs.Passes.{stageAfter, opensHit}
+use Rattle.grouping_hits.proofs.MarkLaws.{hitMarks-scan}
 
 pub length-hitMarks : (flags : List ℕ) → length (hitMarks flags) ≡ length flags
-unfolding hitMarks
-length-hitMarks flags = length-scan stageAfter opensHit 0 flags
+length-hitMarks flags = rw (← hitMarks-scan) (length-scan stageAfter opensHit 0 flags)
 
 pub length-secondLengths : (lengths marks : List ℕ) → length (secondLengths lengths marks) ≡ length lengths
 unfolding secondLengths

@@ -31,7 +31,8 @@ unfolding intervalAt nearestMatch
 intervalAt-range zero s f t h = inr refl
 intervalAt-range (suc l) s f t h = nearest-range (suc l) s f t h (suc l - 1) 1 (omega arith)
 
-pub interval-range : (limit : ℕ) (s f t : List ℕ) (j : ℕ) → j < length s → (getD (intervals limit s f t) j 0 < limit) ⊎ (getD (intervals limit s f t) j 0 ≡ limit + 1)
+pub interval-range : (limit : ℕ) (s f t : List ℕ) (j : ℕ) → j < length s
+    → (getD (intervals limit s f t) j 0 < limit) ⊎ (getD (intervals limit s f t) j 0 ≡ limit + 1)
 unfolding intervals
 interval-range limit s f t j h = rw (getD-tabulate (intervalAt limit s f t) (length s) j 0 h) (intervalAt-range limit s f t j)
 

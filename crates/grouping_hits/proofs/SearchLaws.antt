@@ -1,7 +1,7 @@
--- Demand 2: "a repetition interval is the smallest k from 1 to 15 whose k-th group before matches, and 17 exactly when none does". The search gives one of two
--- things, by induction on the tries that are left: the first match, with none nearer, or `none`, with no match in reach.
+-- Document 01, demand 2, on intervals: the interval is the nearest match below the limit, and one above the limit exactly where there
+-- is none. By induction on the tries that are left the search gives the first match, with none nearer, or `none`, with no match in reach.
 use mathlib.Core.Path.{_≡_, refl, sym, subst, _∙_}
-use mathlib.Core.Logic.{_⊎_, inl, inr, _↔_}
+use mathlib.Core.Logic.{_⊎_, inl, inr, ⊎-elim, _↔_}
 use mathlib.Core.Bool.{Bool, true, false, cond, true≢false}
 use mathlib.Core.List.{List}
 use Prim.Native.Nat.{ℕ, zero, suc, _+_, _-_, _≤_, _<_}
@@ -55,6 +55,10 @@ module _ (sizes firsts seconds : List ℕ) (h : ℕ) where
   not-here : {k : ℕ} → matches sizes firsts seconds (h - k) h ≡ false → MatchesAt k → ⊥
   not-here e m = true≢false (sym (m .alike) ∙ e)
 
+  -- what does not match at k and does not match past it
+  one-more : {k j : ℕ} → matches sizes firsts seconds (h - k) h ≡ false → (k < j → MatchesAt j → ⊥) → k ≤ j → MatchesAt j → ⊥
+  one-more e past p m = ⊎-elim (λ i. not-here e (subst MatchesAt (sym i) m)) (λ i. past i m) (eq-or-lt-of-le p)
+
   search : (none more k : ℕ) → Result none k (k + more) (nearestMatch sizes firsts seconds none h more k)
   unfolding nearestMatch
   search none zero k = inr (refl, record { none = λ j p q m. absurd (nothing-between k j p q) })
@@ -68,11 +72,16 @@ module _ (sizes firsts seconds : List ℕ) (h : ℕ) where
       later true e l r =
           inl (record { from = omega arith; below = omega arith; match = record { there = l; alike = e }; nearest = λ j p q m. absurd (nothing-below k j p q) })
       later false e l (inl f) =
-          inl (record { from = omega (arith, f .from); below = omega (arith, f .below); match = f .match; nearest = λ j p q m. elim (eq-or-lt-of-le p) [ inl i ↦ not-here e (subst MatchesAt (sym i) m) | inr i ↦ f .nearest j i q m ] })
-      later false e l (inr f) =
-          inr (f .0, record { none = λ j p q m. elim (eq-or-lt-of-le p) [ inl i ↦ not-here e (subst MatchesAt (sym i) m) | inr i ↦ f .1 .none j i (omega (arith, q)) m ] })
+          inl (record {
+            from = omega (arith, f .from);
+            below = omega (arith, f .below);
+            match = f .match;
+            nearest = λ j p q. one-more e (λ i. f .nearest j i q) p;
+          })
+      later false e l (inr f) = inr (f .0, record { none = λ j p q. one-more e (λ i. f .1 .none j i (omega (arith, q))) p })
 
-      by-place : Result none (suc k) (suc k + more) nearer → (b : Bool) → leb k h ≡ b → Result none k (k + suc more) (cond b (cond (matches sizes firsts seconds (h - k) h) k nearer) none)
+      by-place : Result none (suc k) (suc k + more) nearer → (b : Bool) → leb k h ≡ b
+          → Result none k (k + suc more) (cond b (cond (matches sizes firsts seconds (h - k) h) k nearer) none)
       by-place r true e = later (matches sizes firsts seconds (h - k) h) refl (leb-true k h e) r
       by-place r false e = inr (refl, record { none = λ j p q m. past h k j (leb-false k h e) p (m .there) })
 
@@ -80,13 +89,16 @@ module _ (sizes firsts seconds : List ℕ) (h : ℕ) where
   pub interval-smallest : (limit : ℕ) → intervalAt limit sizes firsts seconds h < limit → FirstMatch 1 limit (intervalAt limit sizes firsts seconds h)
   unfolding intervalAt
   interval-smallest zero l = absurd (none-below-zero l)
-  interval-smallest (suc m) l = elim (search (suc m + 1) (suc m - 1) 1) [ inl f ↦ subst (λ (e : ℕ). FirstMatch 1 e (intervalAt (suc m) sizes firsts seconds h)) (upto m) f | inr f ↦ absurd (too-large m _ (f .0) l) ]
+  interval-smallest (suc m) l = elim (search (suc m + 1) (suc m - 1) 1) [
+    | inl f ↦ subst (λ (e : ℕ). FirstMatch 1 e (intervalAt (suc m) sizes firsts seconds h)) (upto m) f
+    | inr f ↦ absurd (too-large m _ (f .0) l)
+  ]
 
   -- it is one above the limit exactly when none from 1 to the limit less one matches
   pub interval-none : (limit : ℕ) → 1 ≤ limit → (intervalAt limit sizes firsts seconds h ≡ limit + 1) ↔ NoMatch 1 limit
   unfolding intervalAt
   interval-none zero l = absurd (none-below-zero l)
   interval-none (suc m) l = elim (search (suc m + 1) (suc m - 1) 1) [
-    | inl f ↦ ((λ e. absurd (reached m _ (f .below) e)), (λ n. absurd (n .none _ (f .from) (subst (λ (e : ℕ). intervalAt (suc m) sizes firsts seconds h < e) (upto m) (f .below)) (f .match))))
+    | inl f ↦ ((λ e. absurd (reached m _ (f .below) e)), (λ n. absurd (n .none _ (f .from) (rw (upto m) at (f .below)) (f .match))))
     | inr f ↦ ((λ e. subst (λ (e : ℕ). NoMatch 1 e) (upto m) (f .1)), (λ n. f .0))
   ]

@@ -5,8 +5,8 @@ ghost use Prim.Native.Nat.{_≤_, _<_};
 ghost use lib.Dec.{eqb};
 ghost use Rattle.grouping_marks.specs.Over.{put, part};
 ghost use Rattle.grouping_marks.specs.Passes.{Room, Pair, PairApart, Triple, TripleApart};
-ghost use Rattle.grouping_hits.specs.RepeatingHitPatterns.{stageAfter, opensHit, hitMarks, secondAt, secondLengths, matches, intervals};
-ghost use Rattle.grouping_hits.specs.Passes.{matchesTaken};
+ghost use Rattle.grouping_hits.specs.RepeatingHitPatterns.{hitMarks, secondAt, secondLengths};
+ghost use Rattle.grouping_hits.specs.Passes.{stageAfter, opensHit, matchesIn, takenIn, intervalsIn};
 use grouping_marks::fill;
 
 fn stage_after(stage: u16, coupled: u16) -> u16
@@ -63,7 +63,8 @@ fn second_at(w: &[u16], lengths: usize, marks: usize, m: usize, i: usize) -> u16
 // For each pattern the first-streak length of the next one in its hit pattern.
 pub fn second_lengths(w: &mut [u16], lengths: usize, marks: usize, m: usize, to: usize)
     requires { ⌜ PairApart (now w) lengths marks m to ⌝ }
-    ensures { λ r. ⌜ now (w .exit) ≡ put to (secondLengths (part lengths m (now (w .entry))) (part marks m (now (w .entry)))) (now (w .entry)) ⌝ }
+    ensures { λ r. ⌜ now (w .exit)
+        ≡ put to (secondLengths (part lengths m (now (w .entry))) (part marks m (now (w .entry)))) (now (w .entry)) ⌝ }
 {
     if m == 0 {
         return;
@@ -78,7 +79,7 @@ pub fn second_lengths(w: &mut [u16], lengths: usize, marks: usize, m: usize, to:
     w[to + i] = last;
 }
 
-// Whether the hit patterns a and b match. The three tests are joined without jumps, so that eight hit patterns are tested at a time.
+// Whether the hit patterns a and b match. The three tests are joined without jumps, so that eight are tested at a time.
 fn hits_match(
     w: &[u16],
     sizes: usize,
@@ -89,7 +90,7 @@ fn hits_match(
     b: usize,
 ) -> bool
     requires { ⌜ Triple (now w) sizes firsts seconds m ⌝ ∗ ⌜ a < m ⌝ ∗ ⌜ b < m ⌝ }
-    ensures { λ r. ⌜ r ≡ matches (part sizes m (now (w .entry))) (part firsts m (now (w .entry))) (part seconds m (now (w .entry))) a b ⌝ }
+    ensures { λ r. ⌜ r ≡ matchesIn sizes firsts seconds m (now (w .entry)) a b ⌝ }
 {
     let same_size = w[sizes + a] == w[sizes + b];
     let same_first = w[firsts + a] == w[firsts + b];
@@ -114,7 +115,7 @@ fn take_matches(
     to: usize,
 )
     requires { ⌜ TripleApart (now w) sizes firsts seconds m to ⌝ }
-    ensures { λ r. ⌜ now (w .exit) ≡ put to (matchesTaken k (part sizes m (now (w .entry))) (part firsts m (now (w .entry))) (part seconds m (now (w .entry))) (part to m (now (w .entry)))) (now (w .entry)) ⌝ }
+    ensures { λ r. ⌜ now (w .exit) ≡ put to (takenIn k sizes firsts seconds m to (now (w .entry))) (now (w .entry)) ⌝ }
 {
     let back = k as usize;
     if m <= back {
@@ -129,7 +130,7 @@ fn take_matches(
     }
 }
 
-// Each hit pattern's repetition interval, searched below the limit: from the largest k down, so that the smallest one stays.
+// Each hit pattern's interval, searched below the limit: from the largest k down, so that the smallest one stays.
 pub fn repetition_intervals(
     w: &mut [u16],
     sizes: usize,
@@ -140,7 +141,8 @@ pub fn repetition_intervals(
     to: usize,
 )
     requires { ⌜ TripleApart (now w) sizes firsts seconds m to ⌝ ∗ ⌜ 1 ≤ limit ⌝ ∗ ⌜ limit < 65535 ⌝ }
-    ensures { λ r. ⌜ now (w .exit) ≡ put to (intervals limit (part sizes m (now (w .entry))) (part firsts m (now (w .entry))) (part seconds m (now (w .entry)))) (now (w .entry)) ⌝ }
+    ensures { λ r. ⌜ now (w .exit)
+        ≡ put to (intervalsIn limit sizes firsts seconds m (now (w .entry))) (now (w .entry)) ⌝ }
 {
     fill::store_all(w, to, m, limit + 1);
     let mut k = limit;

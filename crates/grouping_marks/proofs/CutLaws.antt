@@ -8,7 +8,7 @@ use lib.Dec.{eqb}
 use lib.ListN.{length, getD}
 use borrow.Author.Tests.{eq-eqb, ne-eqb, eqb-true}
 use Rattle.grouping_marks.specs.Scan.{scan, after}
-use Rattle.grouping_marks.specs.Marks.{opened, placeAt, groupCount, groupNumbers, groupPlaces, sizesFrom, groupSizes, firstsFrom, groupFirsts}
+use Rattle.grouping_marks.specs.Marks.{opened, placeByMark, groupCount, groupNumbers, groupPlaces, sizesFrom, groupSizes, firstsFrom, groupFirsts}
 use Rattle.grouping_marks.proofs.MarksLaws.{opened-bounds}
 use Rattle.grouping_marks.proofs.ScanLaws.{scan-append, after-append}
 
@@ -56,7 +56,8 @@ firsts-from (f ∷ fs) [] m ms y ys z e = absurd (omega arith)
 firsts-from (f ∷ fs) (x ∷ xs) m ms y ys z e = by (eqb f 0) (firsts-from fs xs m ms y ys z (omega arith))
   where
     by : (b : Bool) → firstsFrom (fs ++ m ∷ ms) (xs ++ y ∷ ys) ≡ firstsFrom fs xs ++ y ∷ firstsFrom ms ys
-        → cond b (firstsFrom (fs ++ m ∷ ms) (xs ++ y ∷ ys)) (x ∷ firstsFrom (fs ++ m ∷ ms) (xs ++ y ∷ ys)) ≡ cond b (firstsFrom fs xs) (x ∷ firstsFrom fs xs) ++ y ∷ firstsFrom ms ys
+        → cond b (firstsFrom (fs ++ m ∷ ms) (xs ++ y ∷ ys)) (x ∷ firstsFrom (fs ++ m ∷ ms) (xs ++ y ∷ ys))
+        ≡ cond b (firstsFrom fs xs) (x ∷ firstsFrom fs xs) ++ y ∷ firstsFrom ms ys
     by true u = u
     by false u = ap (λ (l : List ℕ). x ∷ l) u
 
@@ -74,7 +75,8 @@ unfolding groupFirsts
 firsts-cut [] bs [] ys o e g = refl
 firsts-cut [] bs (x ∷ xs) ys o e g = absurd (omega arith)
 firsts-cut (f ∷ fs) bs [] ys o e g = absurd (omega arith)
-firsts-cut (f ∷ fs) [] (x ∷ xs) ys o e g = rw (append-nil fs, append-nil (firstsFrom fs xs)) (ap (λ (l : List ℕ). x ∷ l) (firsts-from-end fs xs ys (omega arith)))
+firsts-cut (f ∷ fs) [] (x ∷ xs) ys o e g =
+    rw (append-nil fs, append-nil (firstsFrom fs xs)) (ap (λ (l : List ℕ). x ∷ l) (firsts-from-end fs xs ys (omega arith)))
 firsts-cut (f ∷ fs) (m ∷ ms) (x ∷ xs) [] o e g = absurd (omega arith)
 firsts-cut (f ∷ fs) (m ∷ ms) (x ∷ xs) (y ∷ ys) (opens z) e g = ap (λ (l : List ℕ). x ∷ l) (firsts-from fs xs m ms y ys z (omega arith))
 
@@ -145,7 +147,7 @@ numbers-cut fs (m ∷ ms) (opens z) =
 
 pub places-cut : (fs bs : List ℕ) → Opening bs → groupPlaces (fs ++ bs) ≡ groupPlaces fs ++ groupPlaces bs
 unfolding groupPlaces scan
-places-cut fs [] o = rw (append-nil fs, append-nil (scan (λ p m. placeAt p m + 1) placeAt 0 fs))
+places-cut fs [] o = rw (append-nil fs, append-nil (scan (λ p m. placeByMark p m + 1) placeByMark 0 fs))
 places-cut fs (m ∷ ms) (opens z) =
-    scan-append (λ p m. placeAt p m + 1) placeAt 0 fs (m ∷ ms)
-    ∙ ap (λ (l : List ℕ). scan (λ p m. placeAt p m + 1) placeAt 0 fs ++ l) (rw (ne-eqb m 0 z))
+    scan-append (λ p m. placeByMark p m + 1) placeByMark 0 fs (m ∷ ms)
+    ∙ ap (λ (l : List ℕ). scan (λ p m. placeByMark p m + 1) placeByMark 0 fs ++ l) (rw (ne-eqb m 0 z))

@@ -31,8 +31,8 @@ module _ {A : Type 0} where
   fill-start g n to w₀ e h = record { size = e; room = h; upto = omega arith; written = sym (put-nothing to w₀); long = refl }
 
   -- a loop that begins at element i, where the elements before it stand already
-  pub fill-from : (g : List A) (n to : ℕ) (w₀ : List A) (i : ℕ) (d : A) → length g ≡ n → to + n ≤ length w₀ → i ≤ n → ((j : ℕ) → j < i → getD g j d ≡ getD w₀ (to + j) d)
-      → Fill g n to w₀ w₀ i
+  pub fill-from : (g : List A) (n to : ℕ) (w₀ : List A) (i : ℕ) (d : A) → length g ≡ n → to + n ≤ length w₀ → i ≤ n
+      → ((j : ℕ) → j < i → getD g j d ≡ getD w₀ (to + j) d) → Fill g n to w₀ w₀ i
   fill-from g n to w₀ i d e h u k = record { size = e; room = h; upto = u; written = sym (put-kept to g w₀ i d (omega arith) (omega arith) k); long = refl }
 
   pub fill-turn : {g : List A} {n to : ℕ} {w₀ w : List A} {i : ℕ} {v : A} (d : A) → Fill g n to w₀ w i → i < n → v ≡ getD g i d
@@ -46,7 +46,8 @@ module _ {A : Type 0} where
   }
 
   -- a turn where what is left of the goal is known: its first element is stored
-  pub fill-next : {g : List A} {n to : ℕ} {w₀ w : List A} {j : ℕ} {y : A} {rest : List A} → Fill g n to w₀ w j → drop j g ≡ y ∷ rest → Onward g n to w₀ w j y rest
+  pub fill-next : {g : List A} {n to : ℕ} {w₀ w : List A} {j : ℕ} {y : A} {rest : List A} → Fill g n to w₀ w j → drop j g ≡ y ∷ rest
+      → Onward g n to w₀ w j y rest
   fill-next {g} {n} {to} {w₀} {w} {j} {y} {rest} x e =
       let k : j < n = omega (arith, length-drop j g, ap length e) in
       let l : getD g j y ∷ drop (suc j) g ≡ y ∷ rest = sym (drop-cons g j y (omega arith)) ∙ e in
@@ -70,7 +71,8 @@ module _ {A : Type 0} where
   pub fill-start-front : (g : List A) (n : ℕ) (w₀ : List A) → length g ≡ n → n ≤ length w₀ → Fill g n 0 w₀ w₀ 0
   fill-start-front g n w₀ e h = fill-start g n 0 w₀ e (omega arith)
 
-  pub fill-turn-front : {g : List A} {n : ℕ} {w₀ w : List A} {i : ℕ} {v : A} (d : A) → Fill g n 0 w₀ w i → i < n → v ≡ getD g i d → Fill g n 0 w₀ (set w i v) (i + 1)
+  pub fill-turn-front : {g : List A} {n : ℕ} {w₀ w : List A} {i : ℕ} {v : A} (d : A) → Fill g n 0 w₀ w i → i < n → v ≡ getD g i d
+      → Fill g n 0 w₀ (set w i v) (i + 1)
   fill-turn-front {g} {n} {w₀} {w} {i} {v} d x h q = subst (λ (k : ℕ). Fill g n 0 w₀ (set w k v) (i + 1)) (zero-add i) (fill-turn d x h q)
 
   pub fill-end-front : {g : List A} {n : ℕ} {w₀ w : List A} {i : ℕ} → Fill g n 0 w₀ w i → n ≤ i → w ≡ over g w₀

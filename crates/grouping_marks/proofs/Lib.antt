@@ -12,5 +12,4 @@ pub mod TableLaws
 pub mod CutLaws
 pub mod NumberLaws
 pub mod SplitLaws
-pub mod FirstLaws
 mod PassLaws

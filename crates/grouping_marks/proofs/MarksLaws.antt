@@ -9,19 +9,23 @@ use lib.Dec.{eqb}
 use lib.ListN.{length, getD}
 use borrow.Author.Tests.{eqb-true, eqb-false}
 use Rattle.grouping_marks.specs.Scan.{scan, after}
-use Rattle.grouping_marks.specs.Marks.{opened, placeAt, groupCount, groupNumbers, groupPlaces, sizesFrom, groupSizes, firstsFrom, groupFirsts}
+use Rattle.grouping_marks.specs.Marks.{opened, placeByMark, groupCount, groupNumbers, groupPlaces, sizesFrom, groupSizes, firstsFrom, groupFirsts}
 use Rattle.grouping_marks.proofs.ScanLaws.{length-scan}
 
 pub length-numbers : (marks : List ℕ) → length (groupNumbers marks) ≡ length marks
 unfolding groupNumbers
 length-numbers marks = length-scan opened (λ c m. opened c m - 1) 0 marks
 
+pub numbers-of-none : groupNumbers [] ≡ []
+unfolding groupNumbers scan
+numbers-of-none = refl
+
 pub length-places : (marks : List ℕ) → length (groupPlaces marks) ≡ length marks
 unfolding groupPlaces
-length-places marks = length-scan (λ p m. placeAt p m + 1) placeAt 0 marks
+length-places marks = length-scan (λ p m. placeByMark p m + 1) placeByMark 0 marks
 
-pub place-le : (p m : ℕ) → placeAt p m ≤ p
-unfolding placeAt
+pub place-le : (p m : ℕ) → placeByMark p m ≤ p
+unfolding placeByMark
 place-le p m = go (eqb m 0)
   where
     go : (b : Bool) → cond b p 0 ≤ p
@@ -89,7 +93,8 @@ unfolding sizesFrom after opened
 sizes-count c p [] = refl
 sizes-count c p (m ∷ ms) = go (eqb m 0) (eqb (c + 1) 0) refl (sizes-count c (p + 1) ms) (sizes-count (c + 1) 1 ms)
   where
-    go : (a b : Bool) → eqb (c + 1) 0 ≡ b → c + length (sizesFrom (p + 1) ms) ≡ after opened (c + 1) ms → c + 1 + length (sizesFrom 1 ms) ≡ after opened (c + 1 + 1) ms
+    go : (a b : Bool) → eqb (c + 1) 0 ≡ b → c + length (sizesFrom (p + 1) ms) ≡ after opened (c + 1) ms
+        → c + 1 + length (sizesFrom 1 ms) ≡ after opened (c + 1 + 1) ms
         → c + length (cond a (sizesFrom (p + 1) ms) (p ∷ sizesFrom 1 ms)) ≡ after opened (cond a (cond b 1 (c + 1)) (c + 1 + 1)) ms
     go true true e x y = absurd (omega (arith, eqb-true (c + 1) 0 e))
     go true false e x y = x

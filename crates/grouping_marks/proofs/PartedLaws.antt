@@ -1,14 +1,15 @@
--- The items of each group: how many groups there are, the first group and the rest, and what holds of all items. Each is proved of the groups behind an open one.
+-- The items of each group: how many groups there are, the first group and the rest, and what holds of all items. Each is proved of the
+-- groups behind an open one.
 use mathlib.Core.Path.{_≡_, refl, sym, ap, _∙_}
 use mathlib.Core.Bool.{Bool, true, false, cond}
-use mathlib.Core.List.{List, [], _∷_, _++_, append-nil}
+use mathlib.Core.List.{List, [], _∷_, _++_, map, append-nil}
 use Prim.Native.Nat.{ℕ, zero, suc, _+_, _≤_, _<_}
 use native.Mathlib.Nat.{le-refl, le-of-suc-le-suc, not-suc-le-zero}
 use native.Mathlib.Omega.{arith}
 use lib.Dec.{eqb}
 use lib.ListN.{length, take, drop, getD, replicate, length-append, length-replicate}
 use lib.Seq.{append-snoc, drop-at}
-use Rattle.grouping_marks.specs.Marks.{groupCount, sizesFrom, groupSizes}
+use Rattle.grouping_marks.specs.Marks.{groupCount, sizesFrom, groupSizes, firstsFrom, groupFirsts}
 use Rattle.grouping_marks.specs.Parted.{partedAfter, parted}
 use Rattle.grouping_marks.proofs.MarksLaws.{length-sizes}
 
@@ -22,8 +23,10 @@ after-count p group (m ∷ ms) [] h = absurd (not-suc-le-zero h)
 after-count p group (m ∷ ms) (x ∷ xs) h =
     go (eqb m 0) (after-count (p + 1) (group ++ (x ∷ [])) ms xs (le-of-suc-le-suc h)) (after-count 1 (x ∷ []) ms xs (le-of-suc-le-suc h))
   where
-    go : (b : Bool) → length (partedAfter (group ++ (x ∷ [])) ms xs) ≡ length (sizesFrom (p + 1) ms) → length (partedAfter (x ∷ []) ms xs) ≡ length (sizesFrom 1 ms)
-        → length (cond b (partedAfter (group ++ (x ∷ [])) ms xs) (group ∷ partedAfter (x ∷ []) ms xs)) ≡ length (cond b (sizesFrom (p + 1) ms) (p ∷ sizesFrom 1 ms))
+    go : (b : Bool) → length (partedAfter (group ++ (x ∷ [])) ms xs) ≡ length (sizesFrom (p + 1) ms)
+        → length (partedAfter (x ∷ []) ms xs) ≡ length (sizesFrom 1 ms)
+        → length (cond b (partedAfter (group ++ (x ∷ [])) ms xs) (group ∷ partedAfter (x ∷ []) ms xs))
+        ≡ length (cond b (sizesFrom (p + 1) ms) (p ∷ sizesFrom 1 ms))
     go true u v = u
     go false u v = ap suc v
 
@@ -70,7 +73,8 @@ count-first m k marks o =
     let d : drop k rest ≡ marks = drop-at (replicate k 0) marks k (length-replicate k 0) in
     let whole : length (parted (m ∷ rest) (m ∷ rest)) ≡ groupCount (m ∷ rest) = length-parted (m ∷ rest) (m ∷ rest) (le-refl _) in
     let first : length (parted (m ∷ rest) (m ∷ rest)) ≡ suc (length (parted marks (drop k rest))) = ap length (parted-first m k marks m rest (omega arith) o) in
-    let others : length (parted marks (drop k rest)) ≡ groupCount marks = ap (λ (l : List ℕ). length (parted marks l)) d ∙ length-parted marks marks (le-refl _) in
+    let others : length (parted marks (drop k rest)) ≡ groupCount marks =
+    ap (λ (l : List ℕ). length (parted marks l)) d ∙ length-parted marks marks (le-refl _) in
     omega arith
 
 -- ---- what holds of all items
@@ -97,7 +101,8 @@ module _ {A : Type 0} {P : A → Type 0} where
   unfolding partedAfter
   after-every group [] xs g e = more g none
   after-every group (m ∷ ms) [] g e = more g none
-  after-every group (m ∷ ms) (x ∷ xs) g (more p e) = go (eqb m 0) (after-every (group ++ (x ∷ [])) ms xs (every-snoc g p) e) (after-every (x ∷ []) ms xs (more p none) e)
+  after-every group (m ∷ ms) (x ∷ xs) g (more p e) =
+      go (eqb m 0) (after-every (group ++ (x ∷ [])) ms xs (every-snoc g p) e) (after-every (x ∷ []) ms xs (more p none) e)
     where
       go : (b : Bool) → Every (Every P) (partedAfter (group ++ (x ∷ [])) ms xs) → Every (Every P) (partedAfter (x ∷ []) ms xs)
           → Every (Every P) (cond b (partedAfter (group ++ (x ∷ [])) ms xs) (group ∷ partedAfter (x ∷ []) ms xs))
@@ -139,3 +144,27 @@ unfolding parted HasItem
 parted-some [] xs g h = absurd (not-suc-le-zero h)
 parted-some (m ∷ ms) [] g h = absurd (not-suc-le-zero h)
 parted-some (m ∷ ms) (x ∷ xs) g h = every-at (after-some x [] ms xs) [] g h
+
+-- ---- the first item of each group
+
+abbrev heads : List (List ℕ) → List ℕ
+heads groups = map (λ (g : List ℕ). getD g 0 0) groups
+
+heads-after : (x : ℕ) (group marks xs : List ℕ) → heads (partedAfter (x ∷ group) marks xs) ≡ x ∷ firstsFrom marks xs
+unfolding partedAfter firstsFrom
+heads-after x group [] xs = refl
+heads-after x group (m ∷ ms) [] = refl
+heads-after x group (m ∷ ms) (y ∷ ys) = by (heads-after x (group ++ (y ∷ [])) ms ys) (heads-after y [] ms ys) (eqb m 0) refl
+  where
+    by : heads (partedAfter (x ∷ (group ++ (y ∷ []))) ms ys) ≡ x ∷ firstsFrom ms ys
+        → heads (partedAfter (y ∷ []) ms ys) ≡ y ∷ firstsFrom ms ys
+        → (b : Bool) → eqb m 0 ≡ b
+        → heads (partedAfter (x ∷ group) (m ∷ ms) (y ∷ ys)) ≡ x ∷ firstsFrom (m ∷ ms) (y ∷ ys)
+    by p q true e = rw e p
+    by p q false e = rw e (ap (λ (l : List ℕ). x ∷ l) q)
+
+pub firsts-heads : (marks xs : List ℕ) → groupFirsts marks xs ≡ heads (parted marks xs)
+unfolding parted groupFirsts
+firsts-heads [] xs = refl
+firsts-heads (m ∷ ms) [] = refl
+firsts-heads (m ∷ ms) (x ∷ xs) = sym (heads-after x [] ms xs)

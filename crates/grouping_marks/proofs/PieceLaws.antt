@@ -19,10 +19,12 @@ module _ {A : Type 0} where
   getD-over new old i d h = List·getD-append new (drop (length new) old) d i h
 
   -- k places from place a on, lent, written whole and put back
-  pub put-back : (a k : ℕ) (new w region : List A) → length new ≡ k → region ≡ over new (take k (drop a w)) → take a w ++ (region ++ drop k (drop a w)) ≡ put a new w
+  pub put-back : (a k : ℕ) (new w region : List A) → length new ≡ k → region ≡ over new (take k (drop a w))
+      → take a w ++ (region ++ drop k (drop a w)) ≡ put a new w
   unfolding put over
   put-back a k new w region l e =
-      let none : drop (length new) (take k (drop a w)) ≡ [] = drop-of-length-le (take k (drop a w)) {i = length new} (omega (arith, length-take k (drop a w))) in
+      let none : drop (length new) (take k (drop a w)) ≡ [] =
+      drop-of-length-le (take k (drop a w)) {i = length new} (omega (arith, length-take k (drop a w))) in
       ap (λ (r : List A). take a w ++ (r ++ drop k (drop a w))) (e ∙ ap (λ (r : List A). new ++ r) none ∙ append-nil new)
       ∙ ap (λ (n : ℕ). take a w ++ (new ++ drop n (drop a w))) (sym l)
 

@@ -1,4 +1,5 @@
--- Group numbers, cut in two: the front's are below a number c, and the back's are c more than if the list began there. A list of marks can be cut before each group but the first.
+-- Group numbers, cut in two: the front's are below a number c, and the back's are c more than if the list began there. A list of marks
+-- can be cut before each group but the first.
 use mathlib.Core.Path.{_≡_, refl, sym, ap, _∙_, subst}
 use mathlib.Core.List.{List, [], _∷_, _++_, map}
 use mathlib.Core.Bool.{Bool, true, false}
@@ -71,7 +72,8 @@ split-gathered {idx} {table} {at} {c} {d} {back} {tail} s t b = record {
   whole =
       (λ i. gathered (t .whole i) (s .whole i))
       ∙ gathered-append (t .front ++ map (λ (j : ℕ). d + j) tail) (s .front) (map (λ (j : ℕ). c + j) back)
-      ∙ (λ i. gathered-front (t .front) (map (λ (j : ℕ). d + j) tail) (s .front) inside i ++ gathered-back (t .front) (map (λ (j : ℕ). d + j) tail) back c (t .size) i)
+      ∙ (λ i. gathered-front (t .front) (map (λ (j : ℕ). d + j) tail) (s .front) inside i
+      ++ gathered-back (t .front) (map (λ (j : ℕ). d + j) tail) back c (t .size) i)
       ∙ ap (λ (l : List ℕ). gathered (t .front) (s .front) ++ l) (gathered-moved tail back d b);
   size = length-gathered (t .front) (s .front) ∙ s .size;
   below = below-gathered (t .front) (s .front) d (t .below) inside;

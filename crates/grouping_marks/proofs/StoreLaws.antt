@@ -16,7 +16,8 @@ pub read-at : (a m : ℕ) (w : List ℕ) (i j : ℕ) → i < m → j ≡ a + i �
 read-at a m w i j h e = getD-part a m w i 0 h ∙ ap (λ (k : ℕ). getD w k 0) (sym e)
 
 -- a part that lies apart from what is written
-pub fill-apart : {g : List ℕ} {n to : ℕ} {w₀ w : List ℕ} {i : ℕ} (from m : ℕ) → Fill g n to w₀ w i → (from + m ≤ to) ⊎ (to + n ≤ from) → part from m w ≡ part from m w₀
+pub fill-apart : {g : List ℕ} {n to : ℕ} {w₀ w : List ℕ} {i : ℕ} (from m : ℕ) → Fill g n to w₀ w i
+    → (from + m ≤ to) ⊎ (to + n ≤ from) → part from m w ≡ part from m w₀
 fill-apart {g} {n} {to} {w₀} {w} {i} from m x a =
     let e : length (take i g) ≡ i = length-take-le i g (omega arith) in
     ap (part from m) (x .written) ∙ part-put-apart from m to (take i g) w₀ (⊎-elim (λ b. inl b) (λ b. inr (omega arith)) a) (omega arith)
@@ -24,5 +25,6 @@ fill-apart {g} {n} {to} {w₀} {w} {i} from m x a =
 pub table-start : (f : ℕ → ℕ) (a m to : ℕ) (w : List ℕ) → a + m ≤ length w → to + m ≤ length w → Fill (tabulate f (length (part a m w))) m to w w 0
 table-start f a m to w r h = fill-start _ m to w (length-tabulate f (length (part a m w)) ∙ length-part a m w r) h
 
-pub table-turn : (f : ℕ → ℕ) (k : ℕ) {m to : ℕ} {w₀ w : List ℕ} {i v : ℕ} → Fill (tabulate f k) m to w₀ w i → i < m → v ≡ f i → Fill (tabulate f k) m to w₀ (set w (to + i) v) (i + 1)
+pub table-turn : (f : ℕ → ℕ) (k : ℕ) {m to : ℕ} {w₀ w : List ℕ} {i v : ℕ} → Fill (tabulate f k) m to w₀ w i → i < m → v ≡ f i
+    → Fill (tabulate f k) m to w₀ (set w (to + i) v) (i + 1)
 table-turn f k {i} x h q = fill-turn 0 x h (q ∙ sym (getD-tabulate f k i 0 (omega (arith, length-tabulate f k, x .size))))

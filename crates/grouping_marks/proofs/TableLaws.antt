@@ -28,7 +28,8 @@ tabulate-cut {B} f g xs ys h =
     ∙ ap (λ (l : List B). tabulate f (length xs) ++ l) (tabulate-agree (λ i. f (length xs + i)) g (length ys) h)
 
 -- the same, with the part for xs made by another function too
-pub tabulate-cut₂ : {A B : Type 0} (f e g : ℕ → B) (xs ys : List A) → ((i : ℕ) → i < length xs → f i ≡ e i) → ((i : ℕ) → i < length ys → f (length xs + i) ≡ g i)
+pub tabulate-cut₂ : {A B : Type 0} (f e g : ℕ → B) (xs ys : List A) → ((i : ℕ) → i < length xs → f i ≡ e i)
+    → ((i : ℕ) → i < length ys → f (length xs + i) ≡ g i)
     → tabulate f (length (xs ++ ys)) ≡ tabulate e (length xs) ++ tabulate g (length ys)
 tabulate-cut₂ {B} f e g xs ys h k =
     tabulate-cut f g xs ys k ∙ ap (λ (l : List B). l ++ tabulate g (length ys)) (tabulate-agree f e (length xs) h)

@@ -37,6 +37,15 @@ module _ {S A : Type 0} (next : S → A → S) where
     scan-alike emit same s t [] a = refl
     scan-alike emit same s t (x ∷ xs) a = λ i. same s t x a i ∷ scan-alike emit same (next s x) (next t x) xs (keeps s t x a) i
 
+module _ {S A B : Type 0} (next : S → A → S) (emit : S → A → B) where
+  pub scan-none : (s : S) → scan next emit s [] ≡ []
+  unfolding scan
+  scan-none s = refl
+
+  pub scan-first : (s : S) (x : A) (xs : List A) → scan next emit s (x ∷ xs) ≡ emit s x ∷ scan next emit (next s x) xs
+  unfolding scan
+  scan-first s x xs = refl
+
 pub getD-scan : {S A B : Type 0} (next : S → A → S) (emit : S → A → B) (s : S) (xs : List A) (i : ℕ) (d : A) (b : B) → i < length xs
     → getD (scan next emit s xs) i b ≡ emit (after next s (take i xs)) (getD xs i d)
 unfolding scan after

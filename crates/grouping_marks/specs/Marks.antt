@@ -1,5 +1,6 @@
--- Groups of neighbouring items, by marks: a number for each item, 1 where it opens a group and 0 where it continues one.
--- Streaks, alternating patterns, hit patterns and rhythm groups are all given so. The first item opens a group whatever its mark.
+-- Groups of neighbouring items, by marks: a number for each item, 1 where it opens a group and 0 where it continues it.
+-- Streaks, alternating patterns, hit patterns and rhythm groups are all given so.
+-- The first item opens a group whatever its mark.
 use Prim.Native.Nat.{ℕ, _+_, _-_}
 use mathlib.Core.Bool.{cond}
 use mathlib.Core.List.{List, [], _∷_}
@@ -18,14 +19,14 @@ unfoldable pub groupNumbers : List ℕ → List ℕ
 unfolding opened
 groupNumbers marks = scan opened (λ c m. opened c m - 1) 0 marks
 
--- an item's place in its group, where p items of the open group went before
-unfoldable pub placeAt : ℕ → ℕ → ℕ
-placeAt p m = cond (eqb m 0) p 0
+-- an item's place in its group, by its mark m, where p items of the open group went before
+unfoldable pub placeByMark : ℕ → ℕ → ℕ
+placeByMark p m = cond (eqb m 0) p 0
 
 -- each item's place in its group
 unfoldable pub groupPlaces : List ℕ → List ℕ
-unfolding placeAt
-groupPlaces marks = scan (λ p m. placeAt p m + 1) placeAt 0 marks
+unfolding placeByMark
+groupPlaces marks = scan (λ p m. placeByMark p m + 1) placeByMark 0 marks
 
 -- the sizes of the groups, where the open one has p items so far
 unfoldable pub sizesFrom : ℕ → List ℕ → List ℕ

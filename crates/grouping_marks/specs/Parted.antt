@@ -1,4 +1,4 @@
--- The items of each group, by the marks of Marks.antt: the first item opens a group whatever its mark, 1 opens a group and 0 continues it.
+-- The items of each group, by the marks of Marks.antt.
 use Prim.Native.Nat.{ℕ}
 use mathlib.Core.Bool.{cond}
 use mathlib.Core.List.{List, [], _∷_, _++_}
@@ -8,7 +8,8 @@ use lib.Dec.{eqb}
 unfoldable pub partedAfter : {A : Type 0} → List A → List ℕ → List A → List (List A)
 partedAfter group [] xs = group ∷ []
 partedAfter group (m ∷ ms) [] = group ∷ []
-partedAfter group (m ∷ ms) (x ∷ xs) = cond (eqb m 0) (partedAfter (group ++ (x ∷ [])) ms xs) (group ∷ partedAfter (x ∷ []) ms xs)
+partedAfter group (m ∷ ms) (x ∷ xs) =
+    cond (eqb m 0) (partedAfter (group ++ (x ∷ [])) ms xs) (group ∷ partedAfter (x ∷ []) ms xs)
 
 -- the items of each group, in order
 unfoldable pub parted : {A : Type 0} → List ℕ → List A → List (List A)

@@ -1,4 +1,4 @@
--- What a pass asks of the one slice in which it reads and writes: it reads m places from `from` on and writes from `to` on.
+-- What a pass asks of the one slice in which it reads and writes: it reads m places from `from` on and writes at `to`.
 use mathlib.Core.Logic.{_⊎_}
 use Prim.Native.Nat.{ℕ, _+_, _≤_}
 use mathlib.Core.List.{List}

@@ -20,7 +20,8 @@ pub fn copy(src: &[u16], out: &mut [u16])
 
 // What the table has at each number.
 pub fn gather(table: &[u16], idx: &[u16], out: &mut [u16])
-    requires { ⌜ (length (now idx) ≤ length (now out)) × ((i : ℕ) → i < length (now idx) → getD (now idx) i 0 < length (now table)) ⌝ }
+    requires { ⌜ (length (now idx) ≤ length (now out))
+        × ((i : ℕ) → i < length (now idx) → getD (now idx) i 0 < length (now table)) ⌝ }
     ensures { λ r. ⌜ now (out .exit) ≡ over (gathered (now (table .entry)) (now (idx .entry))) (now (out .entry)) ⌝ }
 {
     let mut i = 0;
@@ -33,7 +34,9 @@ pub fn gather(table: &[u16], idx: &[u16], out: &mut [u16])
 
 // What the table, all of bytes, has at each number.
 pub fn gather_bytes(table: &[u16], idx: &[u16], out: &mut [u8])
-    requires { ⌜ (length (now idx) ≤ length (now out)) × (((i : ℕ) → i < length (now idx) → getD (now idx) i 0 < length (now table)) × ((j : ℕ) → getD (now table) j 0 < 256)) ⌝ }
+    requires { ⌜ (length (now idx) ≤ length (now out))
+        × (((i : ℕ) → i < length (now idx) → getD (now idx) i 0 < length (now table))
+        × ((j : ℕ) → getD (now table) j 0 < 256)) ⌝ }
     ensures { λ r. ⌜ now (out .exit) ≡ over (gathered (now (table .entry)) (now (idx .entry))) (now (out .entry)) ⌝ }
 {
     let mut i = 0;

@@ -1,16 +1,19 @@
--- What each pass of the encoder asks and leaves: all that it writes, and the tables that a later pass reads. Writes.antt has the regions.
+-- What each pass of the encoder asks and leaves: all that it writes, and the tables that a later pass reads.
+-- Writes.antt has the regions.
 use mathlib.Core.Path.{_≡_}
 use Prim.Native.Nat.{ℕ, _*_, _≤_}
 use mathlib.Core.List.{List}
 use lib.ListN.{length, drop}
 use Rattle.grouping_marks.specs.Over.{part, written}
 use Rattle.grouping_marks.specs.Marks.{groupCount, groupNumbers, groupPlaces, groupSizes, groupFirsts}
-use Rattle.grouping_hits.specs.RepeatingHitPatterns.{hitMarks, secondLengths, intervals}
+use Rattle.grouping_hits.specs.RepeatingHitPatterns.{hitMarks, secondLengths}
 use Rattle.grouping_color.specs.MonoStreak.{streakMarks, streakOf, streakLengths, streakTypes}
 use Rattle.grouping_color.specs.AlternatingMonoPattern.{patternMarks}
 use Rattle.grouping_color.specs.Preprocessor.{patternsOpen, hitsOpen, hitCount, hitIntervals}
-use Rattle.grouping_preprocessor.specs.Writes.{streakWrites, patternWrites, hitMarkWrites, coupledWrites, encoderWrites}
-use Rattle.grouping_preprocessor.specs.declared.Counts.{Counts}
+use Rattle.grouping_color.specs.Passes.{coupledIn}
+use Rattle.grouping_preprocessor.specs.Writes.{streakWrites, patternWrites, hitMarkWrites, coupledWrites}
+use Rattle.grouping_preprocessor.specs.Writes.{encoderWrites, intervalsBy}
+use Rattle.grouping_preprocessor.specs.declared.Levels.{Levels}
 
 -- room for n objects
 pub record Regions (n : ℕ) (w : List ℕ) : Type 0 where
@@ -44,6 +47,10 @@ pub record Patterns (n s : ℕ) (lengths types w₀ w : List ℕ) (p : ℕ) : Ty
   pub streak : part 0 n w ≡ part 0 n w₀
   pub outside : Outside n w₀ w
 
+-- where the slice has the streaks' lengths and types
+abbrev pub PatternsFound : ℕ → ℕ → List ℕ → List ℕ → ℕ → Type 0
+PatternsFound n s w₀ w p = Patterns n s (part n s w₀) (part (2 * n) s w₀) w₀ w p
+
 -- what later passes read is as it was: each object's streak, each streak's pattern and place
 pub record Kept (n : ℕ) (w₀ w : List ℕ) : Type 0 where
   pub streak : part 0 n w ≡ part 0 n w₀
@@ -59,6 +66,13 @@ pub record HitMarks (n p : ℕ) (lengths flags w₀ w : List ℕ) : Type 0 where
   pub second : part (2 * n) p w ≡ secondLengths lengths (hitMarks flags)
   pub kept : Kept n w₀ w
 
+-- which of p patterns are coupled, by the first lengths, streak counts and types that the slice has
+abbrev pub flagsIn : ℕ → ℕ → List ℕ → List ℕ
+flagsIn n p w = coupledIn n (5 * n) (2 * n) p w
+
+abbrev pub HitMarksFound : ℕ → ℕ → List ℕ → List ℕ → Type 0
+HitMarksFound n p w₀ w = HitMarks n p (part n p w₀) (flagsIn n p w₀) w₀ w
+
 -- from p patterns, by their first lengths and coupled flags, to hit patterns
 pub record Hits (limit n p : ℕ) (lengths flags w₀ w : List ℕ) (h : ℕ) : Type 0 where
   pub counted : h ≡ groupCount (hitMarks flags)
@@ -66,12 +80,14 @@ pub record Hits (limit n p : ℕ) (lengths flags w₀ w : List ℕ) (h : ℕ) : 
   pub few : h ≤ p
   pub numbers : part n p w ≡ groupNumbers (hitMarks flags)
   pub places : part (2 * n) p w ≡ groupPlaces (hitMarks flags)
-  pub interval : part (7 * n) h w
-      ≡ intervals limit (groupSizes (hitMarks flags)) (groupFirsts (hitMarks flags) lengths) (groupFirsts (hitMarks flags) (secondLengths lengths (hitMarks flags)))
+  pub interval : part (7 * n) h w ≡ intervalsBy limit lengths (secondLengths lengths (hitMarks flags)) (hitMarks flags)
   pub kept : Kept n w₀ w
 
+abbrev pub HitsFound : ℕ → ℕ → ℕ → List ℕ → List ℕ → ℕ → Type 0
+HitsFound limit n p w₀ w h = Hits limit n p (part n p w₀) (flagsIn n p w₀) w₀ w h
+
 -- the tables from which each object's six numbers are looked up
-pub record Tables (limit : ℕ) (kinds w₀ w : List ℕ) (k : Counts) : Type 0 where
+pub record Tables (limit : ℕ) (kinds w₀ w : List ℕ) (k : Levels) : Type 0 where
   pub count-s : k .streaks ≡ groupCount (streakMarks kinds)
   pub count-p : k .patterns ≡ groupCount (patternsOpen kinds)
   pub count-h : k .hits ≡ hitCount kinds
@@ -88,6 +104,6 @@ pub record Tables (limit : ℕ) (kinds w₀ w : List ℕ) (k : Counts) : Type 0 
   pub outside : Outside (length kinds) w₀ w
 
 -- what the encoder leaves
-pub record Encodes (limit : ℕ) (kinds w₀ w : List ℕ) (k : Counts) : Type 0 where
+pub record Encodes (limit : ℕ) (kinds w₀ w : List ℕ) (k : Levels) : Type 0 where
   pub memory : w ≡ written (encoderWrites limit kinds) w₀
   pub tables : Tables limit kinds w₀ w k

@@ -7,8 +7,8 @@ use native.Mathlib.Omega.{arith}
 use lib.ListN.{length, take, length-take}
 use Rattle.grouping_marks.proofs.OverLaws.{front}
 use Rattle.grouping_color.specs.MonoStreak.{streakOf}
-use Rattle.grouping_color.specs.Preprocessor.{patternOf, hitOf, intervalOf}
-use Rattle.grouping_color.proofs.BoundLaws.{length-streakOf, length-patternOf, length-hitOf, length-intervalOf}
+use Rattle.grouping_color.specs.Preprocessor.{alternatingOf, hitOf, intervalOf}
+use Rattle.grouping_color.proofs.BoundLaws.{length-streakOf, length-alternatingOf, length-hitOf, length-intervalOf}
 use Rattle.grouping_chart.specs.Settings.{baseSettings}
 use Rattle.grouping_encode.specs.Passes.{Encoded}
 use Rattle.letters_text.specs.declared.Reading.{Reading}
@@ -29,7 +29,7 @@ unfolding columns
 columns-fit kinds room x = record {
   even = record {
     streaks = length-streakOf kinds;
-    patterns = length-patternOf kinds;
+    patterns = length-alternatingOf kinds;
     hits = length-hitOf kinds;
     intervals = length-intervalOf kinds (baseSettings .limit);
   };
@@ -54,7 +54,7 @@ module _ {kinds streak₀ streak streakPlace₀ streakPlace pattern₀ pattern p
   lent-columns =
       let n : ℕ = length kinds in
       let s : take n streak ≡ streakOf kinds = rw (x .streaks) (front (streakOf kinds) streak₀ n (length-streakOf kinds)) in
-      let p : take n pattern ≡ patternOf kinds = rw (x .patterns) (front (patternOf kinds) pattern₀ n (length-patternOf kinds)) in
+      let p : take n pattern ≡ alternatingOf kinds = rw (x .patterns) (front (alternatingOf kinds) pattern₀ n (length-alternatingOf kinds)) in
       let h : take n hit ≡ hitOf kinds = rw (x .hits) (front (hitOf kinds) hit₀ n (length-hitOf kinds)) in
       let i : take n interval ≡ intervalOf (baseSettings .limit) kinds =
       rw (x .intervals) (front (intervalOf (baseSettings .limit) kinds) interval₀ n (length-intervalOf kinds (baseSettings .limit))) in

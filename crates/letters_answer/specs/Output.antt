@@ -3,7 +3,7 @@
 use Prim.Native.Nat.{ℕ, _≤_}
 use mathlib.Core.List.{List}
 use Rattle.grouping_color.specs.MonoStreak.{streakOf}
-use Rattle.grouping_color.specs.Preprocessor.{patternOf, hitOf, intervalOf}
+use Rattle.grouping_color.specs.Preprocessor.{alternatingOf, hitOf, intervalOf}
 use Rattle.grouping_chart.specs.Settings.{baseSettings}
 use Rattle.letters_text.specs.Letters.{trimmed, kindsOf, reading}
 use Rattle.letters_text.specs.Lines.{Columns, lines, printed}
@@ -13,7 +13,7 @@ unfoldable pub columns : List ℕ → Columns
 columns kinds = record {
   kinds = kinds;
   streaks = streakOf kinds;
-  patterns = patternOf kinds;
+  patterns = alternatingOf kinds;
   hits = hitOf kinds;
   intervals = intervalOf (baseSettings .limit) kinds;
 }

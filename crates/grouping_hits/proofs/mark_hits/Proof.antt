@@ -1,8 +1,10 @@
--- `repeating_hit_patterns::mark_hits` meets its contract. The invariant: the walk over the coupled flags, whose state is the stage, has stored its marks so far over the flags that it passed.
+-- `mark_hits` meets its contract. The invariant: the walk over the coupled flags, whose state is the stage, has stored its marks
+-- over the flags that it passed.
 use Prim.Native.Nat.{_-_}
 use Rattle.grouping_marks.specs.Over.{part}
 use Rattle.grouping_marks.proofs.ScanLaws.{Walk, start-part, turn-part, ended}
-use Rattle.grouping_hits.specs.RepeatingHitPatterns.{stageAfter, opensHit, hitMarks}
+use Rattle.grouping_hits.specs.Passes.{stageAfter, opensHit}
+use Rattle.grouping_hits.proofs.MarkLaws.{hitMarks-scan}
 use native.Mathlib.Omega.{arith}
 use borrow.Author.Needs.{needs}
 use Rattle.grouping_hits.proofs.mark_hits.Statement.{statement}
@@ -18,14 +20,15 @@ loop-holds : tie.Need-loop-holds Inv-loop μ-loop
 loop-holds c = start-part stageAfter opensHit 0 _ _ _ _ (c .before .pre)
 
 loop-again : tie.Need-loop-again Inv-loop μ-loop
-loop-again c = turn-part (c .before .before .before .before .loop .inv) (c .before .before .before .before .before .before .pre) (omega arith) (c .before .opens-hit .ensures) (c .stage-after .ensures)
+loop-again c =
+    let at-test = c .before .before .before .before in
+    turn-part (at-test .loop .inv) (at-test .before .before .pre) (omega arith) (c .before .opens-hit .ensures) (c .stage-after .ensures)
 
 same-length : tie.Need-same-length Inv-loop μ-loop
 same-length c = c .before .loop .inv .fill .long
 
 returns : tie.Need-returns Inv-loop μ-loop
-unfolding hitMarks
-returns c = ended (c .before .loop .inv) (c .loop-test .left)
+returns c = rw (← hitMarks-scan) (ended (c .before .loop .inv) (c .loop-test .left))
 
 pub mark-hits-spec : {M : Type 1} → statement M
 mark-hits-spec =

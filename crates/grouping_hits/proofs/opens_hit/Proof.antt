@@ -1,4 +1,4 @@
--- `repeating_hit_patterns::opens_hit` meets its contract, case by case.
+-- `opens_hit` meets its contract, case by case.
 use Rattle.grouping_hits.proofs.HitLaws.{opens-at-0, opens-not}
 use Rattle.grouping_hits.proofs.opens_hit.Statement.{statement}
 use Rattle.grouping_hits.proofs.opens_hit.Tie as tie

@@ -17,17 +17,21 @@ loop-holds c = search-start _ (c .before .before .before .before .before .pre .0
 take-matches-requires : tie.Need-take-matches-requires Inv-loop μ-loop
 take-matches-requires c κs =
     let l = c .before .before in
-    still-apart (emptied-apart _ (l .before .before .before .before .before .before .pre .0) (l .before .before .before .store-all .ensures)) (l .loop .inv)
+    let emptied = l .before .before .before in
+    still-apart (emptied-apart _ (emptied .before .before .before .pre .0) (emptied .store-all .ensures)) (l .loop .inv)
 
 loop-again : tie.Need-loop-again Inv-loop μ-loop
 loop-again c =
     let l = c .before .before .before .before .before in
-    search-turn (emptied-apart _ (l .before .before .before .before .before .before .pre .0) (l .before .before .before .store-all .ensures)) (l .loop .inv) (omega arith) (omega arith) (c .before .before .take-matches .ensures)
+    let emptied = l .before .before .before in
+    search-turn (emptied-apart _ (emptied .before .before .before .pre .0) (emptied .store-all .ensures)) (l .loop .inv) (omega arith) (omega arith)
+    (c .before .before .take-matches .ensures)
 
 returns : tie.Need-returns Inv-loop μ-loop
 returns c =
     let l = c .before in
-    search-end _ (l .before .before .before .before .before .before .pre .0) (l .before .before .before .store-all .ensures) (l .loop .inv) (omega arith)
+    let emptied = l .before .before .before in
+    search-end _ (emptied .before .before .before .pre .0) (emptied .store-all .ensures) (l .loop .inv) (omega arith)
 
 pub repetition-intervals-spec : {M : Type 1} → statement M
 repetition-intervals-spec =

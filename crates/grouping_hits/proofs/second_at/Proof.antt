@@ -1,4 +1,4 @@
--- `repeating_hit_patterns::second_at` meets its contract, case by case.
+-- `second_at` meets its contract, case by case.
 use mathlib.Core.Path.{_∙_}
 use Rattle.grouping_hits.proofs.HitLaws.{second-inside, second-end}
 use native.Mathlib.Omega.{arith}

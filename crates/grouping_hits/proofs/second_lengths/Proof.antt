@@ -1,4 +1,4 @@
--- `repeating_hit_patterns::second_lengths` meets its contract. The invariant: i lengths are stored from place `to` on, by what stood in the regions that are read, and the last is still to come.
+-- The invariant: i lengths are stored from place `to` on, by what stood in the regions that are read, and the last is still to come.
 use Prim.Native.Nat.{_-_, _<_}
 use lib.ListN.{length-set}
 use Rattle.grouping_marks.specs.Over.{part}
@@ -23,13 +23,17 @@ loop-holds : tie.Need-loop-holds Inv-loop μ-loop
 loop-holds c = (seconds-start (c .before .before .pre), omega arith)
 
 loop-again : tie.Need-loop-again Inv-loop μ-loop
-loop-again c = (seconds-turn (c .before .before .before .before .before .before .pre) (c .before .before .before .loop .inv .0) (omega arith) (c .second-at .ensures), omega arith)
+loop-again c =
+    let l = c .before .before .before in
+    (seconds-turn (l .before .before .before .pre) (l .loop .inv .0) (omega arith) (c .second-at .ensures), omega arith)
 
 same-length : tie.Need-same-length Inv-loop μ-loop
 same-length c = simp length-set (c .before .before .before .loop .inv .0 .long)
 
 returns-2 : tie.Need-returns-2 Inv-loop μ-loop
-returns-2 c = fill-end (seconds-turn (c .before .before .before .before .before .before .pre) (c .before .before .before .loop .inv .0) (omega arith) (c .second-at2 .ensures)) (omega arith)
+returns-2 c =
+    let l = c .before .before .before in
+    fill-end (seconds-turn (l .before .before .before .pre) (l .loop .inv .0) (omega arith) (c .second-at2 .ensures)) (omega arith)
 
 pub second-lengths-spec : {M : Type 1} → statement M
 second-lengths-spec =

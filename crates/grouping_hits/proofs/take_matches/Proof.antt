@@ -2,15 +2,14 @@
 use Prim.Native.Nat.{_-_, _≤_}
 use native.Mathlib.Omega.{arith}
 use borrow.Author.Needs.{needs}
-use Rattle.grouping_marks.specs.Over.{part}
 use Rattle.grouping_marks.proofs.FillLaws.{Fill, fill-end}
-use Rattle.grouping_hits.specs.Passes.{matchesTaken}
+use Rattle.grouping_hits.specs.Passes.{takenIn}
 use Rattle.grouping_hits.proofs.IntervalLaws.{taken-from, taken-none, taken-turn}
 use Rattle.grouping_hits.proofs.take_matches.Statement.{statement}
 use Rattle.grouping_hits.proofs.take_matches.Tie as tie
 
 abbrev Inv-loop : tie.InvT-loop
-Inv-loop w₀ sizes firsts seconds m k to back h₀ w h = Fill (matchesTaken k (part sizes m w₀) (part firsts m w₀) (part seconds m w₀) (part to m w₀)) m to w₀ w h × (k ≤ h)
+Inv-loop w₀ sizes firsts seconds m k to back h₀ w h = Fill (takenIn k sizes firsts seconds m to w₀) m to w₀ w h × (k ≤ h)
 
 abbrev μ-loop : tie.MeasureT-loop
 μ-loop w₀ sizes firsts seconds m k to back h₀ w h = m - h
@@ -24,7 +23,8 @@ loop-holds c = (taken-from _ (c .before .before .pre) _ (omega arith) (omega ari
 loop-again : tie.Need-loop-again Inv-loop μ-loop
 loop-again c =
     let l = c .before .before .before .before .before in
-    (taken-turn _ (l .before .before .before .pre) (l .loop .inv .0) (omega arith) (l .loop .inv .1) (c .before .hits-match .ensures) (c .nearer .ensures), omega arith)
+    let x = l .loop .inv in
+    (taken-turn _ (l .before .before .before .pre) (x .0) (omega arith) (x .1) (c .before .hits-match .ensures) (c .nearer .ensures), omega arith)
 
 same-length : tie.Need-same-length Inv-loop μ-loop
 same-length c = c .before .loop .inv .0 .long

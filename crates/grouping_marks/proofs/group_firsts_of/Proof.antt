@@ -1,4 +1,5 @@
--- The loop's invariant: where the open group's first is stored, the firsts of all groups so far are in their places, and the firsts still to store are those of the items left.
+-- The loop's invariant: where the open group's first is stored, the firsts of all groups so far are in their places, and the firsts
+-- still to store are those of the items left.
 use mathlib.Core.Path.{refl}
 use Prim.Native.Nat.{_-_}
 use lib.ListN.{length, length-set}
@@ -27,7 +28,9 @@ cast-item : tie.Need-cast-item Inv-loop μ-loop
 cast-item c = omega (arith, c .shared-slice-known3 .given (c .before .before .before .loop .i))
 
 loop-again : tie.Need-loop-again Inv-loop μ-loop
-loop-again c = firsts-turn (c .before .before .before .before .before .loop .inv) _ _ _ (c .before .before .before .before .loop-test .taken) refl (c .before .first-after .ensures) (c .opens .ensures .0)
+loop-again c =
+    let in-loop = c .before .before .before .before in
+    firsts-turn (in-loop .before .loop .inv) _ _ _ (in-loop .loop-test .taken) refl (c .before .first-after .ensures) (c .opens .ensures .0)
 
 same-length : tie.Need-same-length Inv-loop μ-loop
 same-length c = simp length-set (c .before .loop .inv .long)

@@ -4,7 +4,7 @@ use Prim.Native.Nat.{ℕ, _+_, _-_, _≤_}
 use mathlib.Core.Path.{ap}
 use lib.ListN.{getD}
 use Rattle.grouping_marks.specs.Over.{part}
-use Rattle.grouping_marks.specs.Marks.{placeAt, groupPlaces}
+use Rattle.grouping_marks.specs.Marks.{placeByMark, groupPlaces}
 use Rattle.grouping_marks.proofs.MarksLaws.{place-le}
 use Rattle.grouping_marks.proofs.ScanLaws.{Walk, start-part, turn-part, ended}
 use borrow.Author.Needs.{needs}
@@ -12,7 +12,7 @@ use Rattle.grouping_marks.proofs.group_places.Statement.{statement}
 use Rattle.grouping_marks.proofs.group_places.Tie as tie
 
 abbrev Inv-loop : tie.InvT-loop
-Inv-loop w₀ from m to p₀ i₀ w p i = Walk (λ p m. placeAt p m + 1) placeAt 0 (part from m w₀) m to w₀ w p i × (p ≤ i)
+Inv-loop w₀ from m to p₀ i₀ w p i = Walk (λ p m. placeByMark p m + 1) placeByMark 0 (part from m w₀) m to w₀ w p i × (p ≤ i)
 
 abbrev μ-loop : tie.MeasureT-loop
 μ-loop w₀ from m to p₀ i₀ w p i = m - i
@@ -27,8 +27,9 @@ add-p c =
 
 loop-again : tie.Need-loop-again Inv-loop μ-loop
 loop-again c =
-    let l = c .before .before .before in (
-      turn-part (l .loop .inv .0) (l .before .before .pre) (c .before .before .loop-test .taken) (c .place-at .ensures) (ap (λ (n : ℕ). n + 1) (c .place-at .ensures)),
+    let l = c .before .before .before in
+    let place = c .place-by-mark .ensures in (
+      turn-part (l .loop .inv .0) (l .before .before .pre) (c .before .before .loop-test .taken) place (ap (λ (n : ℕ). n + 1) place),
       omega (arith, place-le (l .loop .p) (getD (l .loop .w) (l .before .before .args .from + l .loop .i) 0)),
     )
 

@@ -1,4 +1,5 @@
--- The loop's invariant: where the open group's size is stored, j sizes lie before it, and the sizes still to store are those of the items left, with `size` items in the open group.
+-- The loop's invariant: where the open group's size is stored, j sizes lie before it, and the sizes still to store are those of the
+-- items left, with `size` items in the open group.
 use Prim.Native.Nat.{_-_, _≤_}
 use lib.ListN.{length-set}
 use Rattle.grouping_marks.proofs.MarksLaws.{place-le}
@@ -24,10 +25,12 @@ slice-read-mark : tie.Need-slice-read-mark Inv-loop μ-loop
 slice-read-mark c = simp length-set (omega arith)
 
 add-size : tie.Need-add-size Inv-loop μ-loop
-add-size c = let b : c .place-at .result ≤ c .before .before .before .loop .size = rw (c .place-at .ensures) (place-le _ _) in omega arith
+add-size c = let b : c .place-by-mark .result ≤ c .before .before .before .loop .size = rw (c .place-by-mark .ensures) (place-le _ _) in omega arith
 
 loop-again : tie.Need-loop-again Inv-loop μ-loop
-loop-again c = sizing-turn (c .before .before .before .before .loop .inv) _ _ (c .before .before .before .loop-test .taken) (c .before .place-at .ensures) (c .opens .ensures .0)
+loop-again c =
+    let in-loop = c .before .before .before in
+    sizing-turn (in-loop .before .loop .inv) _ _ (in-loop .loop-test .taken) (c .before .place-by-mark .ensures) (c .opens .ensures .0)
 
 same-length : tie.Need-same-length Inv-loop μ-loop
 same-length c = simp length-set (c .before .loop .inv .long)

@@ -6,7 +6,11 @@ use Rattle.grouping_preprocessor.proofs.encode_colors.Statement.{statem
 use Rattle.grouping_preprocessor.proofs.encode_colors.Tie as tie
 
 returns : tie.Need-returns
-returns c = encoded _ _ _ _ _ _ _ _ _ (c .before .before .before .before .before .before .before .before .before .before .find-streaks .ensures) (c .before .before .before .before .before .before .find-patterns .ensures) (c .before .before .find-hits .ensures)
+returns c =
+    let found = c .before .before in
+    let patterned = found .before .before .before .before in
+    let streaked = patterned .before .before .before .before in
+    encoded _ _ _ _ _ _ _ _ _ (streaked .find-streaks .ensures) (patterned .find-patterns .ensures) (found .find-hits .ensures)
 
 pub encode-colors-spec : {M : Type 1} → statement M
 encode-colors-spec =

@@ -5,16 +5,23 @@ use Rattle.grouping_preprocessor.proofs.find_hit_marks.Statement.{state
 use Rattle.grouping_preprocessor.proofs.find_hit_marks.Tie as tie
 
 mark-coupled-requires : tie.Need-mark-coupled-requires
-mark-coupled-requires c κs = record { first = apart-before (omega arith) (omega arith); second = apart-before (omega arith) (omega arith); third = apart-before (omega arith) (omega arith) }
-
-mark-hits-requires : tie.Need-mark-hits-requires
-mark-hits-requires c κs = room-behind (omega arith) (omega arith) (omega arith)
+mark-coupled-requires c κs = record {
+  first = apart-before (omega arith) (omega arith);
+  second = apart-before (omega arith) (omega arith);
+  third = apart-before (omega arith) (omega arith);
+}
 
 second-lengths-requires : tie.Need-second-lengths-requires
 second-lengths-requires c κs = record { first = apart-before (omega arith) (omega arith); second = apart-after (omega arith) (omega arith) }
 
 returns : tie.Need-returns
-returns c = hit-marks-made _ _ _ _ _ _ (c .before .before .before .before .before .before .before .before .before .before .before .before .before .pre .0) (c .before .before .before .before .before .before .before .before .before .before .before .before .before .pre .1) (c .before .before .before .before .before .before .before .before .before .before .mark-coupled .ensures) (c .before .before .before .before .before .before .mark-hits .ensures) (c .before .before .second-lengths .ensures)
+returns c =
+    let lengthed = c .before .before in
+    let opened = lengthed .before .before .before .before in
+    let marked = opened .before .before .before .before in
+    let start = marked .before .before .before in
+    hit-marks-made _ _ _ _ _ _ (start .pre .0) (start .pre .1) (marked .mark-coupled .ensures) (opened .mark-hits .ensures)
+    (lengthed .second-lengths .ensures)
 
 pub find-hit-marks-spec : {M : Type 1} → statement M
 find-hit-marks-spec =
@@ -24,9 +31,7 @@ find-hit-marks-spec =
     (λ c. omega arith)
     (λ c. omega arith)
     mark-coupled-requires
-    (λ c. omega arith)
-    mark-hits-requires
-    (λ c. omega arith)
+    (λ c κs. room-behind (omega arith) (omega arith) (omega arith))
     (λ c. omega arith)
     second-lengths-requires
     (λ c. omega arith)

@@ -5,19 +5,15 @@ use borrow.Author.Needs.{needs}
 use Rattle.grouping_preprocessor.proofs.find_streaks.Statement.{statement}
 use Rattle.grouping_preprocessor.proofs.find_streaks.Tie as tie
 
-group-numbers-requires : tie.Need-group-numbers-requires
-group-numbers-requires c κs = room-behind (omega arith) (omega arith) (omega arith)
-
-group-firsts-of-requires : tie.Need-group-firsts-of-requires
-group-firsts-of-requires c κs = room-behind (omega arith) (omega arith) (omega arith)
-
-group-sizes-requires : tie.Need-group-sizes-requires
-group-sizes-requires c κs = room-behind (omega arith) (omega arith) (omega arith)
-
 returns : tie.Need-returns
 returns c =
-    streaks-made _ _ _ _ _ _ _ (c .before .before .before .before .before .before .before .before .before .before .before .before .before .before .before .before .before .before .pre) (c .before .before .before .before .before .before .before .before .before .before .before .before .before .before .mark-streaks .ensures) (c .before .before .before .before .before .before .before .before .before .before .group-numbers .ensures) (c .before .before .before .before .before .before .group-firsts-of .ensures)
-    (c .before .before .group-sizes .ensures)
+    let sized = c .before .before in
+    let typed = sized .before .before .before .before in
+    let numbered = typed .before .before .before .before in
+    let marked = numbered .before .before .before .before in
+    let start = marked .before .before .before .before in
+    streaks-made _ _ _ _ _ _ _ (start .pre) (marked .mark-streaks .ensures) (numbered .group-numbers .ensures)
+    (typed .group-firsts-of .ensures) (sized .group-sizes .ensures)
 
 pub find-streaks-spec : {M : Type 1} → statement M
 find-streaks-spec =
@@ -25,12 +21,9 @@ find-streaks-spec =
     (tie.spec
     (λ c. omega arith)
     (λ c κs. search needs)
+    (λ c κs. room-behind (omega arith) (omega arith) (omega arith))
     (λ c. omega arith)
-    group-numbers-requires
-    (λ c. omega arith)
-    (λ c. omega arith)
-    group-firsts-of-requires
-    (λ c. omega arith)
-    group-sizes-requires
+    (λ c κs. room-behind (omega arith) (omega arith) (omega arith))
+    (λ c κs. room-behind (omega arith) (omega arith) (omega arith))
     (λ c. omega arith)
     returns)

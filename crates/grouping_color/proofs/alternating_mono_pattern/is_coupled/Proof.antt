@@ -9,10 +9,14 @@ returns : tie.Need-returns
 returns c = coupled-end _ _ _ _ _ _ (c .before .pre .0) (omega arith)
 
 returns-2 : tie.Need-returns-2
-returns-2 c = coupled-inside _ _ _ _ _ _ (c .before .before .before .before .before .before .before .before .pre .0) (omega arith) true (c .if2 .taken)
+returns-2 c =
+    let left = c .before .before .before .before .before .before in
+    coupled-inside _ _ _ _ _ _ (left .before .before .pre .0) (omega arith) true (c .if2 .taken)
 
 returns-3 : tie.Need-returns-3
-returns-3 c = coupled-inside _ _ _ _ _ _ (c .before .before .before .before .before .before .before .before .pre .0) (omega arith) false (c .if2 .left)
+returns-3 c =
+    let left = c .before .before .before .before .before .before in
+    coupled-inside _ _ _ _ _ _ (left .before .before .pre .0) (omega arith) false (c .if2 .left)
 
 pub is-coupled-spec : {M : Type 1} → statement M
 is-coupled-spec =

@@ -1,8 +1,7 @@
--- `alternating_mono_pattern::mark_coupled` meets its contract. The invariant: i flags are stored from place `to` on, by what stood in the regions that are read.
+-- The invariant: i flags are stored from place `to` on, by what stood in the regions that are read.
 use Prim.Native.Nat.{_-_}
-use Rattle.grouping_marks.specs.Over.{part}
 use Rattle.grouping_marks.proofs.FillLaws.{Fill, fill-end}
-use Rattle.grouping_color.specs.AlternatingMonoPattern.{coupled}
+use Rattle.grouping_color.specs.Passes.{coupledIn}
 use Rattle.grouping_color.proofs.PatternLaws.{coupled-start, coupled-turn}
 use native.Mathlib.Omega.{arith}
 use borrow.Author.Needs.{needs}
@@ -10,7 +9,7 @@ use Rattle.grouping_color.proofs.alternating_mono_pattern.mark_coupled.
 use Rattle.grouping_color.proofs.alternating_mono_pattern.mark_coupled.Tie as tie
 
 abbrev Inv-loop : tie.InvT-loop
-Inv-loop w₀ lengths counts types m to i₀ w i = Fill (coupled (part lengths m w₀) (part counts m w₀) (part types m w₀)) m to w₀ w i
+Inv-loop w₀ lengths counts types m to i₀ w i = Fill (coupledIn lengths counts types m w₀) m to w₀ w i
 
 abbrev μ-loop : tie.MeasureT-loop
 μ-loop w₀ lengths counts types m to i₀ w i = m - i

@@ -1,4 +1,4 @@
--- `alternating_mono_pattern::mark_patterns` meets its contract. The invariant: i marks are stored from place `to` on, by what stood in the regions that are read.
+-- The invariant: i marks are stored from place `to` on, by what stood in the regions that are read.
 use Prim.Native.Nat.{_-_}
 use Rattle.grouping_marks.specs.Over.{part}
 use Rattle.grouping_marks.proofs.FillLaws.{Fill, fill-end}

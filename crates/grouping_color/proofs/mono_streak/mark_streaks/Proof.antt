@@ -1,4 +1,4 @@
--- `mono_streak::mark_streaks` meets its contract. The invariant: the walk over the kinds, whose state is how many notes were passed and the kind of the last, has stored its marks so far.
+-- The invariant: the walk over the kinds, whose state is how many notes were passed and the kind of the last, has stored its marks so far.
 use mathlib.Core.Path.{refl}
 use Prim.Native.Nat.{_+_, _-_, _<_}
 use lib.ListN.{length}
@@ -11,7 +11,8 @@ use Rattle.grouping_color.proofs.mono_streak.mark_streaks.Statement.{st
 use Rattle.grouping_color.proofs.mono_streak.mark_streaks.Tie as tie
 
 abbrev Inv-loop : tie.InvT-loop
-Inv-loop kind w₀ to at₀ next₀ last₀ w at next last = Walk seenNext opensSeen seen₀ kind (length kind) to w₀ w (record { notes = next .0; last = last }) (at .0) × (next .0 < at .0 + 1)
+Inv-loop kind w₀ to at₀ next₀ last₀ w at next last =
+    Walk seenNext opensSeen seen₀ kind (length kind) to w₀ w (record { notes = next .0; last = last }) (at .0) × (next .0 < at .0 + 1)
 
 abbrev μ-loop : tie.MeasureT-loop
 μ-loop kind w₀ to at₀ next₀ last₀ w at next last = length kind - at .0
@@ -21,10 +22,11 @@ loop-holds c = (start seenNext opensSeen seen₀ _ _ _ _ refl (c .before .before
 
 loop-again : tie.Need-loop-again Inv-loop μ-loop
 loop-again c =
-    let l = c .before .before .before .before .before .before .before .loop .inv in (
-      turn 0 (l .0) (omega arith) (seen-opens _ _ _ _ _ (c .before .before .before .note-index .ensures) (c .before .before .opens-streak .ensures)) (seen-moves _ _ _ _ _ (c .before .note-after .ensures) (c .last-after .ensures)),
-      seen-few _ _ _ _ (c .before .note-after .ensures) (l .1),
-    )
+    let indexed = c .before .before .before in
+    let l = indexed .before .before .before .before .loop .inv in
+    let opens = seen-opens _ _ _ _ _ (indexed .note-index .ensures) (c .before .before .opens-streak .ensures) in
+    let moves = seen-moves _ _ _ _ _ (c .before .note-after .ensures) (c .last-after .ensures) in
+    (turn 0 (l .0) (omega arith) opens moves, seen-few _ _ _ _ (c .before .note-after .ensures) (l .1))
 
 same-length : tie.Need-same-length Inv-loop μ-loop
 same-length c = c .before .before .loop .inv .0 .fill .long
