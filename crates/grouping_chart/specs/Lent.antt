@@ -21,9 +21,12 @@ unfoldable pub answered : {Answer Memory : Type 0} → Verdict → Outcome Answe
 answered Accepted done refuse m = done
 answered (Refused number place) done refuse m = outcome (refuse number place) m
 
--- a slice of a call, at entry and at exit
+-- a slice of a call, and the same at entry and at exit
+abbrev pub Held : Type 0 → Type 0
+Held A = RefT (List A)
+
 abbrev pub Slice : Type 0 → Type 0
-Slice A = Both (RefT (List A)) (RefT (List A))
+Slice A = Both (Held A) (Held A)
 
 -- what it holds as lent, and as left
 abbrev pub lent : {A : Type 0} → Slice A → List A

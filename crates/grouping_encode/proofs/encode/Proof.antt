@@ -7,7 +7,7 @@ use Rattle.grouping_chart.specs.declared.chart.Verdict.the-variants.{Accepted}
 use Rattle.grouping_chart.proofs.BaseLaws.{is-permitted}
 use Rattle.grouping_chart.proofs.LentLaws.{judged-is, answered-refused}
 use Rattle.grouping_encode.specs.declared.Encoding.the-variants as answer
-use Rattle.grouping_encode.specs.Encode.{Memory, places, judged, encodeOutcome}
+use Rattle.grouping_encode.specs.Encode.{Memory, held, places, judged, encodeOutcome}
 use Rattle.grouping_encode.proofs.EncodeLaws.{done-outcome, has-room, answer-room, filled-is}
 use borrow.Author.Needs.{needs}
 use Rattle.grouping_encode.proofs.encode.Statement.{statement}
@@ -18,16 +18,9 @@ abbrev chartOf : tie.Start → Chart
 chartOf c = record { kinds = c .args .kind .now; starts = c .args .start .now; deltas = c .args .delta .now; ratios = c .args .ratio .now }
 
 abbrev memoryOf : tie.Start → Memory
-memoryOf c = record {
-  streak = c .args .streak .now;
-  streakPlace = c .args .inner .now;
-  pattern = c .args .pattern .now;
-  patternPlace = c .args .outer .now;
-  hit = c .args .hit .now;
-  interval = c .args .interval .now;
-  work = c .args .work .now;
-  scratch = c .args .scratch .now;
-}
+memoryOf c =
+    let a = c .args in
+    held (a .streak) (a .inner) (a .pattern) (a .outer) (a .hit) (a .interval) (a .work) (a .scratch)
 
 -- ---- once the call is known to be accepted
 abbrev start : tie.After-enum-told → tie.Start
