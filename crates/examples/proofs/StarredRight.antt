@@ -11,7 +11,7 @@ use Rattle.grouping_marks.specs.Over.{over}
 use Rattle.grouping_marks.specs.Scan.{scan, after, tabulate, gathered}
 use Rattle.grouping_marks.specs.Marks.{opened, groupCount, groupNumbers, placeAt, groupPlaces, sizesFrom, groupSizes, firstsFrom, groupFirsts}
 use Rattle.grouping_chart.specs.Object.{isNote, notes, noteIdx, noteBefore, previousNote}
-use Rattle.grouping_chart.specs.Chart.{even}
+use Rattle.grouping_chart.specs.Chart.{equallyLong}
 use Rattle.grouping_chart.specs.Room.{anyShort, shortRefusal}
 use Rattle.grouping_chart.specs.Lent.{answered}
 use Rattle.grouping_chart.specs.Refusal.{within, timeGood, ratioGood, objectRefusal, firstRefused, verdict}
@@ -32,5 +32,5 @@ use Rattle.examples.specs.Question.{whole, bitsOf, chart, encodeMemory, 
 use Rattle.examples.specs.Starred.{Example, encoding, starred}
 
 pub starred-right : map (λ (e : Example). answer (e .question)) starred ≡ map (λ (e : Example). e .outcome) starred
-unfolding starred encoding answer whole bitsOf chart encodeMemory colourMemory encodeAnswer colourAnswer encodeShown colourShown millis answered encode.encodeOutcome encode.filled calls.colourOutcome anyShort shortRefusal calls.filled verdict even firstRefused objectRefusal timeGood ratioGood within colourValues colourAt lookedAt isFirst over tabulate scan after gathered opened groupCount groupNumbers placeAt groupPlaces sizesFrom groupSizes firstsFrom groupFirsts isNote notes noteIdx noteBefore previousNote continues opensStreak streakMarks streakOf streakLengths streakTypes opensPattern patternMarks coupledAt coupled stageAfter opensHit hitMarks secondAt secondLengths matches nearestMatch intervalAt intervals patternsOpen firstLengths streakCounts patternTypes coupledPatterns hitsOpen hitCount hitSizes hitFirsts hitSeconds hitIntervals streakPlaceOf patternOf patternPlaceOf hitOf intervalOf intervalMarks marksAfter rises normalized normalOf middleOf middle holds sets setsAfter distinct unrepeated alike ordered insert totalOrder walkPenalty somePair similarTo similar present eightTenths objectSum hitValue altValue monoValue addIf ratio.ratioPenalty ratio.lowered logisticAt tableBits roundTiesEven isNear absOf round add sub mul div le lt eq ofInt ofBits toBits
+unfolding starred encoding answer whole bitsOf chart encodeMemory colourMemory encodeAnswer colourAnswer encodeShown colourShown millis answered encode.encodeOutcome encode.filled calls.colourOutcome anyShort shortRefusal calls.filled verdict equallyLong firstRefused objectRefusal timeGood ratioGood within colourValues colourAt lookedAt isFirst over tabulate scan after gathered opened groupCount groupNumbers placeAt groupPlaces sizesFrom groupSizes firstsFrom groupFirsts isNote notes noteIdx noteBefore previousNote continues opensStreak streakMarks streakOf streakLengths streakTypes opensPattern patternMarks coupledAt coupled stageAfter opensHit hitMarks secondAt secondLengths matches nearestMatch intervalAt intervals patternsOpen firstLengths streakCounts patternTypes coupledPatterns hitsOpen hitCount hitSizes hitFirsts hitSeconds hitIntervals streakPlaceOf patternOf patternPlaceOf hitOf intervalOf intervalMarks marksAfter rises normalized normalOf middleOf middle holds sets setsAfter distinct unrepeated alike ordered insert totalOrder walkPenalty somePair similarTo similar present eightTenths objectSum hitValue altValue monoValue addIf ratio.ratioPenalty ratio.lowered logisticAt tableBits roundTiesEven isNear absOf round add sub mul div le lt eq ofInt ofBits toBits
 starred-right = refl
