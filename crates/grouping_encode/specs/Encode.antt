@@ -1,4 +1,5 @@
--- Document 01, "Calls and what they fill", encode: what it answers, and what every lent slice holds afterwards.
+-- The call encode, of document 01's "Calls and what they fill": what it answers, and what every lent slice holds
+-- afterwards.
 use Prim.Native.Nat.{ℕ, _*_}
 use mathlib.Core.List.{List, [], _∷_}
 use lib.ListN.{length, replicate}
@@ -56,12 +57,15 @@ held = memory (λ A. now)
 
 -- how many places the answer slices have
 abbrev pub places : Memory → List ℕ
-places m = length (m .streak) ∷ length (m .streakPlace) ∷ length (m .pattern) ∷ length (m .patternPlace) ∷ length (m .hit) ∷ length (m .interval) ∷ []
+places m =
+    length (m .streak) ∷ length (m .streakPlace) ∷ length (m .pattern) ∷ length (m .patternPlace) ∷ length (m .hit)
+    ∷ length (m .interval) ∷ []
 
 abbrev pub judged : Chart → Memory → Verdict
 judged c m = verdict c (beside (size c) (places m) (length (m .work)) (length (m .scratch)))
 
--- the memory after an accepted call: the answers in the first n places, the first 8 n and n places of the work slices 0 and +0.0, old contents elsewhere
+-- the memory after an accepted call: the answers in the first n places, 0 and +0.0 in the first 8 n and n places of the
+-- work slices, old contents elsewhere
 unfoldable pub filled : Settings → List ℕ → Memory → Memory
 filled s kinds m = record {
   streak = over (streakOf kinds) (m .streak);
@@ -75,4 +79,5 @@ filled s kinds m = record {
 }
 
 unfoldable pub encodeOutcome : Settings → Chart → Memory → Outcome Encoding Memory
-encodeOutcome s c m = answered (judged c m) (outcome (Done (hitCount (c .kinds))) (filled s (c .kinds) m)) answer.Refused m
+encodeOutcome s c m =
+    answered (judged c m) (outcome (Done (hitCount (c .kinds))) (filled s (c .kinds) m)) answer.Refused m
