@@ -16,16 +16,16 @@ use Rattle.grouping_color.specs.Preprocessor.{hitOf, intervalOf, hitCount}
 use Rattle.grouping_color.proofs.BoundLaws.{length-hitOf, length-intervalOf}
 use Rattle.grouping_encode.specs.declared.Encoding.the-variants as answer
 use Rattle.grouping_encode.specs.Encode.{Memory, memory, places, judged, filled, encodeOutcome}
-use Rattle.grouping_encode.specs.Passes.{KindsMemory, kindsMemory, KindsRoom, Encoded}
+use Rattle.grouping_encode.specs.Passes.{kindsMemory, KindsRoom, Encoded}
 
--- the slices that `encode_kinds` is lent, and the call's by them
-abbrev pub withoutScratch : Memory → KindsMemory
+-- the memory that `encode_kinds` is lent of the call's, and the call's by it
+abbrev pub withoutScratch : Memory → Memory
 withoutScratch m =
-    kindsMemory (λ (x : List ℕ). x) (m .streak) (m .streakPlace) (m .pattern) (m .patternPlace) (m .hit) (m .interval) (m .work)
+    kindsMemory (λ (xs : List ℕ). xs) (m .streak) (m .streakPlace) (m .pattern) (m .patternPlace) (m .hit) (m .interval) (m .work)
 
-abbrev pub withScratch : KindsMemory → List Float → Memory
-withScratch k scratch =
-    memory (λ A (x : List A). x) (k .streak) (k .streakPlace) (k .pattern) (k .patternPlace) (k .hit) (k .interval) (k .work) scratch
+abbrev pub withScratch : Memory → List Float → Memory
+withScratch m scratch =
+    memory (λ A (xs : List A). xs) (m .streak) (m .streakPlace) (m .pattern) (m .patternPlace) (m .hit) (m .interval) (m .work) scratch
 
 -- ---- each case leaves its outcome
 
@@ -36,7 +36,7 @@ module _ (s : Settings) (c : Chart) (m : Memory) where
   done-outcome count new h e f = answered-done _ answer.Refused m h (λ t. outcome (answer.Done (e t)) (f t))
 
   -- the memory that the passes leave is the definition's
-  pub filled-is : {count : ℕ} {new : KindsMemory} {scratch : List Float} → Encoded (s .limit) (c .kinds) count (withoutScratch m) new
+  pub filled-is : {count : ℕ} {new : Memory} {scratch : List Float} → Encoded (s .limit) (c .kinds) count (withoutScratch m) new
       → scratch ≡ over (replicate (size c) (ofBits binary64 0)) (m .scratch) → withScratch new scratch ≡ filled s (c .kinds) m
   unfolding filled
   filled-is e f t = record {

@@ -7,20 +7,20 @@ use native.Mathlib.Omega.{arith}
 use lib.ListN.{length, take, getD, replicate, length-replicate}
 use Rattle.grouping_marks.specs.Over.{over, part}
 use Rattle.grouping_marks.specs.Scan.{gathered}
-use Rattle.grouping_marks.specs.Marks.{groupNumbers}
 use Rattle.grouping_marks.proofs.OverLaws.{over-agree}
 use Rattle.grouping_color.specs.Preprocessor.{streakPlaceOf, patternOf, patternPlaceOf, hitOf, intervalOf}
 use Rattle.grouping_color.proofs.BoundLaws.{streakPlaceOf-looked, patternOf-looked, patternPlaceOf-looked, hitOf-looked, intervalOf-looked}
 use Rattle.grouping_color.proofs.BoundLaws.{length-patternOf, streak-below, hit-below, patternOf-below, hit-interval-byte}
 use Rattle.grouping_preprocessor.specs.Passes.{Tables}
 use Rattle.grouping_preprocessor.specs.declared.Counts.{Counts}
-use Rattle.grouping_encode.specs.Passes.{Below, PatternsRoom, PatternsSpread, HitsRoom, HitsSpread, KindsMemory, KindsRoom, Encoded}
+use Rattle.grouping_encode.specs.Encode.{Memory}
+use Rattle.grouping_encode.specs.Passes.{Below, PatternsRoom, PatternsSpread, HitsRoom, HitsSpread, kindsMemory, KindsRoom, Encoded}
 use Rattle.grouping_encode.proofs.SpreadLaws.{written-front}
 
 below-of : {m c d : ℕ} {xs ys : List ℕ} → xs ≡ ys → c ≡ d → ((i : ℕ) → i < m → getD ys i 0 < d) → Below m xs c
 below-of e f b = record { below = λ i h. rw (e, f) (b i h) }
 
-module _ {limit : ℕ} {kinds w : List ℕ} {k : Counts} {old : KindsMemory} (t : Tables limit kinds (old .work) w k) (r : KindsRoom (length kinds) limit old)
+module _ {limit : ℕ} {kinds w : List ℕ} {k : Counts} {old : Memory} (t : Tables limit kinds (old .work) w k) (r : KindsRoom (length kinds) limit old)
   where
     abbrev n : ℕ
     n = length kinds
@@ -81,15 +81,7 @@ module _ {limit : ℕ} {kinds w : List ℕ} {k : Counts} {old : KindsMemory} (t 
       module _ {patternPlace hit interval work : List ℕ}
           (h : HitsSpread n k w pattern (old .patternPlace) patternPlace (old .hit) hit (old .interval) interval)
           (z : work ≡ over (replicate (8 * n) 0) w) where
-        pub encoded : Encoded limit kinds (k .hits) old (record {
-          streak = streak;
-          streakPlace = place;
-          pattern = pattern;
-          patternPlace = patternPlace;
-          hit = hit;
-          interval = interval;
-          work = work;
-        })
+        pub encoded : Encoded limit kinds (k .hits) old (kindsMemory (λ (xs : List ℕ). xs) streak place pattern patternPlace hit interval work)
         encoded = record {
           counted = t .count-h;
           streaks = rw (t .streak) at (p .streaks);

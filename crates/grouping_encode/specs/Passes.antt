@@ -1,13 +1,14 @@
 -- What the passes of encode ask and leave: the encoder's tables, looked up object by object.
 use mathlib.Core.Path.{_≡_}
 use Prim.Native.Nat.{ℕ, _*_, _≤_, _<_}
-use mathlib.Core.List.{List}
+use mathlib.Core.List.{List, []}
 use lib.ListN.{length, take, getD, replicate}
 use Rattle.grouping_marks.specs.Over.{over, part}
 use Rattle.grouping_marks.specs.Scan.{gathered}
 use Rattle.grouping_color.specs.MonoStreak.{streakOf}
 use Rattle.grouping_color.specs.Preprocessor.{streakPlaceOf, patternOf, patternPlaceOf, hitOf, intervalOf, hitCount}
 use Rattle.grouping_preprocessor.specs.declared.Counts.{Counts}
+use Rattle.grouping_encode.specs.Encode.{Memory, memory}
 
 -- every one of the first n numbers is below k
 pub record Below (n : ℕ) (numbers : List ℕ) (k : ℕ) : Type 0 where
@@ -51,29 +52,14 @@ pub record HitsSpread (n : ℕ) (k : Counts) (work pattern place₀ place hit₀
         ≡ over (gathered (part (7 * n) (k .hits) work)
         (gathered (part n (k .patterns) work) (take n pattern))) interval₀
 
--- the slices that `encode_kinds` writes, which are the call's without the scratch slice, by how one of them is read
-pub record KindsMemory : Type 0 where
-  pub streak : List ℕ
-  pub streakPlace : List ℕ
-  pub pattern : List ℕ
-  pub patternPlace : List ℕ
-  pub hit : List ℕ
-  pub interval : List ℕ
-  pub work : List ℕ
-
-abbrev pub kindsMemory : {S : Type 0} → (S → List ℕ) → S → S → S → S → S → S → S → KindsMemory
-kindsMemory read streak streakPlace pattern patternPlace hit interval work = record {
-  streak = read streak;
-  streakPlace = read streakPlace;
-  pattern = read pattern;
-  patternPlace = read patternPlace;
-  hit = read hit;
-  interval = read interval;
-  work = read work;
-}
+-- the memory of `encode_kinds`, which is lent no scratch slice, by how one of its slices is read
+abbrev pub kindsMemory : {S : Type 0} → (S → List ℕ) → S → S → S → S → S → S → S → Memory
+kindsMemory read streak streakPlace pattern patternPlace hit interval work =
+    memory (λ A (xs : List A). xs) (read streak) (read streakPlace) (read pattern) (read patternPlace) (read hit)
+    (read interval) (read work) []
 
 -- room for n objects in each answer slice and in the work slice, and a search limit whose intervals are bytes
-pub record KindsRoom (n limit : ℕ) (m : KindsMemory) : Type 0 where
+pub record KindsRoom (n limit : ℕ) (m : Memory) : Type 0 where
   pub few : n ≤ 16384
   pub streak : n ≤ length (m .streak)
   pub streakPlace : n ≤ length (m .streakPlace)
@@ -86,7 +72,7 @@ pub record KindsRoom (n limit : ℕ) (m : KindsMemory) : Type 0 where
   pub bytes : limit ≤ 254
 
 -- what encode does with an accepted chart, under a search limit
-pub record Encoded (limit : ℕ) (kinds : List ℕ) (count : ℕ) (old new : KindsMemory) : Type 0 where
+pub record Encoded (limit : ℕ) (kinds : List ℕ) (count : ℕ) (old new : Memory) : Type 0 where
   pub counted : count ≡ hitCount kinds
   pub streaks : new .streak ≡ over (streakOf kinds) (old .streak)
   pub streak-places : new .streakPlace ≡ over (streakPlaceOf kinds) (old .streakPlace)

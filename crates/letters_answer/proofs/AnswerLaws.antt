@@ -10,7 +10,8 @@ use Rattle.grouping_color.specs.MonoStreak.{streakOf}
 use Rattle.grouping_color.specs.Preprocessor.{patternOf, hitOf, intervalOf}
 use Rattle.grouping_color.proofs.BoundLaws.{length-streakOf, length-patternOf, length-hitOf, length-intervalOf}
 use Rattle.grouping_chart.specs.Settings.{baseSettings}
-use Rattle.grouping_encode.specs.Passes.{KindsMemory, Encoded}
+use Rattle.grouping_encode.specs.Encode.{Memory}
+use Rattle.grouping_encode.specs.Passes.{Encoded}
 use Rattle.letters_text.specs.declared.Reading.{Reading}
 use Rattle.letters_text.specs.declared.Reading.the-variants.{Long, Bad, Letters}
 use Rattle.letters_text.specs.Letters.{trimmed, kindsOf}
@@ -47,7 +48,7 @@ lent kinds streak pattern hit interval = record {
   intervals = take (length kinds) interval;
 }
 
-module _ {kinds : List ℕ} {count : ℕ} {old new : KindsMemory} (x : Encoded (baseSettings .limit) kinds count old new) where
+module _ {kinds : List ℕ} {count : ℕ} {old new : Memory} (x : Encoded (baseSettings .limit) kinds count old new) where
   lent-columns : columns kinds ≡ lent kinds (new .streak) (new .pattern) (new .hit) (new .interval)
   unfolding columns
   lent-columns =
