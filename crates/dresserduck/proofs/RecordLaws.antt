@@ -8,13 +8,25 @@ use Rattle.evaluator_record.specs.declared.Recording.the-variants.{Done}
 use Rattle.dresserduck.specs.Host.{hasOwn, ownBits, recordedOf}
 use Rattle.dresserduck.specs.declared.Recorded.{Recorded}
 
+-- with these bits of its floats
+abbrev pub recordWith : GroupRecord → ℕ → ℕ → ℕ → ℕ → ℕ → ℕ → Recorded
+recordWith r has own ratio interval penalty pattern = record {
+  refusal = 0;
+  place = 0;
+  firstnote = r .first .0;
+  notecount = r .notes;
+  hasown = has;
+  ownbits = own;
+  ratiobits = ratio;
+  intervalbits = interval;
+  penaltybits = penalty;
+  patterngroup = r .pattern;
+  patternratiobits = pattern;
+}
+
 module _ (r : GroupRecord) {has own ratio interval penalty pattern : ℕ} where
-  pub done-recorded : {answer : Recording} → answer ≡ Done r → has ≡ hasOwn (r .own) → own ≡ ownBits (r .own) → ratio ≡ toBits binary64 (r .ratio)
-      → interval ≡ toBits binary64 (r .interval) → penalty ≡ toBits binary64 (r .penalty) → pattern ≡ toBits binary64 (r .patternratio)
-      → _≡_ {A = Recorded}
-      (record { refusal = 0; place = 0; firstnote = r .first .0; notecount = r .notes; hasown = has; ownbits = own; ratiobits = ratio; intervalbits = interval; penaltybits = penalty; patterngroup = r .pattern; patternratiobits = pattern })
-      (recordedOf answer)
+  pub done-recorded : {answer : Recording} → answer ≡ Done r → has ≡ hasOwn (r .own) → own ≡ ownBits (r .own)
+      → ratio ≡ toBits binary64 (r .ratio) → interval ≡ toBits binary64 (r .interval) → penalty ≡ toBits binary64 (r .penalty)
+      → pattern ≡ toBits binary64 (r .patternratio) → recordWith r has own ratio interval penalty pattern ≡ recordedOf answer
   unfolding recordedOf
-  done-recorded e h o a i p q =
-      (λ t. record { refusal = 0; place = 0; firstnote = r .first .0; notecount = r .notes; hasown = h t; ownbits = o t; ratiobits = a t; intervalbits = i t; penaltybits = p t; patterngroup = r .pattern; patternratiobits = q t })
-      ∙ ap recordedOf (sym e)
+  done-recorded e h o a i p q = (λ t. recordWith r (h t) (o t) (a t) (i t) (p t) (q t)) ∙ ap recordedOf (sym e)

@@ -1,4 +1,5 @@
--- What a host gets for each answer: document 01's numbers in a record of plain numbers. `refusal` is 0 on acceptance; on refusal every other field but `place` is 0.
+-- What a host gets for each answer: a record of plain numbers. `refusal` is 0 on acceptance; on refusal every other
+-- field but `place` is 0.
 use Prim.Native.Nat.{ℕ}
 use lib.IntN.{pos}
 use lib.Ieee.{binary64, ofBits, toBits}
@@ -31,7 +32,8 @@ colouredOf (colouring.Refused number place) = record { refusal = number; place =
 
 unfoldable pub stretchedOf : Stretching → Stretched
 stretchedOf (stretching.Done mean tenths) = record { refusal = 0; place = 0; mean = mean; tenths = tenths }
-stretchedOf (stretching.Refused number place) = record { refusal = number; place = place .0; mean = ofBits binary64 0; tenths = pos 0 }
+stretchedOf (stretching.Refused number place) =
+    record { refusal = number; place = place .0; mean = ofBits binary64 0; tenths = pos 0 }
 
 unfoldable pub groupedOf : Grouping → Grouped
 groupedOf (grouping.Done groups patterns) = record { refusal = 0; place = 0; groups = groups; patterngroups = patterns }
@@ -76,5 +78,6 @@ recordedOf (record-answer.Refused number place) = record {
 }
 
 -- a call's outcome, its answer turned into such a record
-unfoldable pub forHost : {Answer Record Memory : Type 0} → (Answer → Record) → Outcome Answer Memory → Outcome Record Memory
+unfoldable pub forHost : {Answer Record Memory : Type 0} → (Answer → Record) → Outcome Answer Memory
+    → Outcome Record Memory
 forHost f o = outcome (f (o .answer)) (o .memory)

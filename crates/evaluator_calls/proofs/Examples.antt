@@ -15,7 +15,7 @@ use Rattle.grouping_marks.specs.Over.{over, part}
 use Rattle.grouping_marks.specs.Scan.{scan, after, tabulate, gathered}
 use Rattle.grouping_marks.specs.Marks.{opened, groupCount, groupNumbers, placeByMark, groupPlaces, sizesFrom, groupSizes, firstsFrom, groupFirsts}
 use Rattle.grouping_chart.specs.Object.{isNote, notes, noteIdx, noteBefore, previousNote}
-use Rattle.grouping_chart.specs.Chart.{Chart, even}
+use Rattle.grouping_chart.specs.Chart.{Chart, equallyLong}
 use Rattle.grouping_chart.specs.Lent.{Outcome, answered}
 use Rattle.grouping_chart.specs.Room.{anyShort, shortRefusal}
 use Rattle.grouping_chart.specs.Settings.{baseSettings}
@@ -98,5 +98,5 @@ stretches =
 -- every one of the two lists comes out as it says
 pub examples-right : (map (λ (e : Example). shown (colourOutcome baseSettings (chart (e .kinds)) (lent (length (e .kinds))))) examples ≡ map (λ (e : Example). e .outcome) examples)
     × (map (λ (e : StretchExample). shown (stretchOutcome baseSettings (chart (e .kinds)) (e .a) (e .b) (lent (length (e .kinds))))) stretches ≡ map (λ (e : StretchExample). e .outcome) stretches)
-unfolding examples stretches chart lent shown answered colourOutcome stretchOutcome stretchVerdict stretchRefusal meanTenths tenthsOf meanOf averageOf stretchValues sumFrom part ofInt anyShort shortRefusal verdict even firstRefused objectRefusal timeGood ratioGood within filled colourValues colourAt standingAt isFirst over tabulate scan after gathered opened groupCount groupNumbers placeByMark groupPlaces sizesFrom groupSizes firstsFrom groupFirsts isNote notes noteIdx noteBefore previousNote continues opensStreak streakMarks streakOf streakLengths streakTypes opensPattern patternMarks coupledAt coupled coupledRun hitSize hitMarksAfter hitMarks secondAt secondLengths matches nearestMatch intervalAt intervals patternsOpen firstLengths streakCounts patternTypes coupledPatterns hitsOpen hitCount hitSizes hitFirsts hitSeconds hitIntervals streakPlaceOf alternatingOf patternPlaceOf hitOf intervalOf objectSum hitValue altValue monoValue addIf ratioPenalty lowered eightTenths logisticAt tableBits isNear round add sub mul div le ofBits toBits
+unfolding examples stretches chart lent shown answered colourOutcome stretchOutcome stretchVerdict stretchRefusal meanTenths tenthsOf meanOf averageOf stretchValues sumFrom part ofInt anyShort shortRefusal verdict equallyLong firstRefused objectRefusal timeGood ratioGood within filled colourValues colourAt standingAt isFirst over tabulate scan after gathered opened groupCount groupNumbers placeByMark groupPlaces sizesFrom groupSizes firstsFrom groupFirsts isNote notes noteIdx noteBefore previousNote continues opensStreak streakMarks streakOf streakLengths streakTypes opensPattern patternMarks coupledAt coupled coupledRun hitSize hitMarksAfter hitMarks secondAt secondLengths matches nearestMatch intervalAt intervals patternsOpen firstLengths streakCounts patternTypes coupledPatterns hitsOpen hitCount hitSizes hitFirsts hitSeconds hitIntervals streakPlaceOf alternatingOf patternPlaceOf hitOf intervalOf objectSum hitValue altValue monoValue addIf ratioPenalty lowered eightTenths logisticAt tableBits isNear round add sub mul div le ofBits toBits
 examples-right = (refl, refl)

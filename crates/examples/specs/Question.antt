@@ -1,4 +1,5 @@
--- What an example asks, and what the definitions that the promises cite answer, as lists of numbers: an f64 as its bits.
+-- What an example asks, and what the definitions that the promises cite answer, as lists of numbers: an f64 as its
+-- bits.
 use Prim.Native.Nat.{ℕ, _+_, _*_}
 use mathlib.Core.List.{List, [], _∷_, map}
 use lib.IntN.{pos}
@@ -14,6 +15,9 @@ use Rattle.grouping_encode.specs.declared.Encoding.{Encoding}
 use Rattle.grouping_encode.specs.declared.Encoding.the-variants as encoding
 use Rattle.grouping_interval.specs.IntervalGrouping.{intervalMarks}
 use Rattle.grouping_normalizer.specs.Normalizer.{normalized}
+use Rattle.grouping_rhythm.specs.Rhythm as rhythm
+use Rattle.grouping_rhythm.specs.declared.Grouping.{Grouping}
+use Rattle.grouping_rhythm.specs.declared.Grouping.the-variants as grouping
 use Rattle.grouping_same_rhythm.specs.declared.own.Own.{Own}
 use Rattle.grouping_same_rhythm.specs.declared.own.Own.the-variants.{Millis}
 use Rattle.evaluator_calls.specs.Calls as calls
@@ -26,6 +30,8 @@ pub data Question : Type 0 where
   encoded : List ℕ → Question
   -- colour of a chart with these kinds
   coloured : List ℕ → Question
+  -- rhythm of a chart with these kinds
+  rhythmed : List ℕ → Question
   -- the rhythm groups of notes with these deltas, whole milliseconds
   grouped : List ℕ → Question
   -- what these deltas normalise to
@@ -44,8 +50,12 @@ bitsOf values = map (toBits binary64) values
 
 -- starts and deltas 0.0, ratios 1.0
 unfoldable pub chart : List ℕ → Chart
-chart kinds =
-    record { kinds = kinds; starts = replicate (length kinds) (whole 0); deltas = replicate (length kinds) (whole 0); ratios = replicate (length kinds) (whole 1) }
+chart kinds = record {
+  kinds = kinds;
+  starts = replicate (length kinds) (whole 0);
+  deltas = replicate (length kinds) (whole 0);
+  ratios = replicate (length kinds) (whole 1);
+}
 
 -- a place more than n objects need in every slice, none of them 0 before the call
 unfoldable pub encodeMemory : ℕ → encode.Memory
@@ -61,7 +71,19 @@ encodeMemory n = record {
 }
 
 unfoldable pub colourMemory : ℕ → calls.Memory
-colourMemory n = record { value = replicate (n + 1) (whole 1); work = replicate (8 * n + 1) 77; scratch = replicate (n + 1) (whole 1) }
+colourMemory n = record {
+  value = replicate (n + 1) (whole 1);
+  work = replicate (8 * n + 1) 77;
+  scratch = replicate (n + 1) (whole 1);
+}
+
+unfoldable pub rhythmMemory : ℕ → rhythm.Memory
+rhythmMemory n = record {
+  group = replicate (n + 1) 77;
+  pattern = replicate (n + 1) 77;
+  work = replicate (8 * n + 1) 77;
+  scratch = replicate (n + 1) (whole 1);
+}
 
 -- 0 and the number of hit patterns, or the refusal and its place
 unfoldable pub encodeAnswer : Encoding → List ℕ
@@ -72,13 +94,24 @@ unfoldable pub colourAnswer : Colouring → List ℕ
 colourAnswer colouring.Done = 0 ∷ []
 colourAnswer (colouring.Refused number place) = number ∷ place .0 ∷ []
 
+-- 0 and the numbers of groups and of pattern groups, or the refusal and its place
+unfoldable pub rhythmAnswer : Grouping → List ℕ
+rhythmAnswer (grouping.Done groups patterns) = 0 ∷ groups ∷ patterns ∷ []
+rhythmAnswer (grouping.Refused number place) = number ∷ place .0 ∷ []
+
 unfoldable pub encodeShown : Outcome Encoding encode.Memory → List (List ℕ)
 encodeShown o =
-    encodeAnswer (o .answer) ∷ o .memory .streak ∷ o .memory .streakPlace ∷ o .memory .pattern ∷ o .memory .patternPlace ∷ o .memory .hit ∷ o .memory .interval
-    ∷ o .memory .work ∷ bitsOf (o .memory .scratch) ∷ []
+    encodeAnswer (o .answer) ∷ o .memory .streak ∷ o .memory .streakPlace ∷ o .memory .pattern ∷ o .memory .patternPlace
+    ∷ o .memory .hit ∷ o .memory .interval ∷ o .memory .work ∷ bitsOf (o .memory .scratch) ∷ []
 
 unfoldable pub colourShown : Outcome Colouring calls.Memory → List (List ℕ)
-colourShown o = colourAnswer (o .answer) ∷ bitsOf (o .memory .value) ∷ o .memory .work ∷ bitsOf (o .memory .scratch) ∷ []
+colourShown o =
+    colourAnswer (o .answer) ∷ bitsOf (o .memory .value) ∷ o .memory .work ∷ bitsOf (o .memory .scratch) ∷ []
+
+unfoldable pub rhythmShown : Outcome Grouping rhythm.Memory → List (List ℕ)
+rhythmShown o =
+    rhythmAnswer (o .answer) ∷ o .memory .group ∷ o .memory .pattern ∷ o .memory .work
+    ∷ bitsOf (o .memory .scratch) ∷ []
 
 unfoldable pub millis : ℕ → Own
 millis n = Millis (whole n)
@@ -86,6 +119,8 @@ millis n = Millis (whole n)
 unfoldable pub answer : Question → List (List ℕ)
 answer (encoded kinds) = encodeShown (encode.encodeOutcome baseSettings (chart kinds) (encodeMemory (length kinds)))
 answer (coloured kinds) = colourShown (calls.colourOutcome baseSettings (chart kinds) (colourMemory (length kinds)))
+answer (rhythmed kinds) =
+    rhythmShown (rhythm.rhythmOutcome baseSettings (chart kinds) (rhythmMemory (length kinds)))
 answer (grouped deltas) = groupNumbers (intervalMarks (baseSettings .margin) (map whole deltas)) ∷ []
 answer (normal deltas) = bitsOf (normalized (baseSettings .margin) (map whole deltas)) ∷ []
 answer (wholes deltas) = bitsOf (map roundTiesEven (normalized (baseSettings .margin) (map whole deltas))) ∷ []

@@ -1,73 +1,98 @@
--- Document 01's starred chart examples, as one list of input and outcome. `StarredRight`, in proofs/, is the theorem over the list.
+-- The chart examples of document 01 that have a star, as one list of input and outcome. `StarredRight`, in proofs/, is
+-- the theorem over the list.
 use Prim.Native.Nat.{ℕ, _*_}
 use mathlib.Core.List.{List, [], _∷_, _++_}
 use lib.ListN.{replicate}
-use Rattle.examples.specs.Question.{Question, encoded, coloured, grouped, normal, wholes, walked}
+use Rattle.examples.specs.Question.{Question, encoded, coloured, rhythmed, grouped, normal, wholes, walked}
 
 pub record Example : Type 0 where
   pub question : Question
   pub outcome : List (List ℕ)
 
+-- 1.0, which a float slice is lent full of
+abbrev pub one : ℕ
+one = 0x3ff0_0000_0000_0000
+
 -- six answers, each with a place to spare, and the work slices cleared as far as n objects need
 unfoldable pub encoding : ℕ → ℕ → List ℕ → List ℕ → List ℕ → List ℕ → List ℕ → List ℕ → List (List ℕ)
 encoding n hits streak streakPlace pattern patternPlace hit interval =
-    (0 ∷ hits ∷ []) ∷ spare streak ∷ spare streakPlace ∷ spare pattern ∷ spare patternPlace ∷ spare hit ∷ spare interval ∷ cleared ∷ (replicate n 0 ++ one) ∷ []
+    (0 ∷ hits ∷ []) ∷ spare streak ∷ spare streakPlace ∷ spare pattern ∷ spare patternPlace ∷ spare hit ∷ spare interval
+    ∷ (replicate (8 * n) 0 ++ (77 ∷ [])) ∷ (replicate n 0 ++ (one ∷ [])) ∷ []
   where
     spare : List ℕ → List ℕ
     spare xs = xs ++ (77 ∷ [])
 
-    cleared : List ℕ
-    cleared = replicate (8 * n) 0 ++ (77 ∷ [])
-
-    one : List ℕ
-    one = 0x3ff0_0000_0000_0000 ∷ []
-
 unfoldable pub starred : List Example
 starred =
-    -- "no objects: accepted, nothing written"
+    -- no objects: accepted, and nothing is written
     record { question = encoded []; outcome = encoding 0 0 [] [] [] [] [] [] }
-    -- "d: one group, 17, value T(0) × (T(0) × 2) × 0.5, plus T(0) × 2, plus 2, rounded in order"
-    ∷ record { question = encoded (0 ∷ []); outcome = encoding 1 1 (0 ∷ []) (0 ∷ []) (0 ∷ []) (0 ∷ []) (0 ∷ []) (17 ∷ []) }
+    ∷ record { question = coloured []; outcome = (0 ∷ []) ∷ (one ∷ []) ∷ (77 ∷ []) ∷ (one ∷ []) ∷ [] }
+    ∷ record {
+      question = rhythmed [];
+      outcome = (0 ∷ 0 ∷ 0 ∷ []) ∷ (77 ∷ []) ∷ (77 ∷ []) ∷ (77 ∷ []) ∷ (one ∷ []) ∷ [];
+    }
+    -- d: one hit pattern, interval 17; the value is T(0) × (T(0) × 2) × 0.5, plus T(0) × 2, plus 2, each rounded
+    ∷ record {
+      question = encoded (0 ∷ []);
+      outcome = encoding 1 1 (0 ∷ []) (0 ∷ []) (0 ∷ []) (0 ∷ []) (0 ∷ []) (17 ∷ []);
+    }
     ∷ record {
       question = coloured (0 ∷ []);
-      outcome = (0 ∷ []) ∷ (0x4013_ee42_c838_4268 ∷ 0x3ff0_0000_0000_0000 ∷ []) ∷ (replicate 8 0 ++ (77 ∷ [])) ∷ (0 ∷ 0x3ff0_0000_0000_0000 ∷ []) ∷ [];
+      outcome = (0 ∷ []) ∷ (0x4013_ee42_c838_4268 ∷ one ∷ []) ∷ (replicate 8 0 ++ (77 ∷ [])) ∷ (0 ∷ one ∷ []) ∷ [];
     }
-    -- "d n d: streaks d | nd"
+    -- d n d: the streaks are d and nd
     ∷ record {
       question = encoded (0 ∷ 2 ∷ 0 ∷ []);
-      outcome = encoding 3 2 (0 ∷ 1 ∷ 1 ∷ []) (0 ∷ 0 ∷ 0 ∷ []) (0 ∷ 1 ∷ 1 ∷ []) (0 ∷ 0 ∷ 0 ∷ []) (0 ∷ 1 ∷ 1 ∷ []) (17 ∷ 17 ∷ 17 ∷ []);
+      outcome = encoding 3 2
+          (0 ∷ 1 ∷ 1 ∷ []) (0 ∷ 0 ∷ 0 ∷ [])
+          (0 ∷ 1 ∷ 1 ∷ []) (0 ∷ 0 ∷ 0 ∷ [])
+          (0 ∷ 1 ∷ 1 ∷ []) (17 ∷ 17 ∷ 17 ∷ []);
     }
-    -- "d d k: two hit patterns, 17, 17"
+    -- d d k: two hit patterns
     ∷ record {
       question = encoded (0 ∷ 0 ∷ 1 ∷ []);
-      outcome = encoding 3 2 (0 ∷ 0 ∷ 1 ∷ []) (0 ∷ 0 ∷ 0 ∷ []) (0 ∷ 0 ∷ 1 ∷ []) (0 ∷ 0 ∷ 0 ∷ []) (0 ∷ 0 ∷ 1 ∷ []) (17 ∷ 17 ∷ 17 ∷ []);
+      outcome = encoding 3 2
+          (0 ∷ 0 ∷ 1 ∷ []) (0 ∷ 0 ∷ 0 ∷ [])
+          (0 ∷ 0 ∷ 1 ∷ []) (0 ∷ 0 ∷ 0 ∷ [])
+          (0 ∷ 0 ∷ 1 ∷ []) (17 ∷ 17 ∷ 17 ∷ []);
     }
-    -- "d k d k: one alternating pattern"
+    -- d k d k: one alternating pattern
     ∷ record {
       question = encoded (0 ∷ 1 ∷ 0 ∷ 1 ∷ []);
-      outcome = encoding 4 1 (0 ∷ 1 ∷ 2 ∷ 3 ∷ []) (0 ∷ 1 ∷ 2 ∷ 3 ∷ []) (0 ∷ 0 ∷ 0 ∷ 0 ∷ []) (0 ∷ 0 ∷ 0 ∷ 0 ∷ []) (0 ∷ 0 ∷ 0 ∷ 0 ∷ []) (17 ∷ 17 ∷ 17 ∷ 17 ∷ []);
+      outcome = encoding 4 1
+          (0 ∷ 1 ∷ 2 ∷ 3 ∷ []) (0 ∷ 1 ∷ 2 ∷ 3 ∷ [])
+          (0 ∷ 0 ∷ 0 ∷ 0 ∷ []) (0 ∷ 0 ∷ 0 ∷ 0 ∷ [])
+          (0 ∷ 0 ∷ 0 ∷ 0 ∷ []) (17 ∷ 17 ∷ 17 ∷ 17 ∷ []);
     }
-    -- "d kk d: one hit pattern of three"
+    -- d kk d: one hit pattern of three
     ∷ record {
       question = encoded (0 ∷ 1 ∷ 1 ∷ 0 ∷ []);
-      outcome = encoding 4 1 (0 ∷ 1 ∷ 1 ∷ 2 ∷ []) (0 ∷ 0 ∷ 0 ∷ 0 ∷ []) (0 ∷ 1 ∷ 1 ∷ 2 ∷ []) (0 ∷ 1 ∷ 1 ∷ 2 ∷ []) (0 ∷ 0 ∷ 0 ∷ 0 ∷ []) (17 ∷ 17 ∷ 17 ∷ 17 ∷ []);
+      outcome = encoding 4 1
+          (0 ∷ 1 ∷ 1 ∷ 2 ∷ []) (0 ∷ 0 ∷ 0 ∷ 0 ∷ [])
+          (0 ∷ 1 ∷ 1 ∷ 2 ∷ []) (0 ∷ 1 ∷ 1 ∷ 2 ∷ [])
+          (0 ∷ 0 ∷ 0 ∷ 0 ∷ []) (17 ∷ 17 ∷ 17 ∷ 17 ∷ []);
     }
-    -- "d kk dd k: 17, 17, 2"
+    -- d kk dd k: the third hit pattern repeats the first
     ∷ record {
       question = encoded (0 ∷ 1 ∷ 1 ∷ 0 ∷ 0 ∷ 1 ∷ []);
-      outcome = encoding 6 3 (0 ∷ 1 ∷ 1 ∷ 2 ∷ 2 ∷ 3 ∷ []) (0 ∷ 0 ∷ 0 ∷ 1 ∷ 1 ∷ 0 ∷ []) (0 ∷ 1 ∷ 1 ∷ 1 ∷ 1 ∷ 2 ∷ []) (0 ∷ 0 ∷ 0 ∷ 0 ∷ 0 ∷ 0 ∷ []) (0 ∷ 1 ∷ 1 ∷ 1 ∷ 1 ∷ 2 ∷ [])
-          (17 ∷ 17 ∷ 17 ∷ 17 ∷ 17 ∷ 2 ∷ []);
+      outcome = encoding 6 3
+          (0 ∷ 1 ∷ 1 ∷ 2 ∷ 2 ∷ 3 ∷ []) (0 ∷ 0 ∷ 0 ∷ 1 ∷ 1 ∷ 0 ∷ [])
+          (0 ∷ 1 ∷ 1 ∷ 1 ∷ 1 ∷ 2 ∷ []) (0 ∷ 0 ∷ 0 ∷ 0 ∷ 0 ∷ 0 ∷ [])
+          (0 ∷ 1 ∷ 1 ∷ 1 ∷ 1 ∷ 2 ∷ []) (17 ∷ 17 ∷ 17 ∷ 17 ∷ 17 ∷ 2 ∷ []);
     }
-    -- "deltas 100 100 100: one group; 100 100 200: two then one; 100 200 100: three"
+    -- one rhythm group, two, and three
     ∷ record { question = grouped (100 ∷ 100 ∷ 100 ∷ []); outcome = (0 ∷ 0 ∷ 0 ∷ []) ∷ [] }
     ∷ record { question = grouped (100 ∷ 100 ∷ 200 ∷ []); outcome = (0 ∷ 0 ∷ 1 ∷ []) ∷ [] }
     ∷ record { question = grouped (100 ∷ 200 ∷ 100 ∷ []); outcome = (0 ∷ 1 ∷ 2 ∷ []) ∷ [] }
-    -- "100, 105 normalise to 102.5, whole 102"
+    -- 102.5 twice, and rounded to whole 102
     ∷ record { question = normal (100 ∷ 105 ∷ []); outcome = (0x4059_a000_0000_0000 ∷ 0x4059_a000_0000_0000 ∷ []) ∷ [] }
     ∷ record { question = wholes (100 ∷ 105 ∷ []); outcome = (0x4059_8000_0000_0000 ∷ 0x4059_8000_0000_0000 ∷ []) ∷ [] }
-    -- "100, 103, 107 to 101.5, 101.5, 107"
-    ∷ record { question = normal (100 ∷ 103 ∷ 107 ∷ []); outcome = (0x4059_6000_0000_0000 ∷ 0x4059_6000_0000_0000 ∷ 0x405a_c000_0000_0000 ∷ []) ∷ [] }
-    -- "the walk over 3 groups alone, own intervals newest first 110, 150, 100: 1.0; 100, 150, 110: 0.8"
-    ∷ record { question = walked (110 ∷ 150 ∷ 100 ∷ []); outcome = (0x3ff0_0000_0000_0000 ∷ []) ∷ [] }
+    -- 101.5, 101.5 and 107
+    ∷ record {
+      question = normal (100 ∷ 103 ∷ 107 ∷ []);
+      outcome = (0x4059_6000_0000_0000 ∷ 0x4059_6000_0000_0000 ∷ 0x405a_c000_0000_0000 ∷ []) ∷ [];
+    }
+    -- own intervals of which no two that are compared are alike, and some of which two are: 1.0 and 0.8
+    ∷ record { question = walked (110 ∷ 150 ∷ 100 ∷ []); outcome = (one ∷ []) ∷ [] }
     ∷ record { question = walked (100 ∷ 150 ∷ 110 ∷ []); outcome = (0x3fe9_9999_9999_999a ∷ []) ∷ [] }
     ∷ []

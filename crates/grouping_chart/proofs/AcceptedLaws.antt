@@ -11,12 +11,12 @@ use lib.Ieee.{Float, nan}
 use Rattle.grouping_chart.specs.declared.object.ObjectIndex.{ObjectIndex}
 use Rattle.grouping_chart.specs.declared.chart.Verdict.{Verdict}
 use Rattle.grouping_chart.specs.declared.chart.Verdict.the-variants.{Accepted, Refused}
-use Rattle.grouping_chart.specs.Chart.{Chart, SameLengths, even}
+use Rattle.grouping_chart.specs.Chart.{Chart, SameLengths, equallyLong}
 use Rattle.numeric.specs.Range.{within, earliest, latest, leastRatio, greatestRatio}
 use Rattle.grouping_chart.specs.Refusal.{timeGood, ratioGood, objectRefusal, firstRefused, verdict}
 use Rattle.grouping_chart.specs.Passes.{kindGood, allGood}
 use Rattle.grouping_chart.proofs.AllLaws.{both-true, all-each}
-use Rattle.grouping_chart.proofs.RefusalLaws.{all-even, verdict-objects}
+use Rattle.grouping_chart.proofs.RefusalLaws.{all-equal, verdict-objects}
 
 -- an object that is not refused
 pub record GoodObject (k : ℕ) (s d r : Float) : Type 0 where
@@ -80,7 +80,8 @@ objects-good j (k ∷ ks) (s ∷ ss) (d ∷ ds) [] same e i z h = absurd (omega 
 objects-good j (k ∷ ks) (s ∷ ss) (d ∷ ds) (r ∷ rs) same e zero z h =
     object-good k s d r (eqb-true _ 0 (test-held (eqb (objectRefusal k s d r) 0) _ _ _ e .0))
 objects-good j (k ∷ ks) (s ∷ ss) (d ∷ ds) (r ∷ rs) same e (suc i) z h =
-    objects-good (j + 1) ks ss ds rs (record { start = omega (arith, same .start); delta = omega (arith, same .delta); ratio = omega (arith, same .ratio) }) (test-held (eqb (objectRefusal k s d r) 0) _ _ _ e .1) i z (omega arith)
+    let later : SameLengths (length ks) ss ds rs = record { start = omega arith; delta = omega arith; ratio = omega arith } in
+    objects-good (j + 1) ks ss ds rs later (test-held (eqb (objectRefusal k s d r) 0) _ _ _ e .1) i z (omega arith)
 
 good-objects : (j : ℕ) (ks : List ℕ) (ss ds rs : List Float)
     → ((i : ℕ) (z : Float) → i < length ks → GoodObject (getD ks i 0) (getD ss i z) (getD ds i z) (getD rs i z))
@@ -96,8 +97,8 @@ good-objects j (k ∷ ks) (s ∷ ss) (d ∷ ds) (r ∷ rs) g =
     rw here later
 
 -- where all lists are good no object is refused
-pub all-good-accepted : (kinds : List ℕ) (starts deltas ratios : List Float) → SameLengths (length kinds) starts deltas ratios → allGood kinds starts deltas ratios ≡ true
-    → Accepted ≡ firstRefused 0 kinds starts deltas ratios
+pub all-good-accepted : (kinds : List ℕ) (starts deltas ratios : List Float) → SameLengths (length kinds) starts deltas ratios
+    → allGood kinds starts deltas ratios ≡ true → Accepted ≡ firstRefused 0 kinds starts deltas ratios
 unfolding allGood timeGood ratioGood
 all-good-accepted kinds starts deltas ratios same e =
     let k = both-true _ _ e in
@@ -117,9 +118,9 @@ all-three true true c e = (refl, (refl, e))
 all-three true false c e = absurd (let z : _≡_ {A = ℕ} 0 1 = cc in omega arith)
 all-three false b c e = absurd (let z : _≡_ {A = ℕ} 0 1 = cc in omega arith)
 
-pub even-lengths : (c : Chart) → even c ≡ true → SameLengths (length (c .kinds)) (c .starts) (c .deltas) (c .ratios)
-unfolding even
-even-lengths c e =
+pub equal-lengths : (c : Chart) → equallyLong c ≡ true → SameLengths (length (c .kinds)) (c .starts) (c .deltas) (c .ratios)
+unfolding equallyLong
+equal-lengths c e =
     let t = all-three _ _ _ e in
     record { start = eqb-true _ _ (t .0); delta = eqb-true _ _ (t .1 .0); ratio = eqb-true _ _ (t .1 .1) }
 
@@ -129,9 +130,9 @@ accepted-good c beside e =
     let few = test-failed _ _ _ _ e in
     let lengths = test-held _ _ _ _ (few .1) in
     let room = test-held _ _ _ _ (lengths .1) in
-    let same = even-lengths c (lengths .0) in
+    let same = equal-lengths c (lengths .0) in
     record { few = ltb-false _ _ (few .0); room = eqb-true _ 0 (room .0); lengths = same; objects = objects-good 0 _ _ _ _ same (room .1) }
 
 pub good-accepted : {c : Chart} {beside : ℕ} → GoodChart c beside → verdict c beside ≡ Accepted
 good-accepted {c} {beside} g =
-    verdict-objects c beside (g .few) (sym (all-even c (g .lengths))) (g .room) ∙ good-objects 0 _ _ _ _ (g .objects)
+    verdict-objects c beside (g .few) (sym (all-equal c (g .lengths))) (g .room) ∙ good-objects 0 _ _ _ _ (g .objects)

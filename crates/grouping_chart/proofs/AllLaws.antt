@@ -1,4 +1,5 @@
--- A loop that tests every element of a list: what it has found so far, together with the test of all that is left, is the test of all. The same for any list and test.
+-- A loop that tests every element of a list: what it has found so far, together with the test of all that is left, is the test of all.
+-- The same for any list and test.
 use mathlib.Core.Path.{_≡_, refl, sym, ap, _∙_}
 use mathlib.Core.Bool.{Bool, true, false, _&&_, true≢false}
 use mathlib.Core.List.{List, [], _∷_}
@@ -37,7 +38,7 @@ module _ {A : Type 0} {test : A → Bool} {xs : List A} {good : Bool} {i : ℕ} 
       let rest : all test (drop i xs) ≡ (test (getD xs i d) && all test (drop (i + 1) xs)) = rw (drop-cons xs i d h, add-one i) in
       record {
         upto = omega arith;
-        left = and-assoc good here (all test (drop (i + 1) xs)) ∙ ap (λ (b : Bool). good && (b && all test (drop (i + 1) xs))) e ∙ ap (λ (b : Bool). good && b) (sym rest) ∙ x .left;
+        left = rw (and-assoc good here (all test (drop (i + 1) xs)), e, ← rest) (x .left);
       }
 
   pub tested-all : Tested test xs good i → length xs ≤ i → good ≡ all test xs

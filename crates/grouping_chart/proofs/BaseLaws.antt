@@ -1,17 +1,24 @@
--- The base's four numbers: 5.0, 16, and the f64 nearest to 1 / 10 and to 1 / 100. Its search limit is permitted.
+-- The base's four numbers: 5.0, 16, and the f64 nearest to 1 / 10 and to 1 / 100. They are permitted.
 use mathlib.Core.Path.{_≡_, refl, sym, subst}
 use mathlib.Core.Bool.{false}
 use native.Mathlib.Omega.{arith}
 use lib.IntN.{pos}
-use lib.Ieee.{fin, binary64, ofBits, round}
+use lib.Ieee.{fin, binary64, ofBits, round, le}
+use Rattle.grouping_chart.specs.Refusal.{within}
 use Rattle.grouping_chart.specs.Settings.{Settings, Permitted, baseSettings}
 
-pub base-is : _≡_ {A = Settings} baseSettings (record { margin = fin false 5 (pos 0); limit = 16; threshold = round binary64 false 1 10; tolerance = round binary64 false 1 100 })
+pub base-is : _≡_ {A = Settings} baseSettings (record {
+  margin = fin false 5 (pos 0);
+  limit = 16;
+  threshold = round binary64 false 1 10;
+  tolerance = round binary64 false 1 100;
+})
 unfolding ofBits round
 base-is = refl
 
 pub base-permitted : Permitted baseSettings
-base-permitted = record { least = omega arith; most = omega arith }
+unfolding within le ofBits
+base-permitted = record { margin = tt; least = omega arith; most = omega arith; threshold = tt; tolerance = tt }
 
 -- as `base` gives it
 pub is-permitted : {s : Settings} → s ≡ baseSettings → Permitted s

@@ -1,11 +1,11 @@
--- Document 01's boundary charts as one list of input and outcome: `verdict` computes to each outcome.
+-- Charts at the boundary of each refusal, as one list of input and outcome: `verdict` computes to each outcome.
 use mathlib.Core.Path.{_≡_, refl}
 use mathlib.Core.List.{List, [], _∷_, map}
 use Prim.Native.Nat.{ℕ}
 use lib.Ieee.{Float, binary64, ofBits, le}
 use Rattle.grouping_chart.specs.declared.chart.Verdict.{Verdict}
 use Rattle.grouping_chart.specs.declared.chart.Verdict.the-variants.{Accepted, Refused}
-use Rattle.grouping_chart.specs.Chart.{Chart, even}
+use Rattle.grouping_chart.specs.Chart.{Chart, equallyLong}
 use Rattle.numeric.specs.Range.{within}
 use Rattle.grouping_chart.specs.Refusal.{timeGood, ratioGood, objectRefusal, firstRefused, refused, verdict}
 
@@ -58,6 +58,10 @@ lists kinds starts deltas ratios outcome = record {
   outcome = outcome;
 }
 
+-- a call that is refused 3 where its chart is looked at
+short : List ℕ → List ℕ → List ℕ → List ℕ → Verdict → Example
+short kinds starts deltas ratios outcome = record { chart = lists kinds starts deltas ratios outcome .chart; beside = 3; outcome = outcome }
+
 -- a call on one object
 object : ℕ → ℕ → ℕ → ℕ → Verdict → Example
 object k s d r outcome = lists (k ∷ []) (s ∷ []) (d ∷ []) (r ∷ []) outcome
@@ -97,10 +101,10 @@ examples =
     ∷ lists (0 ∷ 1 ∷ 2 ∷ []) (0 ∷ 0 ∷ 0 ∷ []) (0 ∷ 0 ∷ 0 ∷ []) (one ∷ one ∷ one ∷ []) Accepted
     ∷ lists (0 ∷ 1 ∷ 3 ∷ []) (0 ∷ 0 ∷ 0 ∷ []) (0 ∷ infinite ∷ 0 ∷ []) (one ∷ one ∷ one ∷ []) (Refused 6 (record { 0 = 1 }))
     ∷ lists (0 ∷ 3 ∷ []) (0 ∷ 0 ∷ []) (0 ∷ 0 ∷ []) (one ∷ []) (refused 2)
-    ∷ record { chart = record { kinds = 3 ∷ []; starts = floats (0 ∷ []); deltas = floats (0 ∷ []); ratios = floats (one ∷ []) }; beside = 3; outcome = refused 3 }
-    ∷ record { chart = record { kinds = 3 ∷ []; starts = []; deltas = []; ratios = [] }; beside = 3; outcome = refused 2 }
+    ∷ short (3 ∷ []) (0 ∷ []) (0 ∷ []) (one ∷ []) (refused 3)
+    ∷ short (3 ∷ []) [] [] [] (refused 2)
     ∷ []
 
 shown : map (λ (e : Example). verdict (e .chart) (e .beside)) examples ≡ map (λ (e : Example). e .outcome) examples
-unfolding examples object lists floats ofBits le within timeGood ratioGood objectRefusal firstRefused even verdict
+unfolding examples object short lists floats ofBits le within timeGood ratioGood objectRefusal firstRefused equallyLong verdict
 shown = refl

@@ -130,7 +130,8 @@ unfolding noteIdx
 noteIdx-seen ks i = rw (seen-count (take i ks))
 
 -- the note before the one that follows the notes of xs
-before-next : (xs ys : List ℕ) (s : Seen) (j : ℕ) → length xs ≡ j → s .notes ≡ j → s .last ≡ lastOr 0 xs → noteBefore (xs ++ ys) j ≡ cond (eqb (s .notes) 0) none (kind (s .last))
+before-next : (xs ys : List ℕ) (s : Seen) (j : ℕ) → length xs ≡ j → s .notes ≡ j → s .last ≡ lastOr 0 xs
+    → noteBefore (xs ++ ys) j ≡ cond (eqb (s .notes) 0) none (kind (s .last))
 unfolding noteBefore
 before-next xs ys s zero e n l = rw n
 before-next xs ys s (suc j) e n l =

@@ -11,7 +11,7 @@ use lib.Seq.{drop-cons}
 use lib.Ieee.{Float}
 use Rattle.grouping_chart.specs.declared.chart.Verdict.{Verdict}
 use Rattle.grouping_chart.specs.declared.chart.Verdict.the-variants.{Accepted, Refused}
-use Rattle.grouping_chart.specs.Chart.{Chart, SameLengths, even}
+use Rattle.grouping_chart.specs.Chart.{Chart, SameLengths, equallyLong}
 use Rattle.grouping_chart.specs.Refusal.{timeGood, ratioGood, objectRefusal, firstRefused, refused, verdict}
 
 -- ---- the number of an object's refusal
@@ -71,21 +71,22 @@ first-none kinds starts deltas ratios i h = rw (drop-of-length-le kinds h)
 -- ---- the chart's lengths
 
 module _ (c : Chart) where
-  pub starts-uneven : (length (c .starts) ≡ length (c .kinds) → ⊥) → false ≡ even c
-  unfolding even
-  starts-uneven a = rw (ne-eqb _ _ a)
+  pub starts-differ : (length (c .starts) ≡ length (c .kinds) → ⊥) → false ≡ equallyLong c
+  unfolding equallyLong
+  starts-differ a = rw (ne-eqb _ _ a)
 
-  pub deltas-uneven : length (c .starts) ≡ length (c .kinds) → (length (c .deltas) ≡ length (c .kinds) → ⊥) → false ≡ even c
-  unfolding even
-  deltas-uneven a b = rw (eq-eqb _ _ a, ne-eqb _ _ b)
+  pub deltas-differ : length (c .starts) ≡ length (c .kinds) → (length (c .deltas) ≡ length (c .kinds) → ⊥) → false ≡ equallyLong c
+  unfolding equallyLong
+  deltas-differ a b = rw (eq-eqb _ _ a, ne-eqb _ _ b)
 
-  pub ratios-uneven : length (c .starts) ≡ length (c .kinds) → length (c .deltas) ≡ length (c .kinds) → (length (c .ratios) ≡ length (c .kinds) → ⊥) → false ≡ even c
-  unfolding even
-  ratios-uneven a b d = rw (eq-eqb _ _ a, eq-eqb _ _ b, ne-eqb _ _ d)
+  pub ratios-differ : length (c .starts) ≡ length (c .kinds) → length (c .deltas) ≡ length (c .kinds)
+      → (length (c .ratios) ≡ length (c .kinds) → ⊥) → false ≡ equallyLong c
+  unfolding equallyLong
+  ratios-differ a b d = rw (eq-eqb _ _ a, eq-eqb _ _ b, ne-eqb _ _ d)
 
-  pub all-even : SameLengths (length (c .kinds)) (c .starts) (c .deltas) (c .ratios) → true ≡ even c
-  unfolding even
-  all-even s = rw (eq-eqb _ _ (s .start), eq-eqb _ _ (s .delta), eq-eqb _ _ (s .ratio))
+  pub all-equal : SameLengths (length (c .kinds)) (c .starts) (c .deltas) (c .ratios) → true ≡ equallyLong c
+  unfolding equallyLong
+  all-equal s = rw (eq-eqb _ _ (s .start), eq-eqb _ _ (s .delta), eq-eqb _ _ (s .ratio))
 
 -- ---- a call's verdict
 
@@ -94,15 +95,15 @@ module _ (c : Chart) (beside : ℕ) where
   unfolding verdict
   verdict-1 h = rw (lt-ltb _ _ h)
 
-  pub verdict-2 : length (c .kinds) ≤ 16384 → even c ≡ false → verdict c beside ≡ refused 2
+  pub verdict-2 : length (c .kinds) ≤ 16384 → equallyLong c ≡ false → verdict c beside ≡ refused 2
   unfolding verdict
   verdict-2 h e = rw (le-ltb _ _ h, e)
 
-  pub verdict-beside : length (c .kinds) ≤ 16384 → even c ≡ true → (beside ≡ 0 → ⊥) → verdict c beside ≡ refused beside
+  pub verdict-beside : length (c .kinds) ≤ 16384 → equallyLong c ≡ true → (beside ≡ 0 → ⊥) → verdict c beside ≡ refused beside
   unfolding verdict
   verdict-beside h e n = rw (le-ltb _ _ h, e, ne-eqb _ _ n)
 
-  pub verdict-objects : length (c .kinds) ≤ 16384 → even c ≡ true → beside ≡ 0
+  pub verdict-objects : length (c .kinds) ≤ 16384 → equallyLong c ≡ true → beside ≡ 0
       → verdict c beside ≡ firstRefused 0 (c .kinds) (c .starts) (c .deltas) (c .ratios)
   unfolding verdict
   verdict-objects h e n = rw (le-ltb _ _ h, e, eq-eqb _ _ n)

@@ -1,5 +1,5 @@
 -- The cases of refusal 3, and what is known where no slice is too short. A call on a chart cites these.
-use mathlib.Core.Path.{_≡_, refl}
+use mathlib.Core.Path.{_≡_, refl, _∙_}
 use mathlib.Core.Bool.{Bool, true, false, cond, _||_, true≢false}
 use mathlib.Core.List.{List, [], _∷_}
 use Prim.Native.Nat.{ℕ, _*_, _/_, _≤_, _<_}
@@ -17,6 +17,10 @@ pub record Roomy (answers : Bool) (n work scratch : ℕ) : Type 0 where
 pub either-false : (a b : Bool) → (a || b) ≡ false → (a ≡ false) × (b ≡ false)
 either-false true b e = absurd (true≢false e)
 either-false false b e = (refl, e)
+
+or-false : (a : Bool) → a ≡ (a || false)
+or-false true = refl
+or-false false = refl
 
 not-refused : (b : Bool) → _≡_ {A = ℕ} (cond b 3 0) 0 → b ≡ false
 not-refused true e = absurd (omega arith)
@@ -46,11 +50,34 @@ module _ (n l : ℕ) (ls : List ℕ) where
 
 pub short-last : (n l : ℕ) → ltb l n ≡ anyShort n (l ∷ [])
 unfolding anyShort
-short-last n l = by (ltb l n)
-  where
-    by : (b : Bool) → b ≡ (b || false)
-    by true = refl
-    by false = refl
+short-last n l = or-false (ltb l n)
+
+-- each of some slices has a place for each of n objects
+abbrev pub AllLong : ℕ → List ℕ → Type 0
+AllLong n [] = Unit {0}
+AllLong n (l ∷ ls) = (n ≤ l) × AllLong n ls
+
+pub all-long : (n : ℕ) (ls : List ℕ) → anyShort n ls ≡ false → AllLong n ls
+all-long n [] e = tt
+all-long n (l ∷ ls) e = let t = long-enough n l ls e in (t .0, all-long n ls (t .1))
+
+-- the tests of some slices joined from the first on, as the code of a call has them
+abbrev pub joined : ℕ → Bool → List ℕ → Bool
+joined n found [] = found
+joined n found (l ∷ ls) = joined n (found || ltb l n) ls
+
+or-assoc : (a b c : Bool) → ((a || b) || c) ≡ (a || (b || c))
+or-assoc true b c = refl
+or-assoc false b c = refl
+
+joined-short : (n : ℕ) (found : Bool) (ls : List ℕ) → joined n found ls ≡ (found || anyShort n ls)
+unfolding anyShort
+joined-short n found [] = or-false found
+joined-short n found (l ∷ ls) = joined-short n (found || ltb l n) ls ∙ or-assoc found (ltb l n) (anyShort n ls)
+
+pub short-joined : (n l : ℕ) (ls : List ℕ) → joined n (ltb l n) ls ≡ anyShort n (l ∷ ls)
+unfolding anyShort
+short-joined n l ls = joined-short n (ltb l n) ls
 
 pub none-asked : (n : ℕ) → false ≡ anyShort n []
 unfolding anyShort

@@ -1,4 +1,5 @@
--- Two walks over a chart's notes that stand alike, whatever they passed: the same note is the previous one of an object, and they stay alike. A note makes any two alike.
+-- Two walks over a chart's notes that stand alike, whatever they passed: the same note is the previous one of an object, and they stay
+-- alike. A note makes any two alike.
 use mathlib.Core.Path.{_≡_, refl, sym, _∙_}
 use mathlib.Core.List.{List, [], _∷_}
 use mathlib.Core.Bool.{Bool, true, false, cond}

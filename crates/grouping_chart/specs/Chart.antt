@@ -1,4 +1,5 @@
--- Document 01: "A chart is four lent slices of one length n: kind (0 Center, 1 Rim, 2 NonHit), start and delta in milliseconds, and ratio (all three f64). n is 0 to 16,384."
+-- A chart: four lists with a place for each of its n objects. Kind 0 is Center, 1 is Rim and 2 is NonHit; start and
+-- delta are milliseconds. Document 01, first paragraph; n is at most 16,384.
 use Prim.Native.Nat.{ℕ}
 use mathlib.Core.Path.{_≡_}
 use mathlib.Core.Bool.{Bool, false, cond}
@@ -20,9 +21,12 @@ size c = length (c .kinds)
 abbrev pub largest : ℕ
 largest = 16384
 
--- the four slices are of one length
-unfoldable pub even : Chart → Bool
-even c = cond (eqb (length (c .starts)) (size c)) (cond (eqb (length (c .deltas)) (size c)) (eqb (length (c .ratios)) (size c)) false) false
+-- whether the four slices are of one length
+unfoldable pub equallyLong : Chart → Bool
+equallyLong c =
+    cond (eqb (length (c .starts)) (size c))
+    (cond (eqb (length (c .deltas)) (size c)) (eqb (length (c .ratios)) (size c)) false)
+    false
 
 -- the three lists of times and ratios are n long
 pub record SameLengths (n : ℕ) (starts deltas ratios : List Float) : Type 0 where

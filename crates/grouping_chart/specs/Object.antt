@@ -1,6 +1,6 @@
--- Document 01, object.rs: "An object's idx and its note_idx are two counters: idx counts all objects, note_idx counts Center and Rim only, both from 0.
--- A NonHit has note_idx 0. `previous_note(o, 0)` is the note numbered note_idx − 1, none at 0."
--- A list of kinds has a number for each object: 0 Center, 1 Rim, 2 NonHit.
+-- An object's two counters, both from 0: its idx counts all objects, its note_idx counts Center and Rim only and is 0
+-- for a NonHit. Its previous note is the one numbered note_idx - 1, and there is none at 0. Document 01, object.rs. A
+-- list of kinds has a number for each object: 0 Center, 1 Rim, 2 NonHit.
 use Prim.Native.Nat.{ℕ, zero, suc}
 use mathlib.Core.Bool.{Bool, cond}
 use mathlib.Core.List.{List, [], _∷_}

@@ -1,12 +1,12 @@
--- Document 01, "Refused by number": refusals 1 to 7, in their order 1, 2, 3, then object by object 4, 5, 6, 7.
--- "A refusal returns its number and a place (object idx for those tested object by object, else 0)."
+-- Refusals 1 to 7 and their order: 1, 2, what is refused beside the chart (Room.antt: 3), then object by object 4, 5,
+-- 6, 7. A refusal has a number and a place, the object's for those tested object by object, else 0.
 use Prim.Native.Nat.{ℕ, _+_}
 use mathlib.Core.Bool.{Bool, cond}
 use mathlib.Core.List.{List, [], _∷_}
 use lib.Dec.{eqb, leb, ltb}
 use lib.Ieee.{Float}
 use Rattle.numeric.specs.Range.{within, earliest, latest, leastRatio, greatestRatio}
-use Rattle.grouping_chart.specs.Chart.{Chart, size, largest, even}
+use Rattle.grouping_chart.specs.Chart.{Chart, size, largest, equallyLong}
 use Rattle.grouping_chart.specs.declared.chart.Verdict.{Verdict}
 use Rattle.grouping_chart.specs.declared.chart.Verdict.the-variants.{Accepted, Refused}
 
@@ -18,7 +18,8 @@ ratioGood x = within leastRatio greatestRatio x
 
 -- the number of an object's refusal, or 0
 unfoldable pub objectRefusal : ℕ → Float → Float → Float → ℕ
-objectRefusal kind start delta ratio = cond (leb kind 2) (cond (timeGood start) (cond (timeGood delta) (cond (ratioGood ratio) 0 7) 6) 5) 4
+objectRefusal kind start delta ratio =
+    cond (leb kind 2) (cond (timeGood start) (cond (timeGood delta) (cond (ratioGood ratio) 0 7) 6) 5) 4
 
 -- the first object that is refused, with its number, where the lists begin at object i
 unfoldable pub firstRefused : ℕ → List ℕ → List Float → List Float → List Float → Verdict
@@ -27,13 +28,17 @@ firstRefused i (k ∷ kinds) [] deltas ratios = Accepted
 firstRefused i (k ∷ kinds) (s ∷ starts) [] ratios = Accepted
 firstRefused i (k ∷ kinds) (s ∷ starts) (d ∷ deltas) [] = Accepted
 firstRefused i (k ∷ kinds) (s ∷ starts) (d ∷ deltas) (r ∷ ratios) =
-    cond (eqb (objectRefusal k s d r) 0) (firstRefused (i + 1) kinds starts deltas ratios) (Refused (objectRefusal k s d r) (record { 0 = i }))
+    cond (eqb (objectRefusal k s d r) 0)
+    (firstRefused (i + 1) kinds starts deltas ratios)
+    (Refused (objectRefusal k s d r) (record { 0 = i }))
 
 abbrev pub refused : ℕ → Verdict
 refused number = Refused number (record { 0 = 0 })
 
--- refusals 1 to 7 of a call on a chart; `beside` is the number of what is refused straight after 2, before the objects are looked at, or 0
+-- refusals 1 to 7 of a call on a chart; `beside` is the number of what is refused beside it, or 0
 unfoldable pub verdict : Chart → ℕ → Verdict
 verdict c beside =
     cond (ltb largest (size c)) (refused 1)
-    (cond (even c) (cond (eqb beside 0) (firstRefused 0 (c .kinds) (c .starts) (c .deltas) (c .ratios)) (refused beside)) (refused 2))
+    (cond (equallyLong c)
+    (cond (eqb beside 0) (firstRefused 0 (c .kinds) (c .starts) (c .deltas) (c .ratios)) (refused beside))
+    (refused 2))

@@ -1,5 +1,6 @@
--- Document 01, "Refused by number": "3 an answer or work slice too short". An answer slice has a place for each object, and every call on a chart takes
--- "two work slices: u16 of at least 8n places and f64 of at least n".
+-- What is refused beside a chart, straight after 2 and before the objects are looked at. Refusal 3: a slice is too
+-- short. An answer slice has a place for each of the n objects, and every call takes two work slices, of 8 n and of n
+-- places.
 use Prim.Native.Nat.{ℕ, _*_}
 use mathlib.Core.Bool.{Bool, false, _||_, cond}
 use mathlib.Core.List.{List, [], _∷_}
@@ -10,10 +11,12 @@ unfoldable pub anyShort : ℕ → List ℕ → Bool
 anyShort n [] = false
 anyShort n (l ∷ ls) = ltb l n || anyShort n ls
 
--- 3, or 0 where no slice is too short; `answers` says that an answer slice is, `work` and `scratch` are how many places the work slices have
+-- 3, or 0 where no slice is too short; `answers` says that an answer slice is, `work` and `scratch` are how many
+-- places the work slices have
 unfoldable pub shortRefusal : Bool → ℕ → ℕ → ℕ → ℕ
 shortRefusal answers n work scratch = cond (answers || (ltb work (8 * n) || ltb scratch n)) 3 0
 
--- the number of what is refused beside the chart, or 0, by how many places each answer slice, the work and the scratch slice have
+-- the number of what is refused beside the chart, or 0, by how many places each answer slice, the work and the
+-- scratch slice have
 abbrev pub beside : ℕ → List ℕ → ℕ → ℕ → ℕ
 beside n answers work scratch = shortRefusal (anyShort n answers) n work scratch

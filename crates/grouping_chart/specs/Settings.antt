@@ -1,10 +1,16 @@
--- The four numbers of document 01 by which the calls on a chart group and score. The definitions of what a call answers have them as a parameter; the promises of the calls name `baseSettings`.
+-- The four numbers by which the calls on a chart group and score. The definitions of what a call answers have them as
+-- a parameter; the promises of the calls name `baseSettings`.
+use mathlib.Core.Bool.{false}
 use Prim.Native.Nat.{_≤_}
-use lib.Ieee.{binary64, ofBits}
+use lib.Dec.{T}
+use lib.IntN.{pos}
+use lib.Ieee.{Float, fin, binary64, ofBits}
+use Rattle.grouping_chart.specs.Refusal.{within}
 use Rattle.grouping_chart.specs.declared.settings.Settings as declared
 
--- margin, what is near, in milliseconds; limit, the search limit M of intervals: from 1 to M − 1 are searched, and M + 1 says that there is none; threshold, how near to
--- 1.0 a repeated interval is; tolerance, how near to 1.0 a ratio over the one before is
+-- margin, what is near, in milliseconds; limit, the search limit M of intervals: from 1 to M − 1 are searched, and M
+-- + 1 says that there is none; threshold, how near to 1.0 a repeated interval is; tolerance, how near to 1.0 a ratio
+-- over the one before is
 abbrev pub Settings : Type 0
 Settings = declared.Settings
 
@@ -17,7 +23,20 @@ baseSettings = record {
   tolerance = ofBits binary64 0x3f84_7ae1_47ae_147b;
 }
 
--- a search limit from 2 to 64: its intervals are bytes
+abbrev zero : Float
+zero = fin false 0 (pos 0)
+
+abbrev one : Float
+one = fin false 1 (pos 0)
+
+abbrev fifty : Float
+fifty = fin false 25 (pos 1)
+
+-- a set that a call may be given: a limit from 2 to 64, whose intervals are bytes, and three numbers in their ranges,
+-- in none of which a NaN is
 pub record Permitted (s : Settings) : Type 0 where
+  pub margin : T (within zero fifty (s .margin))
   pub least : 2 ≤ s .limit
   pub most : s .limit ≤ 64
+  pub threshold : T (within zero one (s .threshold))
+  pub tolerance : T (within zero one (s .tolerance))

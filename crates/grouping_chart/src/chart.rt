@@ -1,8 +1,8 @@
 // Refusals 1 to 7: of the chart's size and lengths, and object by object.
 ghost use mathlib.Core.Path.{_≡_};
 ghost use lib.ListN.{length};
-ghost use Rattle.grouping_chart.specs.Chart.{SameLengths, even};
-ghost use Rattle.grouping_chart.specs.Lent.{chart};
+ghost use Rattle.grouping_chart.specs.Chart.{SameLengths, equallyLong};
+ghost use Rattle.grouping_chart.specs.Lent.{lent, chart};
 ghost use Rattle.grouping_chart.specs.Refusal.{timeGood, ratioGood, objectRefusal, firstRefused, verdict};
 use crate::good;
 use crate::object::ObjectIndex;
@@ -54,7 +54,7 @@ pub fn object_refusal(kind: u8, start: f64, delta: f64, ratio: f64) -> u8
 // The first object that is refused.
 fn first_refused(kind: &[u8], start: &[f64], delta: &[f64], ratio: &[f64]) -> Verdict
     requires { ⌜ SameLengths (length (now kind)) (now start) (now delta) (now ratio) ⌝ }
-    ensures { λ r. ⌜ r ≡ firstRefused 0 (now (kind .entry)) (now (start .entry)) (now (delta .entry)) (now (ratio .entry)) ⌝ }
+    ensures { λ r. ⌜ r ≡ firstRefused 0 (lent kind) (lent start) (lent delta) (lent ratio) ⌝ }
 {
     let mut at = ObjectIndex(0);
     while at.0 < kind.len() {
@@ -71,7 +71,7 @@ fn first_refused(kind: &[u8], start: &[f64], delta: &[f64], ratio: &[f64]) -> Ve
 // Most charts are good, which is told without a jump for each object.
 fn check_objects(kind: &[u8], start: &[f64], delta: &[f64], ratio: &[f64]) -> Verdict
     requires { ⌜ SameLengths (length (now kind)) (now start) (now delta) (now ratio) ⌝ }
-    ensures { λ r. ⌜ r ≡ firstRefused 0 (now (kind .entry)) (now (start .entry)) (now (delta .entry)) (now (ratio .entry)) ⌝ }
+    ensures { λ r. ⌜ r ≡ firstRefused 0 (lent kind) (lent start) (lent delta) (lent ratio) ⌝ }
 {
     if good::all_good(kind, start, delta, ratio) {
         return Verdict::Accepted;
@@ -79,8 +79,9 @@ fn check_objects(kind: &[u8], start: &[f64], delta: &[f64], ratio: &[f64]) -> Ve
     first_refused(kind, start, delta, ratio)
 }
 
-fn lengths_even(kind: &[u8], start: &[f64], delta: &[f64], ratio: &[f64]) -> bool
-    ensures { λ r. ⌜ r ≡ even (chart kind start delta ratio) ⌝ }
+// Whether the four slices are of one length.
+fn equally_long(kind: &[u8], start: &[f64], delta: &[f64], ratio: &[f64]) -> bool
+    ensures { λ r. ⌜ r ≡ equallyLong (chart kind start delta ratio) ⌝ }
 {
     if start.len() != kind.len() {
         return false;
@@ -101,7 +102,7 @@ pub fn check(kind: &[u8], start: &[f64], delta: &[f64], ratio: &[f64], beside: u
     if 16384 < kind.len() {
         return Verdict::Refused(1, ObjectIndex(0));
     }
-    if lengths_even(kind, start, delta, ratio) {
+    if equally_long(kind, start, delta, ratio) {
         if beside != 0 {
             return Verdict::Refused(beside, ObjectIndex(0));
         }

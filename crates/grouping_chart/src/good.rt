@@ -1,24 +1,35 @@
-// Whether all of a chart's objects are good, list by list. No loop here jumps by what it reads, so that several values are tested at a time.
+// Whether all of a chart's objects are good, list by list. No loop here jumps by what it reads, so that several
+// values are tested at a time.
 ghost use mathlib.Core.Path.{_≡_};
+ghost use Rattle.grouping_chart.specs.Lent.{lent};
 ghost use Rattle.numeric.specs.Range.{within};
 ghost use Rattle.grouping_chart.specs.Passes.{all, kindGood, allGood};
 use numeric::range;
 
+// Center, Rim and NonHit.
+fn kind_good(kind: u8) -> bool
+    ensures { λ r. ⌜ r ≡ kindGood kind ⌝ }
+{
+    match kind {
+        0 | 1 | 2 => true,
+        _ => false,
+    }
+}
+
 fn kinds_good(kind: &[u8]) -> bool
-    ensures { λ r. ⌜ r ≡ all kindGood (now (kind .entry)) ⌝ }
+    ensures { λ r. ⌜ r ≡ all kindGood (lent kind) ⌝ }
 {
     let mut good = true;
     let mut i = 0;
     while i < kind.len() {
-        let here = kind[i] <= 2;
-        good = good & here;
+        good = good & kind_good(kind[i]);
         i += 1;
     }
     good
 }
 
 fn all_within(lo: f64, hi: f64, values: &[f64]) -> bool
-    ensures { λ r. ⌜ r ≡ all (within lo hi) (now (values .entry)) ⌝ }
+    ensures { λ r. ⌜ r ≡ all (within lo hi) (lent values) ⌝ }
 {
     let mut good = true;
     let mut i = 0;
@@ -33,7 +44,7 @@ fn all_within(lo: f64, hi: f64, values: &[f64]) -> bool
 }
 
 pub fn all_good(kind: &[u8], start: &[f64], delta: &[f64], ratio: &[f64]) -> bool
-    ensures { λ r. ⌜ r ≡ allGood (now (kind .entry)) (now (start .entry)) (now (delta .entry)) (now (ratio .entry)) ⌝ }
+    ensures { λ r. ⌜ r ≡ allGood (lent kind) (lent start) (lent delta) (lent ratio) ⌝ }
 {
     let kinds = kinds_good(kind);
     let starts = all_within(range::EARLIEST, range::LATEST, start);

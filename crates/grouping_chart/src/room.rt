@@ -1,6 +1,11 @@
-// Refusal 3: the places that a call on a chart needs.
+// What is refused beside a chart, and so the verdict on every call. Refusal 3: the places that a call needs.
 ghost use mathlib.Core.Path.{_≡_};
+ghost use lib.ListN.{length};
+ghost use Rattle.grouping_chart.specs.Lent.{lent, chart};
+ghost use Rattle.grouping_chart.specs.Refusal.{verdict};
 ghost use Rattle.grouping_chart.specs.Room.{shortRefusal};
+use crate::chart;
+use crate::chart::Verdict;
 
 // 3, or 0 where no slice is too short for n objects; `answers` says that an answer slice is.
 pub fn short_refusal(answers: bool, n: usize, work: usize, scratch: usize) -> u8
@@ -17,4 +22,22 @@ pub fn short_refusal(answers: bool, n: usize, work: usize, scratch: usize) -> u8
         return 3;
     }
     0
+}
+
+// Refusals 1 to 7 of a call; `short` says that an answer slice has too few places for the objects, `work` and
+// `scratch` are how many places the work slices have.
+pub fn judge(
+    kind: &[u8],
+    start: &[f64],
+    delta: &[f64],
+    ratio: &[f64],
+    short: bool,
+    work: usize,
+    scratch: usize,
+) -> Verdict
+    ensures { λ r. ⌜ r
+        ≡ verdict (chart kind start delta ratio) (shortRefusal short (length (lent kind)) work scratch) ⌝ }
+{
+    let beside = short_refusal(short, kind.len(), work, scratch);
+    chart::check(kind, start, delta, ratio, beside)
 }

@@ -1,7 +1,7 @@
 -- The outcome of encode, case by case, over plain lists: a refusal leaves all as lent, and an accepted chart has room in every slice.
 use mathlib.Core.Path.{_≡_, refl, sym, ap, _∙_}
 use mathlib.Core.List.{List}
-use Prim.Native.Nat.{ℕ, _*_, _≤_, _<_}
+use Prim.Native.Nat.{ℕ, _≤_, _<_}
 use lib.ListN.{length, getD, replicate}
 use lib.Ieee.{Float, binary64, ofBits}
 use native.Mathlib.Omega.{arith}
@@ -11,88 +11,64 @@ use Rattle.grouping_chart.specs.Chart.{Chart, size}
 use Rattle.grouping_chart.specs.Lent.{Outcome, outcome}
 use Rattle.grouping_chart.specs.Settings.{Settings, Permitted}
 use Rattle.grouping_chart.specs.declared.chart.Verdict.the-variants.{Accepted}
-use Rattle.grouping_chart.proofs.AcceptedLaws.{accepted-good}
-use Rattle.grouping_chart.proofs.LentLaws.{answered-done}
-use Rattle.grouping_chart.proofs.RoomLaws.{roomy, long-enough}
+use Rattle.grouping_chart.proofs.LentLaws.{answered-done, accommodated}
 use Rattle.grouping_color.specs.Preprocessor.{hitOf, intervalOf, hitCount}
 use Rattle.grouping_color.proofs.BoundLaws.{length-hitOf, length-intervalOf}
 use Rattle.grouping_encode.specs.declared.Encoding.the-variants as answer
-use Rattle.grouping_encode.specs.Encode.{Memory, judged, filled, encodeOutcome}
-use Rattle.grouping_encode.specs.Passes.{AnswerRoom, Encoded}
+use Rattle.grouping_encode.specs.Encode.{Memory, memory, places, judged, filled, encodeOutcome}
+use Rattle.grouping_encode.specs.Passes.{kindsMemory, KindsRoom, Encoded}
 
--- ---- no slice is too short
+-- the memory that `encode_kinds` is lent of the call's, and the call's by it
+abbrev pub withoutScratch : Memory → Memory
+withoutScratch m =
+    kindsMemory (λ (xs : List ℕ). xs) (m .streak) (m .streakPlace) (m .pattern) (m .patternPlace) (m .hit) (m .interval) (m .work)
 
-pub record Enough (n : ℕ) (m : Memory) : Type 0 where
-  pub streak : n ≤ length (m .streak)
-  pub streakPlace : n ≤ length (m .streakPlace)
-  pub pattern : n ≤ length (m .pattern)
-  pub patternPlace : n ≤ length (m .patternPlace)
-  pub hit : n ≤ length (m .hit)
-  pub interval : n ≤ length (m .interval)
-  pub work : 8 * n ≤ length (m .work)
-  pub scratch : n ≤ length (m .scratch)
-
-pub has-room : (c : Chart) (m : Memory) → judged c m ≡ Accepted → Enough (size c) m
-has-room c m h =
-    let n = size c in
-    let r = roomy _ n _ _ (accepted-good c _ h .room) in
-    let h1 = long-enough n _ _ (r .answered) in
-    let h2 = long-enough n _ _ (h1 .1) in
-    let h3 = long-enough n _ _ (h2 .1) in
-    let h4 = long-enough n _ _ (h3 .1) in
-    let h5 = long-enough n _ _ (h4 .1) in
-    let h6 = long-enough n _ _ (h5 .1) in
-    record {
-      streak = h1 .0;
-      streakPlace = h2 .0;
-      pattern = h3 .0;
-      patternPlace = h4 .0;
-      hit = h5 .0;
-      interval = h6 .0;
-      work = r .regions;
-      scratch = r .floats;
-    }
+abbrev pub withScratch : Memory → List Float → Memory
+withScratch m scratch =
+    memory (λ A (xs : List A). xs) (m .streak) (m .streakPlace) (m .pattern) (m .patternPlace) (m .hit) (m .interval) (m .work) scratch
 
 -- ---- each case leaves its outcome
+
 module _ (s : Settings) (c : Chart) (m : Memory) where
   pub done-outcome : (count : ℕ) (new : Memory) → judged c m ≡ Accepted → count ≡ hitCount (c .kinds) → new ≡ filled s (c .kinds) m
       → outcome (answer.Done count) new ≡ encodeOutcome s c m
   unfolding encodeOutcome
   done-outcome count new h e f = answered-done _ answer.Refused m h (λ t. outcome (answer.Done (e t)) (f t))
 
-  pub answer-room : Permitted s → judged c m ≡ Accepted
-      → AnswerRoom (size c) (s .limit) (m .streak) (m .streakPlace) (m .pattern) (m .patternPlace) (m .hit) (m .interval) (m .work)
-  answer-room p h =
-      let r = has-room c m h in
+  -- the memory that the passes leave is the definition's
+  pub filled-is : {count : ℕ} {new : Memory} {scratch : List Float} → Encoded (s .limit) (c .kinds) count (withoutScratch m) new
+      → scratch ≡ over (replicate (size c) (ofBits binary64 0)) (m .scratch) → withScratch new scratch ≡ filled s (c .kinds) m
+  unfolding filled
+  filled-is e f t = record {
+    streak = e .streaks t;
+    streakPlace = e .streak-places t;
+    pattern = e .patterns t;
+    patternPlace = e .pattern-places t;
+    hit = e .hits t;
+    interval = e .intervals t;
+    work = e .cleared t;
+    scratch = f t;
+  }
+
+  -- an accepted call has room
+  pub kinds-room : Permitted s → judged c m ≡ Accepted → KindsRoom (size c) (s .limit) (withoutScratch m)
+  kinds-room p h =
+      let r = accommodated c (places m) _ _ h in
       record {
-        few = accepted-good c _ h .few;
-        streak-room = r .streak;
-        streak-place-room = r .streakPlace;
-        pattern-room = r .pattern;
-        pattern-place-room = r .patternPlace;
-        hit-room = r .hit;
-        interval-room = r .interval;
-        tables = r .work;
-        some = omega arith;
-        bytes = omega arith;
+        few = r .chart .few;
+        streak = r .long .0;
+        streakPlace = r .long .1 .0;
+        pattern = r .long .1 .1 .0;
+        patternPlace = r .long .1 .1 .1 .0;
+        hit = r .long .1 .1 .1 .1 .0;
+        interval = r .long .1 .1 .1 .1 .1 .0;
+        work = r .regions;
+        some = omega (arith, p .least);
+        bytes = omega (arith, p .most);
       }
 
--- the memory that the passes leave is the definition's
-pub filled-is : (s : Settings) (kinds : List ℕ) (m : Memory) (streak place pattern outer hit interval work : List ℕ) (scratch : List Float) (count : ℕ)
-    → Encoded (s .limit) kinds (m .streak) streak (m .streakPlace) place (m .pattern) pattern (m .patternPlace) outer (m .hit) hit (m .interval) interval (m .work) work count
-    → scratch ≡ over (replicate (length kinds) (ofBits binary64 0)) (m .scratch)
-    → _≡_ {A = Memory} (record { streak = streak; streakPlace = place; pattern = pattern; patternPlace = outer; hit = hit; interval = interval; work = work; scratch = scratch }) (filled s kinds m)
-unfolding filled
-filled-is s kinds m streak place pattern outer hit interval work scratch count e f t = record {
-  streak = e .streaks t;
-  streakPlace = e .streak-places t;
-  pattern = e .patterns t;
-  patternPlace = e .pattern-places t;
-  hit = e .hits t;
-  interval = e .intervals t;
-  work = e .cleared t;
-  scratch = f t;
-}
+  pub scratch-room : judged c m ≡ Accepted → size c ≤ length (m .scratch)
+  scratch-room h = accommodated c (places m) _ _ h .floats
 
 -- ---- what an accepted call writes, place by place
 module _ (s : Settings) (c : Chart) (lent : Memory) (accepted : judged c lent ≡ Accepted) where

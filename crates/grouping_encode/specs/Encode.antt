@@ -1,13 +1,15 @@
--- Document 01, "Calls and what they fill", encode: what it answers, and what every lent slice holds afterwards.
+-- The call encode, of document 01's "Calls and what they fill": what it answers, and what every lent slice holds
+-- afterwards.
 use Prim.Native.Nat.{ℕ, _*_}
 use mathlib.Core.List.{List, [], _∷_}
 use lib.ListN.{length, replicate}
 use lib.Ieee.{Float, binary64, ofBits}
+use denote.Ref.{now}
 use Rattle.grouping_marks.specs.Over.{over}
 use Rattle.grouping_chart.specs.Chart.{Chart, size}
 use Rattle.grouping_chart.specs.Refusal.{verdict}
 use Rattle.grouping_chart.specs.Room.{beside}
-use Rattle.grouping_chart.specs.Lent.{Outcome, outcome, answered, Slice, lent, left}
+use Rattle.grouping_chart.specs.Lent.{Outcome, outcome, answered, Held, Slice, lent, left}
 use Rattle.grouping_chart.specs.Settings.{Settings}
 use Rattle.grouping_chart.specs.declared.chart.Verdict.{Verdict}
 use Rattle.grouping_color.specs.MonoStreak.{streakOf}
@@ -27,22 +29,43 @@ pub record Memory : Type 0 where
   pub work : List ℕ
   pub scratch : List Float
 
-abbrev pub before : Slice ℕ → Slice ℕ → Slice ℕ → Slice ℕ → Slice ℕ → Slice ℕ → Slice ℕ → Slice Float → Memory
-before a b c d e f work scratch =
-    record { streak = lent a; streakPlace = lent b; pattern = lent c; patternPlace = lent d; hit = lent e; interval = lent f; work = lent work; scratch = lent scratch }
+-- the memory that is made of the eight slices, in the order in which they are lent, by how one of them is read
+abbrev pub Lending : (Type 0 → Type 0) → Type 0
+Lending S = S ℕ → S ℕ → S ℕ → S ℕ → S ℕ → S ℕ → S ℕ → S Float → Memory
 
-abbrev pub after : Slice ℕ → Slice ℕ → Slice ℕ → Slice ℕ → Slice ℕ → Slice ℕ → Slice ℕ → Slice Float → Memory
-after a b c d e f work scratch =
-    record { streak = left a; streakPlace = left b; pattern = left c; patternPlace = left d; hit = left e; interval = left f; work = left work; scratch = left scratch }
+abbrev pub memory : {S : Type 0 → Type 0} → ((A : Type 0) → S A → List A) → Lending S
+memory read streak streakPlace pattern patternPlace hit interval work scratch = record {
+  streak = read ℕ streak;
+  streakPlace = read ℕ streakPlace;
+  pattern = read ℕ pattern;
+  patternPlace = read ℕ patternPlace;
+  hit = read ℕ hit;
+  interval = read ℕ interval;
+  work = read ℕ work;
+  scratch = read Float scratch;
+}
+
+-- as lent, as left, and where a pass begins
+abbrev pub before : Lending Slice
+before = memory (λ A. lent)
+
+abbrev pub after : Lending Slice
+after = memory (λ A. left)
+
+abbrev pub held : Lending Held
+held = memory (λ A. now)
 
 -- how many places the answer slices have
 abbrev pub places : Memory → List ℕ
-places m = length (m .streak) ∷ length (m .streakPlace) ∷ length (m .pattern) ∷ length (m .patternPlace) ∷ length (m .hit) ∷ length (m .interval) ∷ []
+places m =
+    length (m .streak) ∷ length (m .streakPlace) ∷ length (m .pattern) ∷ length (m .patternPlace) ∷ length (m .hit)
+    ∷ length (m .interval) ∷ []
 
 abbrev pub judged : Chart → Memory → Verdict
 judged c m = verdict c (beside (size c) (places m) (length (m .work)) (length (m .scratch)))
 
--- the memory after an accepted call: the answers in the first n places, the first 8 n and n places of the work slices 0 and +0.0, old contents elsewhere
+-- the memory after an accepted call: the answers in the first n places, 0 and +0.0 in the first 8 n and n places of the
+-- work slices, old contents elsewhere
 unfoldable pub filled : Settings → List ℕ → Memory → Memory
 filled s kinds m = record {
   streak = over (streakOf kinds) (m .streak);
@@ -56,4 +79,5 @@ filled s kinds m = record {
 }
 
 unfoldable pub encodeOutcome : Settings → Chart → Memory → Outcome Encoding Memory
-encodeOutcome s c m = answered (judged c m) (outcome (Done (hitCount (c .kinds))) (filled s (c .kinds) m)) answer.Refused m
+encodeOutcome s c m =
+    answered (judged c m) (outcome (Done (hitCount (c .kinds))) (filled s (c .kinds) m)) answer.Refused m

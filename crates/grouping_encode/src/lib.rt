@@ -1,15 +1,14 @@
-// The call encode: per object six numbers, and the number of hit patterns. `inner` is the streak's place in its alternating pattern, `outer` that one's place in its hit pattern.
+// The call encode: per object six numbers, and the number of hit patterns.
 ghost use mathlib.Core.Path.{_≡_};
-ghost use mathlib.Core.List.{[], _∷_};
 ghost use lib.ListN.{length};
-ghost use Rattle.grouping_chart.specs.Room.{anyShort};
 ghost use Rattle.grouping_chart.specs.Settings.{baseSettings};
-ghost use Rattle.grouping_chart.specs.Lent.{outcome, chart};
+ghost use Rattle.grouping_chart.specs.Lent.{outcome, lent, left, chart};
 ghost use Rattle.grouping_encode.specs.Encode.{before, after, encodeOutcome};
-ghost use Rattle.grouping_encode.specs.Passes.{PatternsRoom, PatternsSpread, HitsRoom, HitsSpread, AnswerRoom, Encoded};
+ghost use Rattle.grouping_encode.specs.Passes.{PatternsRoom, PatternsSpread, HitsRoom, HitsSpread};
+ghost use Rattle.grouping_encode.specs.Passes.{kindsMemory, KindsRoom, Encoded};
 use grouping_chart::chart::Verdict;
 use grouping_chart::object::ObjectIndex;
-use grouping_chart::room::short_refusal;
+use grouping_chart::room::judge;
 use grouping_chart::settings;
 use grouping_marks::fill;
 use grouping_preprocessor::Levels;
@@ -20,51 +19,22 @@ pub enum Encoding {
     Refused(u8, ObjectIndex),
 }
 
-// Whether an answer slice has too few places for n objects.
-fn too_short(
-    n: usize,
-    streak: &[u16],
-    inner: &[u16],
-    pattern: &[u16],
-    outer: &[u16],
-    hit: &[u16],
-    interval: &[u8],
-) -> bool
-    ensures { λ r. ⌜ r ≡ anyShort n (length (now (streak .entry)) ∷ length (now (inner .entry)) ∷ length (now (pattern .entry)) ∷ length (now (outer .entry)) ∷ length (now (hit .entry)) ∷ length (now (interval .entry)) ∷ []) ⌝ }
-{
-    if streak.len() < n {
-        return true;
-    }
-    if inner.len() < n {
-        return true;
-    }
-    if pattern.len() < n {
-        return true;
-    }
-    if outer.len() < n {
-        return true;
-    }
-    if hit.len() < n {
-        return true;
-    }
-    interval.len() < n
-}
-
 // Gives each object its streak, the streak's place and its pattern, from the encoder's tables.
 fn spread_patterns(
     n: usize,
     k: Levels,
     work: &[u16],
     streak: &mut [u16],
-    inner: &mut [u16],
+    streak_place: &mut [u16],
     pattern: &mut [u16],
 )
-    requires { ⌜ PatternsRoom n k (now work) (now streak) (now inner) (now pattern) ⌝ }
-    ensures { λ r. ⌜ PatternsSpread n k (now (work .entry)) (now (streak .entry)) (now (streak .exit)) (now (inner .entry)) (now (inner .exit)) (now (pattern .entry)) (now (pattern .exit)) ⌝ }
+    requires { ⌜ PatternsRoom n k (now work) (now streak) (now «streak_place») (now pattern) ⌝ }
+    ensures { λ r. ⌜ PatternsSpread n k (lent work) (lent streak) (left streak)
+        (lent «streak_place») (left «streak_place») (lent pattern) (left pattern) ⌝ }
 {
     let s = k.streaks;
     fill::copy(&work[..n], streak);
-    fill::gather(&work[4 * n..4 * n + s], &streak[..n], inner);
+    fill::gather(&work[4 * n..4 * n + s], &streak[..n], streak_place);
     fill::gather(&work[3 * n..3 * n + s], &streak[..n], pattern);
 }
 
@@ -74,16 +44,17 @@ fn spread_hits(
     k: Levels,
     work: &[u16],
     pattern: &[u16],
-    outer: &mut [u16],
+    pattern_place: &mut [u16],
     hit: &mut [u16],
     interval: &mut [u8],
 )
-    requires { ⌜ HitsRoom n k (now work) (now pattern) (now outer) (now hit) (now interval) ⌝ }
-    ensures { λ r. ⌜ HitsSpread n k (now (work .entry)) (now (pattern .entry)) (now (outer .entry)) (now (outer .exit)) (now (hit .entry)) (now (hit .exit)) (now (interval .entry)) (now (interval .exit)) ⌝ }
+    requires { ⌜ HitsRoom n k (now work) (now pattern) (now «pattern_place») (now hit) (now interval) ⌝ }
+    ensures { λ r. ⌜ HitsSpread n k (lent work) (lent pattern) (lent «pattern_place») (left «pattern_place»)
+        (lent hit) (left hit) (lent interval) (left interval) ⌝ }
 {
     let p = k.patterns;
     let h = k.hits;
-    fill::gather(&work[2 * n..2 * n + p], &pattern[..n], outer);
+    fill::gather(&work[2 * n..2 * n + p], &pattern[..n], pattern_place);
     fill::gather(&work[n..n + p], &pattern[..n], hit);
     fill::gather_bytes(&work[7 * n..7 * n + h], &hit[..n], interval);
 }
@@ -93,20 +64,23 @@ pub fn encode_kinds(
     kind: &[u8],
     limit: u16,
     streak: &mut [u16],
-    inner: &mut [u16],
+    streak_place: &mut [u16],
     pattern: &mut [u16],
-    outer: &mut [u16],
+    pattern_place: &mut [u16],
     hit: &mut [u16],
     interval: &mut [u8],
     work: &mut [u16],
 ) -> usize
-    requires { ⌜ AnswerRoom (length (now kind)) limit (now streak) (now inner) (now pattern) (now outer) (now hit) (now interval) (now work) ⌝ }
-    ensures { λ r. ⌜ Encoded limit (now (kind .entry)) (now (streak .entry)) (now (streak .exit)) (now (inner .entry)) (now (inner .exit)) (now (pattern .entry)) (now (pattern .exit)) (now (outer .entry)) (now (outer .exit)) (now (hit .entry)) (now (hit .exit)) (now (interval .entry)) (now (interval .exit)) (now (work .entry)) (now (work .exit)) r ⌝ }
+    requires { ⌜ KindsRoom (length (now kind)) limit
+        (kindsMemory now streak «streak_place» pattern «pattern_place» hit interval work) ⌝ }
+    ensures { λ r. ⌜ Encoded limit (lent kind) r
+        (kindsMemory lent streak «streak_place» pattern «pattern_place» hit interval work)
+        (kindsMemory left streak «streak_place» pattern «pattern_place» hit interval work) ⌝ }
 {
     let n = kind.len();
     let k = grouping_preprocessor::encode_colors(kind, work, limit);
-    spread_patterns(n, k, work, streak, inner, pattern);
-    spread_hits(n, k, work, pattern, outer, hit, interval);
+    spread_patterns(n, k, work, streak, streak_place, pattern);
+    spread_hits(n, k, work, pattern, pattern_place, hit, interval);
     fill::clear(work, 8 * n);
     k.hits
 }
@@ -117,27 +91,41 @@ pub fn encode(
     delta: &[f64],
     ratio: &[f64],
     streak: &mut [u16],
-    inner: &mut [u16],
+    streak_place: &mut [u16],
     pattern: &mut [u16],
-    outer: &mut [u16],
+    pattern_place: &mut [u16],
     hit: &mut [u16],
     interval: &mut [u8],
     work: &mut [u16],
     scratch: &mut [f64],
 ) -> Encoding
-    ensures { λ r. ⌜ outcome r (after streak inner pattern outer hit interval work scratch)
+    ensures { λ r. ⌜ outcome r (after streak «streak_place» pattern «pattern_place» hit interval work scratch)
         ≡ encodeOutcome baseSettings (chart kind start delta ratio)
-        (before streak inner pattern outer hit interval work scratch) ⌝ }
+        (before streak «streak_place» pattern «pattern_place» hit interval work scratch) ⌝ }
 {
     let n = kind.len();
-    let short = too_short(n, streak, inner, pattern, outer, hit, interval);
-    let beside = short_refusal(short, n, work.len(), scratch.len());
-    match grouping_chart::chart::check(kind, start, delta, ratio, beside) {
+    let short = (streak.len() < n)
+        | (streak_place.len() < n)
+        | (pattern.len() < n)
+        | (pattern_place.len() < n)
+        | (hit.len() < n)
+        | (interval.len() < n);
+    match judge(kind, start, delta, ratio, short, work.len(), scratch.len()) {
         Verdict::Refused(number, place) => Encoding::Refused(number, place),
         Verdict::Accepted => {
             let s = settings::base();
             let m = s.limit as u16;
-            let hits = encode_kinds(kind, m, streak, inner, pattern, outer, hit, interval, work);
+            let hits = encode_kinds(
+                kind,
+                m,
+                streak,
+                streak_place,
+                pattern,
+                pattern_place,
+                hit,
+                interval,
+                work,
+            );
             fill::clear_floats(scratch, n);
             Encoding::Done(hits)
         }

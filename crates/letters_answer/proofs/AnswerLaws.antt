@@ -10,6 +10,7 @@ use Rattle.grouping_color.specs.MonoStreak.{streakOf}
 use Rattle.grouping_color.specs.Preprocessor.{alternatingOf, hitOf, intervalOf}
 use Rattle.grouping_color.proofs.BoundLaws.{length-streakOf, length-alternatingOf, length-hitOf, length-intervalOf}
 use Rattle.grouping_chart.specs.Settings.{baseSettings}
+use Rattle.grouping_encode.specs.Encode.{Memory}
 use Rattle.grouping_encode.specs.Passes.{Encoded}
 use Rattle.letters_text.specs.declared.Reading.{Reading}
 use Rattle.letters_text.specs.declared.Reading.the-variants.{Long, Bad, Letters}
@@ -47,23 +48,23 @@ lent kinds streak pattern hit interval = record {
   intervals = take (length kinds) interval;
 }
 
-module _ {kinds streak₀ streak streakPlace₀ streakPlace pattern₀ pattern patternPlace₀ patternPlace hit₀ hit interval₀ interval work₀ work : List ℕ} {count : ℕ}
-    (x : Encoded (baseSettings .limit) kinds streak₀ streak streakPlace₀ streakPlace pattern₀ pattern patternPlace₀ patternPlace hit₀ hit interval₀ interval work₀ work count) where
-  lent-columns : columns kinds ≡ lent kinds streak pattern hit interval
+module _ {kinds : List ℕ} {count : ℕ} {old new : Memory} (x : Encoded (baseSettings .limit) kinds count old new) where
+  lent-columns : columns kinds ≡ lent kinds (new .streak) (new .pattern) (new .hit) (new .interval)
   unfolding columns
   lent-columns =
       let n : ℕ = length kinds in
-      let s : take n streak ≡ streakOf kinds = rw (x .streaks) (front (streakOf kinds) streak₀ n (length-streakOf kinds)) in
-      let p : take n pattern ≡ alternatingOf kinds = rw (x .patterns) (front (alternatingOf kinds) pattern₀ n (length-alternatingOf kinds)) in
-      let h : take n hit ≡ hitOf kinds = rw (x .hits) (front (hitOf kinds) hit₀ n (length-hitOf kinds)) in
-      let i : take n interval ≡ intervalOf (baseSettings .limit) kinds =
-      rw (x .intervals) (front (intervalOf (baseSettings .limit) kinds) interval₀ n (length-intervalOf kinds (baseSettings .limit))) in
+      let s : take n (new .streak) ≡ streakOf kinds = rw (x .streaks) (front (streakOf kinds) (old .streak) n (length-streakOf kinds)) in
+      let p : take n (new .pattern) ≡ alternatingOf kinds = rw (x .patterns) (front (alternatingOf kinds) (old .pattern) n (length-alternatingOf kinds)) in
+      let h : take n (new .hit) ≡ hitOf kinds = rw (x .hits) (front (hitOf kinds) (old .hit) n (length-hitOf kinds)) in
+      let i : take n (new .interval) ≡ intervalOf (baseSettings .limit) kinds =
+      rw (x .intervals) (front (intervalOf (baseSettings .limit) kinds) (old .interval) n (length-intervalOf kinds (baseSettings .limit))) in
       cc
 
-  pub lines-fit : {room : ℕ} → LettersRoom (length kinds) room → LinesFit (lent kinds streak pattern hit interval) room
+  pub lines-fit : {room : ℕ} → LettersRoom (length kinds) room → LinesFit (lent kinds (new .streak) (new .pattern) (new .hit) (new .interval)) room
   lines-fit {room} y = subst (λ (c : Columns). LinesFit c room) lent-columns (columns-fit kinds room y)
 
-  pub lines-written : {old new : List ℕ} {r : ℕ} → Written (lines (lent kinds streak pattern hit interval)) old new r → Written (lines (columns kinds)) old new r
+  pub lines-written : {out₀ out : List ℕ} {r : ℕ}
+      → Written (lines (lent kinds (new .streak) (new .pattern) (new .hit) (new .interval))) out₀ out r → Written (lines (columns kinds)) out₀ out r
   lines-written y = written-same (ap lines lent-columns) y
 
 -- ---- the three cases of a reading

@@ -6,7 +6,9 @@ use Rattle.dresserduck.proofs.dresserduck_colour.Statement.{statement}
 use Rattle.dresserduck.proofs.dresserduck_colour.Tie as tie
 
 returns : tie.Need-returns
-returns c = for-host colouredOf (c .coloured-of .ensures) (c .before .before .before .before .before .before .before .colour .ensures)
+returns c =
+    let e = c .before .before .before .before .before .before .before in
+    for-host colouredOf (c .coloured-of .ensures) (e .colour .ensures)
 
 pub dresserduck-colour-spec : {M : Type 1} → statement M
 dresserduck-colour-spec =

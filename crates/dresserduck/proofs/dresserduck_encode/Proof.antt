@@ -6,7 +6,9 @@ use Rattle.dresserduck.proofs.dresserduck_encode.Statement.{statement}
 use Rattle.dresserduck.proofs.dresserduck_encode.Tie as tie
 
 returns : tie.Need-returns
-returns c = for-host encodedOf (c .encoded-of .ensures) (c .before .before .before .before .before .before .before .before .before .before .before .before .before .before .before .before .before .encode .ensures)
+returns c =
+    let e = c .before .before .before .before .before .before .before .before .before .before .before .before .before .before .before .before .before in
+    for-host encodedOf (c .encoded-of .ensures) (e .encode .ensures)
 
 pub dresserduck-encode-spec : {M : Type 1} → statement M
 dresserduck-encode-spec =

@@ -6,7 +6,9 @@ use Rattle.dresserduck.proofs.dresserduck_rhythm.Statement.{statement}
 use Rattle.dresserduck.proofs.dresserduck_rhythm.Tie as tie
 
 returns : tie.Need-returns
-returns c = for-host groupedOf (c .grouped-of .ensures) (c .before .before .before .before .before .before .before .before .before .rhythm .ensures)
+returns c =
+    let e = c .before .before .before .before .before .before .before .before .before in
+    for-host groupedOf (c .grouped-of .ensures) (e .rhythm .ensures)
 
 pub dresserduck-rhythm-spec : {M : Type 1} → statement M
 dresserduck-rhythm-spec =

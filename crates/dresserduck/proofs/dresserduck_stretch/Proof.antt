@@ -6,7 +6,9 @@ use Rattle.dresserduck.proofs.dresserduck_stretch.Statement.{statement}
 use Rattle.dresserduck.proofs.dresserduck_stretch.Tie as tie
 
 returns : tie.Need-returns
-returns c = for-host stretchedOf (c .stretched-of .ensures) (c .before .before .before .before .before .before .before .stretch .ensures)
+returns c =
+    let e = c .before .before .before .before .before .before .before in
+    for-host stretchedOf (c .stretched-of .ensures) (e .stretch .ensures)
 
 pub dresserduck-stretch-spec : {M : Type 1} → statement M
 dresserduck-stretch-spec =

@@ -10,8 +10,8 @@ returns : tie.Need-returns
 returns c =
     let s = c .before .before .before in
     let known = s .before .before .before .before .before .answer .given in
-    done-recorded (known .0 .0) (known .1) (s .before .before .has-own .ensures) (s .before .own-bits .ensures) (s .bits .ensures) (c .before .before .bits2 .ensures)
-    (c .before .bits3 .ensures) (c .bits4 .ensures)
+    done-recorded (known .0 .0) (known .1) (s .before .before .has-own .ensures) (s .before .own-bits .ensures) (s .bits .ensures)
+    (c .before .before .bits2 .ensures) (c .before .bits3 .ensures) (c .bits4 .ensures)
 
 returns-2 : tie.Need-returns-2
 returns-2 c = c .refused-record .ensures ∙ ap recordedOf (sym (c .before .before .answer2 .given .1))

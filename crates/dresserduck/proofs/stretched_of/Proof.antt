@@ -1,5 +1,5 @@
 -- `stretched_of` meets its contract, answer by answer.
-use mathlib.Core.Path.{_≡_, sym, ap, _∙_}
+use mathlib.Core.Path.{sym, ap, _∙_}
 use lib.IntN.{ℤ}
 use lib.Ieee.{Float}
 use mir.Facts.{toZ-ofZ}
@@ -9,13 +9,15 @@ use borrow.Author.Needs.{needs}
 use Rattle.dresserduck.proofs.stretched_of.Statement.{statement}
 use Rattle.dresserduck.proofs.stretched_of.Tie as tie
 
-done-with : (mean : Float) {x y : ℤ} → x ≡ y → _≡_ {A = Stretched} (record { refusal = 0; place = 0; mean = mean; tenths = x }) (record { refusal = 0; place = 0; mean = mean; tenths = y })
-done-with mean e t = record { refusal = 0; place = 0; mean = mean; tenths = e t }
+-- the record of a mean and its tenths, which leave as they came
+abbrev done : Float → ℤ → Stretched
+done mean tenths = record { refusal = 0; place = 0; mean = mean; tenths = tenths }
 
 returns : tie.Need-returns
 unfolding stretchedOf
 returns c =
-    done-with (c .before .answer .given .0 .0) (toZ-ofZ (record { sfits = c .known-told .given .1 .0 .1 })) ∙ ap stretchedOf (sym (c .before .answer .given .1))
+    let known = c .before .answer .given in
+    ap (done (known .0 .0)) (toZ-ofZ (record { sfits = c .known-told .given .1 .0 .1 })) ∙ ap stretchedOf (sym (known .1))
 
 returns-2 : tie.Need-returns-2
 unfolding stretchedOf

@@ -1,40 +1,50 @@
 -- The verdict of the definition is the one that the tests gave, and each case leaves its outcome.
 use mathlib.Core.Path.{_≡_, ap, _∙_}
 use native.Mathlib.Omega.{arith}
-use Rattle.grouping_chart.specs.Chart.{Chart}
+use Rattle.grouping_chart.specs.Chart.{Chart, size}
 use Rattle.grouping_chart.specs.Settings.{Settings}
+use Rattle.grouping_chart.specs.declared.chart.Verdict.{Verdict}
 use Rattle.grouping_chart.specs.declared.chart.Verdict.the-variants.{Accepted}
 use Rattle.grouping_chart.proofs.BaseLaws.{is-permitted}
-use Rattle.grouping_chart.proofs.LentLaws.{judged-is, answered-refused}
+use Rattle.grouping_chart.proofs.LentLaws.{verdict-judged, answered-refused}
+use Rattle.grouping_chart.proofs.RoomLaws.{short-joined}
 use Rattle.grouping_encode.specs.declared.Encoding.the-variants as answer
-use Rattle.grouping_encode.specs.Encode.{Memory, places, judged, encodeOutcome}
-use Rattle.grouping_encode.proofs.EncodeLaws.{done-outcome, has-room, answer-room, filled-is}
+use Rattle.grouping_encode.specs.Encode.{Memory, held, places, judged, encodeOutcome}
+use Rattle.grouping_encode.proofs.EncodeLaws.{done-outcome, kinds-room, scratch-room, filled-is}
 use borrow.Author.Needs.{needs}
 use Rattle.grouping_encode.proofs.encode.Statement.{statement}
 use Rattle.grouping_encode.proofs.encode.Tie as tie
 
--- the chart and the memory as lent
-abbrev chartOf : tie.Start → Chart
-chartOf c = record { kinds = c .args .kind .now; starts = c .args .start .now; deltas = c .args .delta .now; ratios = c .args .ratio .now }
+-- ---- the places that the needs go back to: the entry, the settings, the answers given
 
-abbrev memoryOf : tie.Start → Memory
-memoryOf c = record {
-  streak = c .args .streak .now;
-  streakPlace = c .args .inner .now;
-  pattern = c .args .pattern .now;
-  patternPlace = c .args .outer .now;
-  hit = c .args .hit .now;
-  interval = c .args .interval .now;
-  work = c .args .work .now;
-  scratch = c .args .scratch .now;
-}
+abbrev start : tie.After-judge → tie.Start
+start c = c .before .before .before .before .before .before .before .before .before .before .before .before .before
 
--- ---- once the call is known to be accepted
-abbrev start : tie.After-enum-told → tie.Start
-start c = c .before .before .before .before .before .before .before .before .before .before .before .before .before .before .before .before .before .before .before .before .before .before .before
+abbrev set : tie.After-encode-kinds → tie.After-base
+set c = c .before .before .before .before .before .before .before .before .before
 
-accepted : (c : tie.After-enum-told) → judged (chartOf (start c)) (memoryOf (start c)) ≡ Accepted
-accepted c = judged-is (chartOf (start c)) (places (memoryOf (start c))) _ _ (c .before .before .before .before .too-short .ensures) (c .before .before .before .short-refusal .ensures) (c .before .before .check .ensures) (c .enum-told .given .1)
+abbrev given : tie.After-clear-floats-arg → tie.After-encode-kinds
+given c = c .before .before .before .before .before .before .before .before .before .before .before .before .before .before .before
+
+-- ---- the chart and the memory as lent, and the verdict on them
+
+abbrev chartOf : tie.After-judge → Chart
+chartOf c =
+    let a = start c .args in
+    record { kinds = a .kind .now; starts = a .start .now; deltas = a .delta .now; ratios = a .ratio .now }
+
+abbrev memoryOf : tie.After-judge → Memory
+memoryOf c =
+    let a = start c .args in
+    held (a .streak) (a .streak-place) (a .pattern) (a .pattern-place) (a .hit) (a .interval) (a .work) (a .scratch)
+
+verdict-told : (c : tie.After-judge) {v : Verdict} → c .judge .result ≡ v → judged (chartOf c) (memoryOf c) ≡ v
+verdict-told c = verdict-judged (chartOf c) (places (memoryOf c)) _ _ (short-joined (size (chartOf c)) _ _) (c .judge .ensures)
+
+accepted : (c : tie.After-enum-told) → judged (chartOf (c .before .before)) (memoryOf (c .before .before)) ≡ Accepted
+accepted c = verdict-told (c .before .before) (c .enum-told .given .1)
+
+-- ---- the needs
 
 cast-m : tie.Need-cast-m
 cast-m c = omega (arith, is-permitted (c .before .base .ensures))
@@ -42,34 +52,35 @@ cast-m c = omega (arith, is-permitted (c .before .base .ensures))
 encode-kinds-requires : tie.Need-encode-kinds-requires
 encode-kinds-requires c κs =
     let b = c .before .before .before .before .before .before .before .before in
-    let s = start (b .before) in
-    answer-room (b .base .result) (chartOf s) (memoryOf s) (is-permitted (b .base .ensures)) (accepted (b .before))
+    let j = b .before .before .before in
+    kinds-room (b .base .result) (chartOf j) (memoryOf j) (is-permitted (b .base .ensures)) (accepted (b .before))
 
 clear-floats-requires : tie.Need-clear-floats-requires
 clear-floats-requires c κs =
-    let t = c .before .before .before .before .before .before .before .before .before .before .before .before .before .before .before .before .before .before .before .before .before .before .before .before .before in
-    has-room (chartOf (start t)) (memoryOf (start t)) (accepted t) .scratch
+    let b = set (given c) in
+    let j = b .before .before .before in
+    scratch-room (b .base .result) (chartOf j) (memoryOf j) (accepted (b .before))
 
 returns : tie.Need-returns
 unfolding encodeOutcome
 returns c =
-    let s = c .before .before .before .before .before .before .before .before .before .before .before .before .before .before .before .before .before .before .before .before .before .before .before .before in
-    answered-refused _ answer.Refused (memoryOf s) (judged-is (chartOf s) (places (memoryOf s)) _ _ (c .before .before .before .before .before .too-short .ensures) (c .before .before .before .before .short-refusal .ensures) (c .before .before .before .check .ensures) (c .before .number .given .1))
+    let j = c .before .before .before in
+    answered-refused _ answer.Refused (memoryOf j) (verdict-told j (c .before .number .given .1))
 
 returns-2 : tie.Need-returns-2
 returns-2 c =
-    let b = c .before .before .before .before .before .before .before .before .before .before .before .before .before .before .before .before .before .before .before .before .before .before .before .before .before .before .before in
-    let s = start (b .before) in
-    let e = c .before .before .before .before .before .before .before .before .before .before .before .before .before .before .before .before .before .before .encode-kinds .ensures in
-    done-outcome (b .base .result) (chartOf s) (memoryOf s) _ _ (accepted (b .before)) (e .counted) (filled-is (b .base .result) (chartOf s .kinds) (memoryOf s) _ _ _ _ _ _ _ _ _ e (c .before .before .clear-floats .ensures))
-    ∙ ap (λ (set : Settings). encodeOutcome set (chartOf s) (memoryOf s)) (b .base .ensures)
+    let e = given (c .before .before .before) in
+    let b = set e in
+    let s = b .base .result in
+    let j = b .before .before .before in
+    let f = filled-is s (chartOf j) (memoryOf j) (e .encode-kinds .ensures) (c .before .before .clear-floats .ensures) in
+    done-outcome s (chartOf j) (memoryOf j) _ _ (accepted (b .before)) (e .encode-kinds .ensures .counted) f
+    ∙ ap (λ (x : Settings). encodeOutcome x (chartOf j) (memoryOf j)) (b .base .ensures)
 
 pub encode-spec : {M : Type 1} → statement M
 encode-spec =
     tie.close
     (tie.spec
-    (λ c κs. search needs)
-    (λ c κs. search needs)
     (λ c κs. search needs)
     (λ c. search needs)
     (λ c. search needs)
@@ -77,12 +88,6 @@ encode-spec =
     cast-m
     encode-kinds-requires
     clear-floats-requires
-    (λ c. search needs)
-    (λ c. search needs)
-    (λ c. search needs)
-    (λ c. search needs)
-    (λ c. search needs)
-    (λ c. search needs)
     returns
     (λ c. search needs)
     (λ c. search needs)

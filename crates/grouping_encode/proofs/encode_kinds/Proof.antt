@@ -5,20 +5,43 @@ use borrow.Author.Needs.{needs}
 use Rattle.grouping_encode.proofs.encode_kinds.Statement.{statement}
 use Rattle.grouping_encode.proofs.encode_kinds.Tie as tie
 
+-- the three places that the needs go back to: the entry, the tables made, the first three answers given
+abbrev start : tie.After-encode-colors → tie.Start
+start c = c .before .before .before .before .before .before .before .before .before .before
+
+abbrev made : tie.After-spread-patterns → tie.After-encode-colors
+made c = c .before .before .before .before .before .before .before
+
+abbrev given : tie.After-spread-hits → tie.After-spread-patterns
+given c = c .before .before .before .before .before .before .before .before .before .before .before .before
+
 spread-patterns-requires : tie.Need-spread-patterns-requires
-spread-patterns-requires c κs = patterns-room _ _ _ _ _ (c .before .before .before .before .before .before .encode-colors .ensures .tables) _ _ _ _ _ _ (c .before .before .before .before .before .before .before .before .before .before .before .before .before .before .before .before .pre)
+spread-patterns-requires c κs =
+    let t = c .before .before .before .before .before .before in
+    patterns-room (t .encode-colors .ensures .tables) (start t .pre)
 
 spread-hits-requires : tie.Need-spread-hits-requires
-spread-hits-requires c κs = hits-room _ _ _ _ _ (c .before .before .before .before .before .before .before .before .before .before .before .before .before .before .before .before .before .before .encode-colors .ensures .tables) _ _ _ _ _ _ (c .before .before .before .before .before .before .before .before .before .before .before .spread-patterns .ensures) _ _ _ (c .before .before .before .before .before .before .before .before .before .before .before .before .before .before .before .before .before .before .before .before .before .before .before .before .before .before .before .before .pre) (c .before .before .before .before .before .before .before .before .before .before .before .spread-patterns .kept .1 .1 .1 .1 .1 .0)
+spread-hits-requires c κs =
+    let g = c .before .before .before .before .before .before .before .before .before .before .before in
+    let t = made g in
+    hits-room (t .encode-colors .ensures .tables) (start t .pre) (g .spread-patterns .ensures) (g .spread-patterns .kept .1 .1 .1 .1 .1 .0)
 
 mul-clear : tie.Need-mul-clear
-mul-clear c = omega (arith, c .before .before .before .before .before .before .before .before .before .before .before .before .before .before .before .before .before .before .before .before .before .before .before .before .before .before .before .before .before .before .before .before .before .before .before .before .pre)
+mul-clear c =
+    let t = made (given (c .before .before .before .before .before .before .before)) in
+    omega (arith, start t .pre)
 
 clear-requires : tie.Need-clear-requires
-clear-requires c κs = omega (arith, c .before .before .before .before .before .before .before .before .before .before .before .before .before .before .before .before .before .before .before .before .before .before .before .before .before .before .before .before .before .before .before .before .before .before .before .before .pre, c .before .before .before .before .before .before .before .before .before .before .before .before .before .before .before .before .before .before .before .before .before .before .before .before .before .before .encode-colors .ensures .tables .outside)
+clear-requires c κs =
+    let t = made (given (c .before .before .before .before .before .before .before)) in
+    omega (arith, start t .pre, t .encode-colors .ensures .tables .outside)
 
 returns : tie.Need-returns
-returns c = encoded _ _ _ _ _ (c .before .before .before .before .before .before .before .before .before .before .before .before .before .before .before .before .before .before .before .before .before .before .before .before .before .before .before .before .before .encode-colors .ensures .tables) _ _ _ _ _ _ (c .before .before .before .before .before .before .before .before .before .before .before .before .before .before .before .before .before .before .before .before .before .before .spread-patterns .ensures) _ _ _ _ _ _ _ (c .before .before .before .before .before .before .before .before .before .before .spread-hits .ensures) (c .before .before .clear .ensures)
+returns c =
+    let h = c .before .before .before .before .before .before .before .before .before .before in
+    let g = given h in
+    let t = made g in
+    encoded (t .encode-colors .ensures .tables) (start t .pre) (g .spread-patterns .ensures) (h .spread-hits .ensures) (c .before .before .clear .ensures)
 
 pub encode-kinds-spec : {M : Type 1} → statement M
 encode-kinds-spec =

@@ -1,20 +1,21 @@
 -- `spread_patterns` meets its contract: the copied front is the streak table, and each look-up stays within its table.
-use mathlib.Core.Path.{_≡_, sym, ap, _∙_}
-use mathlib.Core.List.{List}
-use Prim.Native.Nat.{ℕ, _*_, _≤_}
+use mathlib.Core.Path.{sym}
+use Prim.Native.Nat.{_*_}
 use native.Mathlib.Omega.{arith}
-use lib.ListN.{length, take, length-take}
+use lib.ListN.{length-take}
 use lib.Seq.{length-take-le}
-use Rattle.grouping_marks.specs.Over.{over, part}
-use Rattle.grouping_marks.proofs.OverLaws.{length-part, lent-front}
-use Rattle.grouping_encode.proofs.SpreadLaws.{written-front, within-table, looked-up}
+use Rattle.grouping_marks.proofs.OverLaws.{lent-front}
+use Rattle.grouping_encode.proofs.SpreadLaws.{looked-up, streak-front, streaks-inside}
 use borrow.Author.Needs.{needs}
 use Rattle.grouping_encode.proofs.spread_patterns.Statement.{statement}
 use Rattle.grouping_encode.proofs.spread_patterns.Tie as tie
 
--- the front of the copied slice
-streak-front : (n : ℕ) (work old new : List ℕ) → n ≤ length work → new ≡ over (take n work) old → take n new ≡ part 0 n work
-streak-front n work old new h e = written-front (take n work) old new n (length-take-le n work h) e ∙ lent-front n work
+-- the function's entry, from where the streaks' numbers are copied
+abbrev start : tie.After-copy → tie.Start
+start c = c .before .before .before .before .before .before .before
+
+abbrev copied : tie.After-gather → tie.After-copy
+copied c = c .before .before .before .before .before .before
 
 slice-aggregate-copy : tie.Need-slice-aggregate-copy
 slice-aggregate-copy c = sym (length-take-le _ _ (omega arith))
@@ -27,38 +28,29 @@ slice-aggregate-gather c = sym (length-take-le _ _ (omega arith))
 
 gather-requires : tie.Need-gather-requires
 gather-requires c κs =
-    let st = c .before .before .before .before .before .before .before .before .before .before .before .before in
-    let n = st .args .n in
-    let s = st .args .k .streaks in
-    let work = st .args .work .now in (
-      simp length-take (omega arith),
-      within-table (4 * n) s n work _ (part 0 n work) (streak-front n work _ _ (omega (arith, st .pre)) (c .before .before .before .before .before .copy .ensures)) (length-part 0 n work (omega (arith, st .pre))) (omega (arith, st .pre)) (st .pre .in-table),
-    )
+    let b = c .before .before .before .before .before in
+    let r = start b .pre in
+    (simp length-take (omega arith), streaks-inside r (streak-front r _ (b .copy .ensures)) (4 * start b .args .n) (omega (arith, r)))
 
 slice-aggregate-gather-2 : tie.Need-slice-aggregate-gather-2
 slice-aggregate-gather-2 c = sym (length-take-le _ _ (omega arith))
 
 gather-requires-2 : tie.Need-gather-requires-2
 gather-requires-2 c κs =
-    let st = c .before .before .before .before .before .before .before .before .before .before .before .before .before .before .before .before .before .before in
-    let n = st .args .n in
-    let s = st .args .k .streaks in
-    let work = st .args .work .now in (
-      simp length-take (omega arith),
-      within-table (3 * n) s n work _ (part 0 n work) (streak-front n work _ _ (omega (arith, st .pre)) (c .before .before .before .before .before .before .before .before .before .before .before .copy .ensures)) (length-part 0 n work (omega (arith, st .pre))) (omega (arith, st .pre)) (st .pre .in-table),
-    )
+    let b = copied (c .before .before .before .before .before) in
+    let r = start b .pre in
+    (simp length-take (omega arith), streaks-inside r (streak-front r _ (b .copy .ensures)) (3 * start b .args .n) (omega (arith, r)))
 
 returns : tie.Need-returns
 returns c =
-    let st = c .before .before .before .before .before .before .before .before .before .before .before .before .before .before .before .before .before .before .before .before .before in
-    let n = st .args .n in
-    let s = st .args .k .streaks in
-    let work = st .args .work .now in
-    let f = streak-front n work _ _ (omega (arith, st .pre)) (c .before .before .before .before .before .before .before .before .before .before .before .before .before .before .copy .ensures) in
+    let g = c .before .before .before .before .before .before .before .before in
+    let b = copied g in
+    let a = start b .args in
+    let f = streak-front (start b .pre) _ (b .copy .ensures) in
     record {
-      streaks = c .before .before .before .before .before .before .before .before .before .before .before .before .before .before .copy .ensures ∙ ap (λ (xs : List ℕ). over xs (st .args .streak .now)) (lent-front n work);
-      places = looked-up (4 * n) s work _ (part 0 n work) _ _ f (c .before .before .before .before .before .before .before .before .gather .ensures);
-      patterns = looked-up (3 * n) s work _ (part 0 n work) _ _ f (c .before .before .gather2 .ensures);
+      streaks = rw (lent-front (a .n) (a .work .now)) at (b .copy .ensures);
+      places = looked-up (4 * a .n) (a .k .streaks) (a .work .now) f _ (g .gather .ensures);
+      patterns = looked-up (3 * a .n) (a .k .streaks) (a .work .now) f _ (c .before .before .gather2 .ensures);
     }
 
 pub spread-patterns-spec : {M : Type 1} → statement M

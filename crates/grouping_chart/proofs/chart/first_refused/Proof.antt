@@ -26,17 +26,17 @@ loop-holds c = record { within = omega arith; same = refl }
 
 returns : tie.Need-returns Inv-loop μ-loop
 returns c =
-    let at-loop = c .before .before .before .before .before .before .before .before in
-    first-here _ _ _ _ (at-loop .loop .at .0) _ (at-loop .before .before .before .before .before .pre) _ (omega arith) (c .before .object-refusal .ensures) (c .if2 .taken)
-    ∙ at-loop .loop .inv .same
+    let t = c .before .before .before .before .before .before .before .before in
+    let same = t .before .before .before .before .before .pre in
+    first-here _ _ _ _ (t .loop .at .0) _ same _ (omega arith) (c .before .object-refusal .ensures) (c .if2 .taken) ∙ t .loop .inv .same
 
 loop-again : tie.Need-loop-again Inv-loop μ-loop
 loop-again c =
-    let at-loop = c .before .before .before .before .before .before .before .before in
+    let t = c .before .before .before .before .before .before .before .before in
+    let same = t .before .before .before .before .before .pre in
     record {
       within = omega arith;
-      same = sym (first-later _ _ _ _ (at-loop .loop .at .0) _ (at-loop .before .before .before .before .before .pre) _ (omega arith) (c .before .object-refusal .ensures) (c .if2 .left))
-          ∙ at-loop .loop .inv .same;
+      same = sym (first-later _ _ _ _ (t .loop .at .0) _ same _ (omega arith) (c .before .object-refusal .ensures) (c .if2 .left)) ∙ t .loop .inv .same;
     }
 
 returns-2 : tie.Need-returns-2 Inv-loop μ-loop

@@ -8,7 +8,9 @@ use Rattle.grouping_chart.proofs.good.all_good.Tie as tie
 
 returns : tie.Need-returns
 unfolding allGood ofBits neg
-returns c = λ t. c .before .before .before .kinds-good .ensures t && (c .before .before .all-within .ensures t && (c .before .all-within2 .ensures t && c .all-within3 .ensures t))
+returns c = λ t.
+    c .before .before .before .kinds-good .ensures t
+    && (c .before .before .all-within .ensures t && (c .before .all-within2 .ensures t && c .all-within3 .ensures t))
 
 pub all-good-spec : {M : Type 1} → statement M
 all-good-spec =

@@ -1,5 +1,4 @@
 -- The invariant: what is found so far, with the test of all kinds that are left, is the test of all.
-use mathlib.Core.Path.{refl}
 use Prim.Native.Nat.{_-_}
 use lib.ListN.{length}
 use Rattle.grouping_chart.specs.Passes.{kindGood}
@@ -18,7 +17,7 @@ loop-holds : tie.Need-loop-holds Inv-loop μ-loop
 loop-holds c = tested-none _ _
 
 loop-again : tie.Need-loop-again Inv-loop μ-loop
-loop-again c = tested-next 0 (c .before .before .loop .inv) (omega arith) refl
+loop-again c = tested-next 0 (c .before .before .before .loop .inv) (omega arith) (c .kind-good .ensures)
 
 returns : tie.Need-returns Inv-loop μ-loop
 returns c = tested-all (c .before .loop .inv) (omega arith)
@@ -26,4 +25,13 @@ returns c = tested-all (c .before .loop .inv) (omega arith)
 pub kinds-good-spec : {M : Type 1} → statement M
 kinds-good-spec =
     tie.close
-    (tie.spec Inv-loop μ-loop loop-holds (λ c. omega arith) (λ c. omega arith) (λ c. omega arith) loop-again returns)
+    (tie.spec
+    Inv-loop
+    μ-loop
+    loop-holds
+    (λ c. omega arith)
+    (λ c κs. tt)
+    (λ c. omega arith)
+    (λ c. omega arith)
+    loop-again
+    returns)
