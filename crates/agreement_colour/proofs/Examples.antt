@@ -17,7 +17,7 @@ use Rattle.grouping_color.specs.MonoStreak.{continues, opensStreak, streakMarks
 use Rattle.grouping_color.specs.AlternatingMonoPattern.{opensPattern, patternMarks, coupledAt, coupled}
 use Rattle.grouping_color.specs.Preprocessor.{patternsOpen, firstLengths, streakCounts, patternTypes, coupledPatterns, hitsOpen, alternatingOf, hitOf}
 use Rattle.evaluator_values.specs.Colour.{colourAt}
-use Rattle.evaluator_calls.specs.Stretch.{meanOf}
+use Rattle.evaluator_calls.specs.Stretch.{stretchRefusal, meanOf}
 use Rattle.agreement.specs.CommonTail.{CommonTail}
 use Rattle.agreement.specs.Landmark.{Landmark}
 use Rattle.agreement_colour.specs.ColourClaim.{Settled, ColourClaim}
@@ -93,5 +93,5 @@ module _ (opening : List ℕ) (before ratios : List Float) (e : length before �
   -- and the stretch of these two objects has the mean of the tail alone
   pub any-stretch : meanOf (baseSettings .limit) (baseSettings .tolerance) tail ratios 37 39
       ≡ meanOf (baseSettings .limit) (baseSettings .tolerance) (opening ++ tail) (before ++ ratios) (length opening + 37) (length opening + 39)
-  any-stretch =
-      claim .mean 37 39 (length opening + 37) (length opening + 39) settled (record { some = omega arith; inside = omega arith }) (omega (arith, long)) (omega (arith, long))
+  unfolding stretchRefusal
+  any-stretch = claim .mean 37 39 (length opening + 37) (length opening + 39) settled refl (omega (arith, long)) (omega (arith, long))

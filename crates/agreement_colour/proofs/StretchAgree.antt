@@ -7,7 +7,8 @@ use lib.ListN.{length, getD}
 use lib.Ieee.{Float}
 use Rattle.grouping_color.specs.Preprocessor.{hitOf}
 use Rattle.evaluator_values.specs.Colour.{colourAt}
-use Rattle.evaluator_calls.specs.Stretch.{Stretch, meanOf, meanTenths}
+use Rattle.evaluator_calls.specs.Stretch.{GoodStretch, meanOf, meanTenths}
+use Rattle.evaluator_calls.proofs.StretchCases.{Lies, good-lies, lies-good}
 use Rattle.evaluator_calls.proofs.AlikeLaws.{mean-alike, tenths-alike}
 use Rattle.agreement.specs.CommonTail.{Counterparts, CommonTail}
 use Rattle.agreement.specs.Agreement.{Agree}
@@ -31,18 +32,21 @@ module _ {limit : ℕ} {kinds : List ℕ} {a g : ℕ} {kinds′ : List ℕ} {b h
         (value-agree r tolerance ratios ratios′ m c late)
 
     -- ---- the stretch from s to e, whose first object is of the M-th hit pattern or a later one
-    module _ (s e s′ e′ : ℕ) (after : a ≤ s) (x : Stretch kinds s e) (from : Counterparts kinds kinds′ s s′) (to : Counterparts kinds kinds′ e e′)
+    module _ (s e s′ e′ : ℕ) (after : a ≤ s) (x : GoodStretch kinds s e) (from : Counterparts kinds kinds′ s s′) (to : Counterparts kinds kinds′ e e′)
         (settled : g + limit ≤ getD (hitOf kinds) s 0 + 1) where
-      pub stretch-agree : Stretch kinds′ s′ e′
-      stretch-agree = record { some = omega (arith, x .some); inside = omega (arith, x .inside) }
+      lies : Lies kinds s e
+      lies = good-lies kinds s e x
+
+      pub stretch-agree : GoodStretch kinds′ s′ e′
+      stretch-agree = lies-good kinds′ s′ e′ (record { some = omega (arith, lies); inside = omega (arith, lies) })
 
       same-values : (i : ℕ) → i < e - s → colourAt limit tolerance kinds ratios (s + i) ≡ colourAt limit tolerance kinds′ ratios′ (s′ + i)
       same-values i k =
-          let l : s + i < length kinds = omega (arith, x .inside) in
+          let l : s + i < length kinds = omega (arith, lies) in
           colour-at (s + i) (s′ + i) (omega arith) (omega arith) l (omega (arith, hit-rises kinds s (s + i) (omega arith) l))
 
       same-size : e - s ≡ e′ - s′
-      same-size = omega (arith, x .some)
+      same-size = omega (arith, lies)
 
       pub mean-agree : meanOf limit tolerance kinds ratios s e ≡ meanOf limit tolerance kinds′ ratios′ s′ e′
       mean-agree = mean-alike limit tolerance kinds ratios kinds′ ratios′ s e s′ e′ x stretch-agree same-size same-values

@@ -10,7 +10,7 @@ use Rattle.grouping_chart.specs.Settings.{Settings}
 use Rattle.grouping_encode.specs.Encode as encode
 use Rattle.grouping_encode.specs.Encode.{encodeOutcome}
 use Rattle.evaluator_values.specs.Colour.{isFirst, valuesOf}
-use Rattle.evaluator_calls.specs.Stretch.{Stretch}
+use Rattle.evaluator_calls.specs.Stretch.{GoodStretch}
 use Rattle.evaluator_calls.specs.Calls.{Memory, chartMean, chartTenths, colourOutcome, stretchOutcome}
 use Rattle.evaluator_calls.specs.declared.Stretching.the-variants.{Done}
 use Rattle.agreement.specs.CommonTail.{Counterparts, lastOf}
@@ -44,7 +44,7 @@ pub record CallsClaim (s : Settings) (c c′ : Chart) (lent lent′ : Memory) (p
   pub written : (i i′ : ℕ) → Settled (s .limit) (c .kinds) position i → Counterparts (c .kinds) (c′ .kinds) i i′
       → getD (colourOutcome s c lent .memory .value) i nan ≡ getD (colourOutcome s c′ lent′ .memory .value) i′ nan
   -- stretch answers a mean and its tenths, no refusal,
-  pub done : (a b : ℕ) → Stretch (c .kinds) a b → stretchOutcome s c a b lent .answer ≡ Done (chartMean s c a b) (chartTenths s c a b)
+  pub done : (a b : ℕ) → GoodStretch (c .kinds) a b → stretchOutcome s c a b lent .answer ≡ Done (chartMean s c a b) (chartTenths s c a b)
   -- and the same ones for the counterpart of a stretch whose objects are all of the M-th hit pattern or later ones
-  pub stretch : (a b a′ b′ : ℕ) → Settled (s .limit) (c .kinds) position a → Stretch (c .kinds) a b
+  pub stretch : (a b a′ b′ : ℕ) → Settled (s .limit) (c .kinds) position a → GoodStretch (c .kinds) a b
       → Counterparts (c .kinds) (c′ .kinds) a a′ → Counterparts (c .kinds) (c′ .kinds) b b′ → stretchOutcome s c a b lent .answer ≡ stretchOutcome s c′ a′ b′ lent′ .answer

@@ -11,7 +11,7 @@ use lib.ListN.{length, getD}
 use lib.Ieee.{Float}
 use Rattle.grouping_color.specs.Preprocessor.{hitOf, intervalOf}
 use Rattle.evaluator_values.specs.Colour.{isFirst, colourAt}
-use Rattle.evaluator_calls.specs.Stretch.{Stretch, meanOf, meanTenths}
+use Rattle.evaluator_calls.specs.Stretch.{GoodStretch, meanOf, meanTenths}
 use Rattle.agreement.specs.CommonTail.{Counterparts}
 
 -- object i is of the M-th hit pattern after the landmark or of a later one: hit patterns are numbered in order, and the first after the landmark opens at object `position`
@@ -46,10 +46,10 @@ pub record ColourClaim (limit : ℕ) (tolerance : Float) (kinds : List ℕ) (rat
   -- every later object is there too, so that a stretch lies wholly there when its first object does
   pub onwards : (i j : ℕ) → Settled limit kinds position i → i ≤ j → j < length kinds → Settled limit kinds position j
   -- a stretch from a to b, b not included, that is not refused has a counterpart that is not refused,
-  pub stretch : (a b a′ b′ : ℕ) → Settled limit kinds position a → Stretch kinds a b → Counterparts kinds kinds′ a a′ → Counterparts kinds kinds′ b b′ → Stretch kinds′ a′ b′
+  pub stretch : (a b a′ b′ : ℕ) → Settled limit kinds position a → GoodStretch kinds a b → Counterparts kinds kinds′ a a′ → Counterparts kinds kinds′ b b′ → GoodStretch kinds′ a′ b′
   -- its counterpart's mean
-  pub mean : (a b a′ b′ : ℕ) → Settled limit kinds position a → Stretch kinds a b → Counterparts kinds kinds′ a a′ → Counterparts kinds kinds′ b b′
+  pub mean : (a b a′ b′ : ℕ) → Settled limit kinds position a → GoodStretch kinds a b → Counterparts kinds kinds′ a a′ → Counterparts kinds kinds′ b b′
       → meanOf limit tolerance kinds ratios a b ≡ meanOf limit tolerance kinds′ ratios′ a′ b′
   -- and tenths
-  pub tenths : (a b a′ b′ : ℕ) → Settled limit kinds position a → Stretch kinds a b → Counterparts kinds kinds′ a a′ → Counterparts kinds kinds′ b b′
+  pub tenths : (a b a′ b′ : ℕ) → Settled limit kinds position a → GoodStretch kinds a b → Counterparts kinds kinds′ a a′ → Counterparts kinds kinds′ b b′
       → meanTenths limit tolerance kinds ratios a b ≡ meanTenths limit tolerance kinds′ ratios′ a′ b′

@@ -7,11 +7,13 @@ use lib.Seq.{ext-getD}
 use lib.Ieee.{Float, nan}
 use Rattle.numeric.specs.Tenths.{tenthsOf}
 use Rattle.evaluator_values.specs.Colour.{colourAt}
-use Rattle.evaluator_calls.specs.Stretch.{Stretch, stretchValues, averageOf, meanOf, meanTenths}
+use Rattle.evaluator_calls.specs.Stretch.{GoodStretch, stretchValues, averageOf, meanOf, meanTenths}
 use Rattle.evaluator_calls.proofs.StretchValues.{length-stretch, stretch-value}
 
-module _ (limit : ℕ) (tolerance : Float) (kinds : List ℕ) (ratios : List Float) (kinds′ : List ℕ) (ratios′ : List Float) (a b a′ b′ : ℕ) (x : Stretch kinds a b) (x′ : Stretch kinds′ a′ b′)
-    (size : b - a ≡ b′ - a′) (values : (i : ℕ) → i < b - a → colourAt limit tolerance kinds ratios (a + i) ≡ colourAt limit tolerance kinds′ ratios′ (a′ + i)) where
+module _ (limit : ℕ) (tolerance : Float) (kinds : List ℕ) (ratios : List Float) (kinds′ : List ℕ) (ratios′ : List Float) (a b a′ b′ : ℕ)
+    (x : GoodStretch kinds a b) (x′ : GoodStretch kinds′ a′ b′)
+    (size : b - a ≡ b′ - a′)
+    (values : (i : ℕ) → i < b - a → colourAt limit tolerance kinds ratios (a + i) ≡ colourAt limit tolerance kinds′ ratios′ (a′ + i)) where
   made-alike : stretchValues limit tolerance kinds ratios a b ≡ stretchValues limit tolerance kinds′ ratios′ a′ b′
   made-alike =
       let l = length-stretch limit tolerance kinds ratios a b x in

@@ -13,7 +13,7 @@ use Rattle.evaluator_values.specs.Colour.{valuesOf}
 use Rattle.evaluator_values.proofs.StandingLaws.{length-values}
 use Rattle.evaluator_calls.specs.declared.Stretching.{Stretching}
 use Rattle.evaluator_calls.specs.declared.Stretching.the-variants.{Done}
-use Rattle.evaluator_calls.specs.Stretch.{Stretch}
+use Rattle.evaluator_calls.specs.Stretch.{GoodStretch}
 use Rattle.evaluator_calls.specs.Calls.{Memory, judged, filled, chartMean, chartTenths, colourOutcome, stretchOutcome}
 use Rattle.evaluator_calls.proofs.CallsLaws.{stretch-accepted, colour-done, stretch-done}
 
@@ -21,9 +21,9 @@ module _ (s : Settings) (c : Chart) (lent : Memory) (accepted : judged c lent �
   pub value-written : (i : ℕ) → i < size c → getD (colourOutcome s c lent .memory .value) i nan ≡ getD (valuesOf s c) i nan
   unfolding filled
   value-written i h =
-      ap (λ (o : Outcome _ Memory). getD (o .memory .value) i nan) (sym (colour-done s c lent (filled s c lent) accepted refl))
+      ap (λ (o : Outcome _ Memory). getD (o .memory .value) i nan) (sym (colour-done s c lent (filled s (c .kinds) (c .ratios) lent) accepted refl))
       ∙ getD-over (valuesOf s c) (lent .value) i nan (omega (arith, length-values (s .limit) (s .tolerance) (c .kinds) (c .ratios)))
 
-  pub stretch-answered : (a b : ℕ) → Stretch (c .kinds) a b → stretchOutcome s c a b lent .answer ≡ Done (chartMean s c a b) (chartTenths s c a b)
+  pub stretch-answered : (a b : ℕ) → GoodStretch (c .kinds) a b → stretchOutcome s c a b lent .answer ≡ Done (chartMean s c a b) (chartTenths s c a b)
   stretch-answered a b x =
-      sym (ap (λ (o : Outcome Stretching Memory). o .answer) (stretch-done s c lent a b _ _ (filled s c lent) (stretch-accepted _ (c .kinds) a b accepted x) refl refl refl))
+      sym (ap (λ (o : Outcome Stretching Memory). o .answer) (stretch-done s c lent a b _ _ (filled s (c .kinds) (c .ratios) lent) (stretch-accepted _ (c .kinds) a b accepted x) refl refl refl))

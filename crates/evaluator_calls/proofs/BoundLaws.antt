@@ -22,8 +22,9 @@ use Rattle.grouping_chart.specs.Settings.{Settings}
 use Rattle.grouping_chart.proofs.AcceptedLaws.{accepted-good}
 use Rattle.evaluator_values.proofs.StandingLaws.{value-of}
 use Rattle.evaluator_values.proofs.BoundLaws.{largestColour, value-bounded}
-use Rattle.evaluator_calls.specs.Stretch.{Stretch, stretchValues, sumFrom, averageOf, meanOf}
+use Rattle.evaluator_calls.specs.Stretch.{GoodStretch, stretchValues, sumFrom, averageOf, meanOf}
 use Rattle.evaluator_calls.specs.Calls.{chartMean}
+use Rattle.evaluator_calls.proofs.StretchCases.{good-lies}
 use Rattle.evaluator_calls.proofs.StretchValues.{length-stretch, stretch-value}
 
 -- ---- a sum from left to right
@@ -53,7 +54,7 @@ average-bounded B xs some few k l g =
     (sum-bounded B 0 zero64 xs (le-trans (le-of-eq (zero-add (length xs * B))) l) (leb→le 0 0 tt) g))
 
 -- ---- the mean of a stretch of an accepted chart
-module _ (s : Settings) (c : Chart) (beside : ℕ) (accepted : verdict c beside ≡ Accepted) (a b : ℕ) (x : Stretch (c .kinds) a b) where
+module _ (s : Settings) (c : Chart) (beside : ℕ) (accepted : verdict c beside ≡ Accepted) (a b : ℕ) (x : GoodStretch (c .kinds) a b) where
   -- the values that the mean is made of: some, few, and each bounded
   abbrev made : List Float
   made = stretchValues (s .limit) (s .tolerance) (c .kinds) (c .ratios) a b
@@ -62,15 +63,15 @@ module _ (s : Settings) (c : Chart) (beside : ℕ) (accepted : verdict c beside 
   length-made = length-stretch (s .limit) (s .tolerance) (c .kinds) (c .ratios) a b x
 
   made-some : 0 < length made
-  made-some = omega (arith, length-made, x .some)
+  made-some = omega (arith, length-made, good-lies (c .kinds) a b x)
 
   made-few : length made ≤ 16384
-  made-few = omega (arith, length-made, x .inside, accepted-good c beside accepted .few)
+  made-few = omega (arith, length-made, good-lies (c .kinds) a b x, accepted-good c beside accepted .few)
 
   made-bounded : (i : ℕ) → i < length made → Bounded (getD made i nan) largestColour
   made-bounded i h =
       let l : i < b - a = omega (arith, length-made) in
-      let k : a + i < size c = omega (arith, x .inside) in
+      let k : a + i < size c = omega (arith, good-lies (c .kinds) a b x) in
       subst (λ (x : Float). Bounded x largestColour)
       (value-of (s .limit) (s .tolerance) (c .kinds) (c .ratios) (a + i) k ∙ sym (stretch-value (s .limit) (s .tolerance) (c .kinds) (c .ratios) a b x i l)) (value-bounded s c beside accepted (a + i) k)
 

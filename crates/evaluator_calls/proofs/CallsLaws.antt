@@ -21,23 +21,22 @@ use Rattle.grouping_chart.proofs.RoomLaws.{roomy, long-enough, short-last}
 use Rattle.grouping_chart.specs.Settings.{Settings, Permitted}
 use Rattle.evaluator_calls.specs.declared.Colouring.the-variants as colouring
 use Rattle.evaluator_calls.specs.declared.Stretching.the-variants as stretching
-use Rattle.evaluator_calls.specs.Stretch.{stretchRefusal, Stretch}
+use Rattle.evaluator_calls.specs.Stretch.{stretchRefusal, GoodStretch}
 use Rattle.evaluator_calls.specs.Calls.{Memory, judged, filled, colourOutcome, stretchVerdict, chartMean, chartTenths, stretchOutcome}
-use Rattle.evaluator_calls.specs.Passes.{ChartRoom, Coloured}
-use Rattle.evaluator_calls.proofs.StretchCases.{stretch-good, good-stretch}
+use Rattle.evaluator_calls.specs.Passes.{ChartRoom}
 
 -- ---- the verdict on a stretch, by the number of what is refused of it
 pub stretch-refusal : (v : Verdict) (kinds : List ℕ) (a b n : ℕ) → v ≡ Accepted → n ≡ stretchRefusal kinds a b → cond (eqb n 0) Accepted (refused n) ≡ stretchVerdict v kinds a b
 unfolding stretchVerdict
 stretch-refusal v kinds a b n e f = ap (λ (k : ℕ). cond (eqb k 0) Accepted (refused k)) f ∙ sym (ap (λ (x : Verdict). stretchVerdict x kinds a b) e)
 
-pub stretch-accepted : (v : Verdict) (kinds : List ℕ) (a b : ℕ) → v ≡ Accepted → Stretch kinds a b → stretchVerdict v kinds a b ≡ Accepted
-stretch-accepted v kinds a b e x = sym (stretch-refusal v kinds a b 0 e (sym (stretch-good x)))
+pub stretch-accepted : (v : Verdict) (kinds : List ℕ) (a b : ℕ) → v ≡ Accepted → GoodStretch kinds a b → stretchVerdict v kinds a b ≡ Accepted
+stretch-accepted v kinds a b e x = sym (stretch-refusal v kinds a b 0 e (sym x))
 
 -- a chart and a stretch that are not refused
 pub record Within (v : Verdict) (kinds : List ℕ) (a b : ℕ) : Type 0 where
   pub accepted : v ≡ Accepted
-  pub stretch : Stretch kinds a b
+  pub stretch : GoodStretch kinds a b
 
 none-refused : (zero : Bool) (number : ℕ) → cond zero Accepted (refused number) ≡ Accepted → zero ≡ true
 none-refused true number e = refl
@@ -45,7 +44,7 @@ none-refused false number e = absurd (let z : _≡_ {A = ℕ} 0 1 = cc in omega 
 
 pub within-bounds : (v : Verdict) (kinds : List ℕ) (a b : ℕ) → stretchVerdict v kinds a b ≡ Accepted → Within v kinds a b
 unfolding stretchVerdict
-within-bounds Accepted kinds a b e = record { accepted = refl; stretch = good-stretch kinds a b (eqb-true _ 0 (none-refused (eqb (stretchRefusal kinds a b) 0) _ e)) }
+within-bounds Accepted kinds a b e = record { accepted = refl; stretch = eqb-true _ 0 (none-refused (eqb (stretchRefusal kinds a b) 0) _ e) }
 within-bounds (Refused number at) kinds a b e = absurd (let z : _≡_ {A = ℕ} 0 1 = cc in omega arith)
 
 -- ---- what the tests that were run say of the definition's verdict
@@ -55,36 +54,24 @@ module _ (s : Settings) (c : Chart) (m : Memory) where
       → judged c m ≡ u
   chart-judged e f g = judged-is c _ _ _ (short-last (size c) (length (m .value))) e f g
 
-  pub chart-room : Permitted s → judged c m ≡ Accepted → ChartRoom (size c) (s .limit) (c .ratios) (m .value) (m .work) (m .scratch)
+  pub chart-room : Permitted s → judged c m ≡ Accepted → ChartRoom s (c .kinds) (c .ratios) m
   chart-room p h =
       let g = accepted-good c _ h in
       let r = roomy _ (size c) _ _ (g .room) in
       let v = long-enough (size c) _ _ (r .answered) in
-      record {
-        regions = record { few = g .few; room = r .regions };
-        values = record { ratio = g .lengths .ratio; room = v .0 };
-        floats = r .floats;
-        some = omega arith;
-        small = omega arith;
-      }
+      record { permitted = p; ratio = g .lengths .ratio; values = v .0; regions = record { few = g .few; room = r .regions }; floats = r .floats }
 
-  -- the memory that the passes leave is the definition's
-  pub filled-is : (value scratch : List Float) (work : List ℕ) → Coloured (s .limit) (s .tolerance) (c .kinds) (c .ratios) (m .value) value (m .work) work (m .scratch) scratch
-      → _≡_ {A = Memory} (record { value = value; work = work; scratch = scratch }) (filled s c m)
-  unfolding filled
-  filled-is value scratch work e t = record { value = e .values t; work = e .cleared t; scratch = e .floats t }
-
-  pub colour-done : (new : Memory) → judged c m ≡ Accepted → new ≡ filled s c m → outcome colouring.Done new ≡ colourOutcome s c m
+  pub colour-done : (new : Memory) → judged c m ≡ Accepted → new ≡ filled s (c .kinds) (c .ratios) m → outcome colouring.Done new ≡ colourOutcome s c m
   unfolding colourOutcome
   colour-done new h f = answered-done _ colouring.Refused m h (λ t. outcome colouring.Done (f t))
 
   module _ (a b : ℕ) where
-    -- the same, with what `with_bounds` answered
+    -- the same, with what `stretch_verdict` answered
     pub stretch-is : {n : ℕ} {u v w : Verdict} → n ≡ shortRefusal (ltb (length (m .value)) (size c)) (size c) (length (m .work)) (length (m .scratch)) → u ≡ verdict c n
         → v ≡ stretchVerdict u (c .kinds) a b → v ≡ w → stretchVerdict (judged c m) (c .kinds) a b ≡ w
     stretch-is e f g h = ap (λ (x : Verdict). stretchVerdict x (c .kinds) a b) (chart-judged e f refl) ∙ sym g ∙ h
 
     pub stretch-done : (mean : Float) (tenths : ℤ) (new : Memory) → stretchVerdict (judged c m) (c .kinds) a b ≡ Accepted → mean ≡ chartMean s c a b → tenths ≡ chartTenths s c a b
-        → new ≡ filled s c m → outcome (stretching.Done mean tenths) new ≡ stretchOutcome s c a b m
+        → new ≡ filled s (c .kinds) (c .ratios) m → outcome (stretching.Done mean tenths) new ≡ stretchOutcome s c a b m
     unfolding stretchOutcome
     stretch-done mean tenths new h e f g = answered-done _ stretching.Refused m h (λ t. outcome (stretching.Done (e t) (f t)) (g t))

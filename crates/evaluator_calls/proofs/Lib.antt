@@ -4,7 +4,7 @@ pub mod CallsLaws
 pub mod BoundLaws
 pub mod AlikeLaws
 pub mod AnswerLaws
-mod ColouredLaws
+mod FilledLaws
 mod StretchLaws
-mod StretchCases
+pub mod StretchCases
 mod Examples

@@ -1,4 +1,4 @@
--- What is refused of a stretch, test by test, and that a stretch of which nothing is refused is a `Stretch`.
+-- What is refused of a stretch, test by test, and where a stretch lies of which nothing is refused.
 use mathlib.Core.Path.{_≡_, refl}
 use mathlib.Core.Bool.{Bool, true, false, _||_, cond}
 use mathlib.Core.List.{List}
@@ -8,7 +8,12 @@ use borrow.Author.Tests.{lt-ltb, le-ltb, le-leb, lt-leb, ltb-false, leb-false}
 use lib.Dec.{ltb, leb}
 use lib.ListN.{length}
 use Rattle.grouping_chart.proofs.RoomLaws.{either-false}
-use Rattle.evaluator_calls.specs.Stretch.{stretchRefusal, Stretch}
+use Rattle.evaluator_calls.specs.Stretch.{stretchRefusal, GoodStretch}
+
+-- a stretch has an object, and all of them are the chart's
+pub record Lies (kinds : List ℕ) (a b : ℕ) : Type 0 where
+  pub some : a < b
+  pub inside : b ≤ length kinds
 
 module _ (kinds : List ℕ) (a b : ℕ) where
   pub none-refused : b ≤ a → 9 ≡ stretchRefusal kinds a b
@@ -23,12 +28,12 @@ module _ (kinds : List ℕ) (a b : ℕ) where
   zero-of true e = absurd (omega arith)
   zero-of false e = refl
 
-  pub good-stretch : stretchRefusal kinds a b ≡ 0 → Stretch kinds a b
+  pub good-lies : GoodStretch kinds a b → Lies kinds a b
   unfolding stretchRefusal
-  good-stretch e =
+  good-lies e =
       let t = either-false _ _ (zero-of (leb b a || ltb (length kinds) b) e) in
       record { some = leb-false _ _ (t .0); inside = ltb-false _ _ (t .1) }
 
-pub stretch-good : {kinds : List ℕ} {a b : ℕ} → Stretch kinds a b → stretchRefusal kinds a b ≡ 0
-unfolding stretchRefusal
-stretch-good {kinds} {a} {b} x = rw (lt-leb b a (x .some), le-ltb (length kinds) b (x .inside))
+  pub lies-good : Lies kinds a b → GoodStretch kinds a b
+  unfolding stretchRefusal
+  lies-good x = rw (lt-leb b a (x .some), le-ltb (length kinds) b (x .inside))

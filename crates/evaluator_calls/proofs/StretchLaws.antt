@@ -15,9 +15,10 @@ use Rattle.grouping_chart.specs.Settings.{Settings, Permitted}
 use Rattle.evaluator_values.specs.Colour.{valuesOf}
 use Rattle.evaluator_values.proofs.StandingLaws.{length-values}
 use Rattle.evaluator_calls.specs.Stretch.{stretchValues, averageOf, meanOf}
-use Rattle.evaluator_calls.specs.Calls.{Memory, judged, chartMean}
-use Rattle.evaluator_calls.specs.Passes.{Coloured, StretchRoom}
+use Rattle.evaluator_calls.specs.Calls.{Memory, judged, filled, chartMean}
+use Rattle.evaluator_calls.specs.Passes.{StretchRoom}
 use Rattle.evaluator_calls.proofs.CallsLaws.{Within, chart-room}
+use Rattle.evaluator_calls.proofs.StretchCases.{Lies, good-lies}
 use Rattle.evaluator_calls.proofs.BoundLaws.{mean-tenths}
 
 -- a part that lies in what was written
@@ -28,28 +29,35 @@ part-over a n new old h r =
     (λ i k. let j : i < n = omega arith in getD-part a n (over new old) i nan j ∙ getD-over new old (a + i) nan (omega arith) ∙ sym (getD-part a n new i nan j))
 
 -- ---- an accepted stretch, after the values are filled
-module _ (s : Settings) (p : Permitted s) (c : Chart) (m : Memory) (a b : ℕ) (w : Within (judged c m) (c .kinds) a b) (value scratch : List Float) (work : List ℕ)
-    (e : Coloured (s .limit) (s .tolerance) (c .kinds) (c .ratios) (m .value) value (m .work) work (m .scratch) scratch) where
+module _ (s : Settings) (p : Permitted s) (c : Chart) (m : Memory) (a b : ℕ) (w : Within (judged c m) (c .kinds) a b) (new : Memory)
+    (e : new ≡ filled s (c .kinds) (c .ratios) m) where
   abbrev values : List Float
   values = valuesOf s c
 
   long : length values ≡ size c
   long = length-values (s .limit) (s .tolerance) (c .kinds) (c .ratios)
 
-  room : length values ≤ length (m .value)
-  room = omega (arith, long, chart-room s c m p (w .accepted) .values .room)
+  lies : Lies (c .kinds) a b
+  lies = good-lies (c .kinds) a b (w .stretch)
 
-  pub stretch-room : StretchRoom value a b
+  room : length values ≤ length (m .value)
+  room = omega (arith, long, chart-room s c m p (w .accepted) .values)
+
+  written : new .value ≡ over values (m .value)
+  unfolding filled
+  written = ap (λ (x : Memory). x .value) e
+
+  pub stretch-room : StretchRoom (new .value) a b
   stretch-room = record {
-    ordered = omega (arith, w .stretch .some);
-    inside = omega (arith, w .stretch .inside, long, room, ap length (e .values), length-over values (m .value) room);
-    few = omega (arith, w .stretch .inside, chart-room s c m p (w .accepted) .regions);
+    ordered = omega (arith, lies);
+    inside = omega (arith, lies, long, room, ap length written, length-over values (m .value) room);
+    few = omega (arith, lies, chart-room s c m p (w .accepted) .regions);
   }
 
-  pub mean-is : (mean : Float) → mean ≡ averageOf (part a (b - a) value) → mean ≡ chartMean s c a b
+  pub mean-is : (mean : Float) → mean ≡ averageOf (part a (b - a) (new .value)) → mean ≡ chartMean s c a b
   unfolding meanOf stretchValues
   mean-is mean h =
-      h ∙ ap (λ (l : List Float). averageOf (part a (b - a) l)) (e .values) ∙ ap averageOf (part-over a (b - a) values (m .value) (omega (arith, w .stretch, long)) room)
+      h ∙ ap (λ (l : List Float). averageOf (part a (b - a) l)) written ∙ ap averageOf (part-over a (b - a) values (m .value) (omega (arith, lies, long)) room)
 
-  pub mean-in-range : (mean : Float) → mean ≡ averageOf (part a (b - a) value) → InTenthsRange mean
+  pub mean-in-range : (mean : Float) → mean ≡ averageOf (part a (b - a) (new .value)) → InTenthsRange mean
   mean-in-range mean h = subst InTenthsRange (sym (mean-is mean h)) (mean-tenths s c _ (w .accepted) a b (w .stretch))

@@ -1,4 +1,5 @@
--- Document 01, "Calls and what they fill", colour and stretch: what each answers, and what every lent slice holds afterwards. Refusal 9 is tested after 1 to 7.
+-- The calls colour and stretch ("Calls and what they fill" of document 01): what each answers, and what every lent
+-- slice holds afterwards. Refusal 9 is tested after 1 to 7.
 use Prim.Native.Nat.{ℕ, _*_}
 use mathlib.Core.Bool.{cond}
 use mathlib.Core.List.{List, [], _∷_}
@@ -14,7 +15,7 @@ use Rattle.grouping_chart.specs.Lent.{Outcome, outcome, answered, Slice, lent, 
 use Rattle.grouping_chart.specs.declared.chart.Verdict.{Verdict}
 use Rattle.grouping_chart.specs.declared.chart.Verdict.the-variants.{Accepted, Refused}
 use Rattle.grouping_chart.specs.Settings.{Settings}
-use Rattle.evaluator_values.specs.Colour.{valuesOf}
+use Rattle.evaluator_values.specs.Colour.{colourValues}
 use Rattle.evaluator_calls.specs.Stretch.{stretchRefusal, meanOf, meanTenths}
 use Rattle.evaluator_calls.specs.declared.Colouring.{Colouring}
 use Rattle.evaluator_calls.specs.declared.Colouring.the-variants as colouring
@@ -27,30 +28,36 @@ pub record Memory : Type 0 where
   pub work : List ℕ
   pub scratch : List Float
 
+abbrev pub memory : List Float → List ℕ → List Float → Memory
+memory value work scratch = record { value = value; work = work; scratch = scratch }
+
+-- as lent, and as left
 abbrev pub before : Slice Float → Slice ℕ → Slice Float → Memory
-before value work scratch = record { value = lent value; work = lent work; scratch = lent scratch }
+before value work scratch = memory (lent value) (lent work) (lent scratch)
 
 abbrev pub after : Slice Float → Slice ℕ → Slice Float → Memory
-after value work scratch = record { value = left value; work = left work; scratch = left scratch }
+after value work scratch = memory (left value) (left work) (left scratch)
 
 -- the verdict on the chart
 abbrev pub judged : Chart → Memory → Verdict
 judged c m = verdict c (beside (size c) (length (m .value) ∷ []) (length (m .work)) (length (m .scratch)))
 
--- the memory after an accepted call
-unfoldable pub filled : Settings → Chart → Memory → Memory
-filled s c m = record {
-  value = over (valuesOf s c) (m .value);
-  work = over (replicate (8 * size c) 0) (m .work);
-  scratch = over (replicate (size c) (ofBits binary64 0)) (m .scratch);
+-- the memory after an accepted call, by the chart's kinds and ratios
+unfoldable pub filled : Settings → List ℕ → List Float → Memory → Memory
+filled s kinds ratios m = record {
+  value = over (colourValues (s .limit) (s .tolerance) kinds ratios) (m .value);
+  work = over (replicate (8 * length kinds) 0) (m .work);
+  scratch = over (replicate (length kinds) (ofBits binary64 0)) (m .scratch);
 }
 
 unfoldable pub colourOutcome : Settings → Chart → Memory → Outcome Colouring Memory
-colourOutcome s c m = answered (judged c m) (outcome colouring.Done (filled s c m)) colouring.Refused m
+colourOutcome s c m =
+    answered (judged c m) (outcome colouring.Done (filled s (c .kinds) (c .ratios) m)) colouring.Refused m
 
 -- what is refused of the stretch comes after what is refused of the chart
 unfoldable pub stretchVerdict : Verdict → List ℕ → ℕ → ℕ → Verdict
-stretchVerdict Accepted kinds a b = cond (eqb (stretchRefusal kinds a b) 0) Accepted (refused (stretchRefusal kinds a b))
+stretchVerdict Accepted kinds a b =
+    cond (eqb (stretchRefusal kinds a b) 0) Accepted (refused (stretchRefusal kinds a b))
 stretchVerdict (Refused number place) kinds a b = Refused number place
 
 -- the mean of a stretch of the chart, and its tenths
@@ -62,4 +69,6 @@ chartTenths s c a b = meanTenths (s .limit) (s .tolerance) (c .kinds) (c .ratios
 
 unfoldable pub stretchOutcome : Settings → Chart → ℕ → ℕ → Memory → Outcome Stretching Memory
 stretchOutcome s c a b m =
-    answered (stretchVerdict (judged c m) (c .kinds) a b) (outcome (stretching.Done (chartMean s c a b) (chartTenths s c a b)) (filled s c m)) stretching.Refused m
+    answered (stretchVerdict (judged c m) (c .kinds) a b)
+    (outcome (stretching.Done (chartMean s c a b) (chartTenths s c a b)) (filled s (c .kinds) (c .ratios) m))
+    stretching.Refused m

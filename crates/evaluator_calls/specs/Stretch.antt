@@ -1,6 +1,7 @@
--- Document 01, "Stretch": "For a to b, b not included: colour values summed left to right from 0.0, divided by b − a.
--- Shown in tenths: the largest whole number not above ten times that mean, exactly." And which stretches are refused.
-use Prim.Native.Nat.{ℕ, _-_, _≤_, _<_}
+-- The mean of a stretch, which has object a and not object b ("Stretch" of document 01): its colour values added from
+-- left to right and divided by how many they are; the whole tenths of it, rounded down; and which stretches are refused.
+use mathlib.Core.Path.{_≡_}
+use Prim.Native.Nat.{ℕ, _-_}
 use mathlib.Core.Bool.{_||_, cond}
 use mathlib.Core.List.{List, [], _∷_}
 use lib.Dec.{ltb, leb}
@@ -12,14 +13,13 @@ use Rattle.numeric.specs.Tenths.{tenthsOf}
 use Rattle.grouping_marks.specs.Over.{part}
 use Rattle.evaluator_values.specs.Colour.{colourValues}
 
--- the number of what is refused of a stretch, or 0: "9 stretch with a ≥ b or b > n"
+-- the number of what is refused of a stretch, or 0: 9 where it is empty or ends past the chart
 unfoldable pub stretchRefusal : List ℕ → ℕ → ℕ → ℕ
 stretchRefusal kinds a b = cond (leb b a || ltb (length kinds) b) 9 0
 
 -- a stretch of which nothing is refused, of a chart with these kinds
-pub record Stretch (kinds : List ℕ) (a b : ℕ) : Type 0 where
-  pub some : a < b
-  pub inside : b ≤ length kinds
+abbrev pub GoodStretch : List ℕ → ℕ → ℕ → Type 0
+GoodStretch kinds a b = stretchRefusal kinds a b ≡ 0
 
 -- the values that a stretch's mean is made of
 unfoldable pub stretchValues : ℕ → Float → List ℕ → List Float → ℕ → ℕ → List Float

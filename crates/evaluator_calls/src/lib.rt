@@ -1,14 +1,14 @@
 // The calls colour and stretch: one f64 an object, and the mean of a stretch of them.
 ghost use mathlib.Core.Path.{_≡_};
-ghost use lib.ListN.{length};
 ghost use Rattle.grouping_chart.specs.Settings.{baseSettings};
-ghost use Rattle.grouping_chart.specs.Lent.{outcome, chart};
-ghost use Rattle.evaluator_calls.specs.Calls.{before, after, colourOutcome, stretchOutcome};
-ghost use Rattle.evaluator_calls.specs.Passes.{ChartRoom, Coloured};
+ghost use Rattle.grouping_chart.specs.Lent.{outcome, chart, lent};
+ghost use Rattle.evaluator_calls.specs.Calls.{memory, before, after, filled, colourOutcome, stretchOutcome};
+ghost use Rattle.evaluator_calls.specs.Passes.{ChartRoom};
 use grouping_chart::chart::Verdict;
 use grouping_chart::object::ObjectIndex;
 use grouping_chart::room::short_refusal;
 use grouping_chart::settings;
+use grouping_chart::settings::Settings;
 use grouping_marks::fill;
 
 pub mod mean;
@@ -29,19 +29,18 @@ pub enum Stretching {
 fn fill_chart(
     kind: &[u8],
     ratio: &[f64],
-    limit: u16,
-    tolerance: f64,
+    s: Settings,
     value: &mut [f64],
     work: &mut [u16],
     scratch: &mut [f64],
 )
-    requires { ⌜ ChartRoom (length (now kind)) limit (now ratio) (now value) (now work) (now scratch) ⌝ }
-    ensures { λ r. ⌜ Coloured limit tolerance (now (kind .entry)) (now (ratio .entry)) (now (value .entry)) (now (value .exit)) (now (work .entry)) (now (work .exit)) (now (scratch .entry)) (now (scratch .exit)) ⌝ }
+    requires { ⌜ ChartRoom s (now kind) (now ratio) (memory (now value) (now work) (now scratch)) ⌝ }
+    ensures { λ r. ⌜ after value work scratch ≡ filled s (lent kind) (lent ratio) (before value work scratch) ⌝ }
 {
     let n = kind.len();
-    let k = grouping_preprocessor::encode_colors(kind, work, limit);
+    let k = grouping_preprocessor::encode_colors(kind, work, s.limit as u16);
     let table = numeric::logistic::table();
-    evaluator_values::fill_values(&table, kind, ratio, work, k, tolerance, value);
+    evaluator_values::fill_values(&table, kind, ratio, work, k, s.tolerance, value);
     fill::clear(work, 8 * n);
     fill::clear_floats(scratch, n);
 }
@@ -59,13 +58,11 @@ pub fn colour(
         ≡ colourOutcome baseSettings (chart kind start delta ratio) (before value work scratch) ⌝ }
 {
     let n = kind.len();
-    let beside = short_refusal(value.len() < n, n, work.len(), scratch.len());
-    match grouping_chart::chart::check(kind, start, delta, ratio, beside) {
+    let refusal = short_refusal(value.len() < n, n, work.len(), scratch.len());
+    match grouping_chart::chart::check(kind, start, delta, ratio, refusal) {
         Verdict::Refused(number, place) => Colouring::Refused(number, place),
         Verdict::Accepted => {
-            let s = settings::base();
-            let m = s.limit as u16;
-            fill_chart(kind, ratio, m, s.tolerance, value, work, scratch);
+            fill_chart(kind, ratio, settings::base(), value, work, scratch);
             Colouring::Done
         }
     }
@@ -86,14 +83,12 @@ pub fn stretch(
         ≡ stretchOutcome baseSettings (chart kind start delta ratio) a b (before value work scratch) ⌝ }
 {
     let n = kind.len();
-    let beside = short_refusal(value.len() < n, n, work.len(), scratch.len());
-    let verdict = grouping_chart::chart::check(kind, start, delta, ratio, beside);
-    match mean::with_bounds(verdict, kind, a, b) {
+    let refusal = short_refusal(value.len() < n, n, work.len(), scratch.len());
+    let verdict = grouping_chart::chart::check(kind, start, delta, ratio, refusal);
+    match mean::stretch_verdict(verdict, kind, a, b) {
         Verdict::Refused(number, place) => Stretching::Refused(number, place),
         Verdict::Accepted => {
-            let s = settings::base();
-            let m = s.limit as u16;
-            fill_chart(kind, ratio, m, s.tolerance, value, work, scratch);
+            fill_chart(kind, ratio, settings::base(), value, work, scratch);
             let mean = mean::mean(value, a, b);
             Stretching::Done(mean, numeric::tenths::tenths(mean))
         }

@@ -25,7 +25,7 @@ fn stretch_refusal(kind: &[u8], a: usize, b: usize) -> u8
 }
 
 // The verdict on a stretch: the chart's own refusal, else the stretch's.
-pub fn with_bounds(verdict: Verdict, kind: &[u8], a: usize, b: usize) -> Verdict
+pub fn stretch_verdict(verdict: Verdict, kind: &[u8], a: usize, b: usize) -> Verdict
     ensures { λ r. ⌜ r ≡ stretchVerdict verdict (now (kind .entry)) a b ⌝ }
 {
     match verdict {

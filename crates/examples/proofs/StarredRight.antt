@@ -13,7 +13,7 @@ use Rattle.grouping_marks.specs.Scan.{scan, after, tabulate, gathered}
 use Rattle.grouping_marks.specs.Marks.{opened, groupCount, groupNumbers, placeByMark, groupPlaces, sizesFrom, groupSizes, firstsFrom, groupFirsts}
 use Rattle.grouping_marks.specs.Parted.{parted}
 use Rattle.grouping_chart.specs.Object.{isNote, notes, noteIdx, noteBefore, previousNote}
-use Rattle.grouping_chart.specs.Notes.{notesFrom, noteObjects, noteDeltas}
+use Rattle.grouping_interval.specs.Notes.{notesFrom, noteObjects, ofNotes}
 use Rattle.grouping_chart.specs.Chart.{equallyLong}
 use Rattle.grouping_chart.specs.Room.{anyShort, shortRefusal}
 use Rattle.grouping_chart.specs.Lent.{answered}

@@ -20,15 +20,15 @@ use Rattle.grouping_chart.proofs.RoomLaws.{roomy, long-enough}
 use Rattle.grouping_interval.specs.IntervalGrouping.{intervalMarks}
 use Rattle.grouping_same_rhythm.proofs.MadeLaws.{rhythmMarks-made}
 use Rattle.grouping_rhythm.specs.declared.Grouping.the-variants as answer
-use Rattle.grouping_rhythm.specs.declared.tables.Counts.{Counts}
-use Rattle.grouping_rhythm.specs.Rhythm.{Memory, judged, noteGroup, groupOf, filled, rhythmOutcome}
-use Rattle.grouping_rhythm.specs.Passes.{AnswerRoom, Grouped}
+use Rattle.grouping_rhythm.specs.declared.tables.GroupCounts.{GroupCounts}
+use Rattle.grouping_rhythm.specs.Rhythm.{Memory, judged, noteGroup, groupOf, countsOf, filled, counted, rhythmOutcome}
+use Rattle.grouping_rhythm.specs.Passes.{RhythmRoom}
 use Rattle.grouping_rhythm.proofs.PerNoteLaws.{length-per-note, per-note-at}
 
 -- ---- each case leaves its outcome
 module _ (s : Settings) (c : Chart) (m : Memory) where
-  pub answer-room : judged c m ≡ Accepted → AnswerRoom (c .kinds) (c .starts) (c .deltas) (m .group) (m .pattern) (m .work) (m .scratch)
-  answer-room h =
+  pub rhythm-room : judged c m ≡ Accepted → RhythmRoom (c .kinds) (c .starts) (c .deltas) m
+  rhythm-room h =
       let g = accepted-good c _ h in
       let r = roomy _ (size c) _ _ (g .room) in
       let first = long-enough (size c) _ _ (r .answered) in
@@ -40,15 +40,12 @@ module _ (s : Settings) (c : Chart) (m : Memory) where
       }
 
   -- the counts and the memory that the passes leave are the definition's
-  pub rhythm-done : (group pattern work : List ℕ) (scratch : List Float) (k : Counts) → judged c m ≡ Accepted
-      → Grouped (s .margin) (c .kinds) (c .starts) (c .deltas) (m .group) group (m .pattern) pattern (m .work) work (m .scratch) scratch k
-      → outcome (answer.Done (k .groups) (k .patterns)) (record { group = group; pattern = pattern; work = work; scratch = scratch }) ≡ rhythmOutcome s c m
-  unfolding rhythmOutcome filled
-  rhythm-done group pattern work scratch k h e =
-      answered-done _ answer.Refused m h
-      (λ t. outcome (answer.Done (e .counted t) (e .patterned t)) (record { group = e .groups t; pattern = e .patterns t; work = e .cleared t; scratch = e .floats t }))
+  pub rhythm-done : (k : GroupCounts) (new : Memory) → judged c m ≡ Accepted → k ≡ countsOf (s .margin) (c .kinds) (c .starts) (c .deltas)
+      → new ≡ filled s (c .kinds) (c .starts) (c .deltas) m → outcome (counted k) new ≡ rhythmOutcome s c m
+  unfolding rhythmOutcome
+  rhythm-done k new h e f = answered-done _ answer.Refused m h (λ t. outcome (counted (e t)) (f t))
 
-  left : judged c m ≡ Accepted → filled s c m ≡ rhythmOutcome s c m .memory
+  left : judged c m ≡ Accepted → filled s (c .kinds) (c .starts) (c .deltas) m ≡ rhythmOutcome s c m .memory
   unfolding rhythmOutcome
   left h = ap (λ (o : Outcome _ Memory). o .memory) (answered-done _ answer.Refused m h refl)
 

@@ -1,5 +1,5 @@
--- The loops that spread numbers over objects and that look numbers up. The invariant of the first: the first i objects have their numbers, and `next` counts the notes among them;
--- of the second: the first i numbers are looked up, and the table, which lies behind them, is as it was.
+-- The loops that spread numbers over objects and that look numbers up. The invariant of the first: the first i objects have their numbers, and `next` counts the notes
+-- among them; of the second: the first i numbers are looked up, and the table, which lies behind them, is as it was.
 use mathlib.Core.Path.{_≡_, sym, ap, _∙_}
 use mathlib.Core.Logic.{inr}
 use mathlib.Core.Bool.{Bool, true, false, cond}
@@ -14,7 +14,7 @@ use Rattle.grouping_marks.proofs.OverLaws.{length-part, getD-part}
 use Rattle.grouping_marks.proofs.FillLaws.{Fill, fill-start, fill-turn, fill-start-front, fill-turn-front, fill-end-front, fill-read, fill-unread, length-gathered, getD-gathered}
 use Rattle.grouping_chart.specs.Object.{isNote, noteIdx}
 use Rattle.grouping_chart.proofs.ObjectLaws.{seen₀, seenAfter, seen-few, notes-turn, noteIdx-seen}
-use Rattle.grouping_rhythm.specs.Rhythm.{perNote}
+use Rattle.grouping_rhythm.specs.Rhythm.{byObject}
 use Rattle.grouping_rhythm.specs.Passes.{SpreadRoom, LookRoom}
 use Rattle.grouping_rhythm.proofs.PerNoteLaws.{note-below, length-per-note, per-note-at, same-where}
 
@@ -29,7 +29,7 @@ no-number b x e = rw e
 -- ---- numbers spread over objects
 
 pub record Spread (kinds numbers out₀ out : List ℕ) (next i : ℕ) : Type 0 where
-  pub fill : Fill (perNote (λ (j : ℕ). getD numbers j 0) kinds) (length kinds) 0 out₀ out i
+  pub fill : Fill (byObject numbers kinds) (length kinds) 0 out₀ out i
   pub passed : next ≡ seenAfter seen₀ (take i kinds) .notes
 
 pub spread-start : (kinds numbers out : List ℕ) → SpreadRoom kinds numbers out → Spread kinds numbers out out 0 0
@@ -57,7 +57,7 @@ module _ {kinds numbers out₀ out : List ℕ} {next i : ℕ} (x : Spread kinds 
     passed = notes-turn kinds i h next after (x .passed) e;
   }
 
-  pub spread-end : length kinds ≤ i → out ≡ over (perNote (λ (j : ℕ). getD numbers j 0) kinds) out₀
+  pub spread-end : length kinds ≤ i → out ≡ over (byObject numbers kinds) out₀
   spread-end h = fill-end-front (x .fill) h
 
 -- ---- numbers looked up

@@ -1,15 +1,16 @@
--- The three passes over a chart's notes and groups, one after the other: each leaves the regions of those before it, so that at the end each note's group and each group's pattern are there.
+-- The three passes over a chart's notes and groups, one after the other: each leaves the regions of those before it, so that at the end each note's group and each
+-- group's pattern are there.
 use mathlib.Core.Path.{_≡_, sym, ap, _∙_, subst}
-use mathlib.Core.List.{List}
+use mathlib.Core.List.{List, [], _∷_}
 use Prim.Native.Nat.{ℕ, _*_, _≤_, _<_}
 use native.Mathlib.Omega.{arith}
 use lib.ListN.{length, take, drop, getD}
 use lib.Seq.{length-take-le}
 use lib.Ieee.{Float}
-use Rattle.grouping_marks.specs.Over.{over, put, part}
+use Rattle.grouping_marks.specs.Over.{put, part, write, written}
 use Rattle.grouping_marks.specs.Marks.{groupCount, groupNumbers}
 use Rattle.grouping_marks.specs.Parted.{parted}
-use Rattle.grouping_marks.proofs.OverLaws.{length-over, front, drop-over, put-front, length-put, drop-put, part-put-same, part-put-before}
+use Rattle.grouping_marks.proofs.OverLaws.{length-over, front, put-front, length-put, part-put-same, part-put-before}
 use Rattle.grouping_marks.proofs.MarksLaws.{count-le, length-numbers}
 use Rattle.grouping_marks.proofs.PartedLaws.{length-parted}
 use Rattle.grouping_chart.specs.Object.{notes}
@@ -22,8 +23,10 @@ use Rattle.grouping_interval.specs.Notes.{NotesListed}
 use Rattle.grouping_same_rhythm.specs.SameRhythm.{firstsOf, startsOf, intervalsOf, rhythmMarks, groupObjects, groupIntervals}
 use Rattle.grouping_same_rhythm.proofs.MadeLaws.{rhythmMarks-made, groupObjects-made, groupIntervals-made}
 use Rattle.grouping_same_rhythm.proofs.GroupsLaws.{length-starts, length-intervals, length-firsts, firsts-inside}
-use Rattle.grouping_rhythm.specs.Rhythm.{groupsIn, patternGroupsIn}
-use Rattle.grouping_rhythm.specs.Passes.{NumbersRoom, NotesNumbered, FirstsThere, GroupsNumbered, TablesRoom, workWrites, scratchWrites, Tabled}
+use Rattle.grouping_rhythm.specs.Rhythm.{groupsIn, patternGroupsIn, countsOf}
+use Rattle.grouping_rhythm.specs.Passes.{NumbersRoom, NotesNumbered, FirstsThere, GroupsNumbered, TablesRoom, workWrites, scratchWrites}
+use Rattle.grouping_rhythm.specs.declared.tables.GroupCounts.{GroupCounts}
+use Rattle.grouping_rhythm.proofs.WrittenLaws.{Ends, length-written, drop-written}
 use Rattle.grouping_rhythm.proofs.RegionLaws.{length-group-numbers}
 
 -- ---- how many there are
@@ -66,12 +69,19 @@ module _ (margin : Float) (kinds : List ℕ) (deltas : List Float) (e : length d
 pub record Noted (margin : Float) (kinds : List ℕ) (deltas : List Float) (work₀ work : List ℕ) (scratch₀ scratch : List Float) (m groups : ℕ) : Type 0 where
   pub noted : m ≡ length (notes kinds)
   pub grouped : groups ≡ groupsIn margin kinds deltas
-  pub memory : work ≡ put (2 * length kinds) (groupNumbers (rhythmMarks margin kinds deltas)) (put (length kinds) (firstsOf (groupObjects margin kinds deltas)) (put 0 (noteObjects kinds) work₀))
+  pub memory : work
+      ≡ put (2 * length kinds) (groupNumbers (rhythmMarks margin kinds deltas))
+      (put (length kinds) (firstsOf (groupObjects margin kinds deltas)) (put 0 (noteObjects kinds) work₀))
   pub scratch-memory : scratch ≡ put 0 (ofNotes kinds deltas) scratch₀
   pub firsts : part (length kinds) groups work ≡ firstsOf (groupObjects margin kinds deltas)
-  pub note-groups : part (2 * length kinds) m work ≡ groupNumbers (rhythmMarks margin kinds deltas)
   pub regions : length work ≡ length work₀
   pub floats : length scratch ≡ length scratch₀
+
+-- what the three leave: they write inside the regions, and what is read later stands in regions 2 and 3
+pub record TablesLeft (margin : Float) (kinds : List ℕ) (starts deltas : List Float) (work₀ work : List ℕ) (scratch₀ scratch : List Float) : Type 0 where
+  pub note-groups : part (2 * length kinds) (length (notes kinds)) work ≡ groupNumbers (rhythmMarks margin kinds deltas)
+  pub group-patterns : part (3 * length kinds) (groupsIn margin kinds deltas) work ≡ groupNumbers (intervalMarks margin (groupIntervals margin kinds starts deltas))
+  pub regions : length work ≡ length work₀
   pub past : drop (8 * length kinds) work ≡ drop (8 * length kinds) work₀
   pub past-floats : drop (length kinds) scratch ≡ drop (length kinds) scratch₀
 
@@ -94,8 +104,10 @@ module _ {kinds : List ℕ} {starts deltas : List Float} {work₀ : List ℕ} {s
     values-are : take m scratch₁ ≡ ofNotes kinds deltas
     values-are = ap (take m) (l .floats) ∙ front (ofNotes kinds deltas) scratch₀ m (length-of-notes kinds deltas (r .whole) ∙ sym noted-count)
 
-    objects-are : (k : ℕ) → k ≡ m → take k work₁ ≡ noteObjects kinds
-    objects-are k e = ap (take k) (l .numbers) ∙ front (noteObjects kinds) work₀ k (sym (l .count) ∙ sym e)
+    objects-are : take (length (take m scratch₁)) work₁ ≡ noteObjects kinds
+    objects-are =
+        let k : length (take m scratch₁) ≡ m = length-take-le m scratch₁ notes-lent in
+        (λ t. take (k t) (l .numbers t)) ∙ front (noteObjects kinds) work₀ m (sym (l .count))
 
     pub numbers-room : NumbersRoom (take m scratch₁) (length kinds) work₁
     numbers-room = record {
@@ -104,55 +116,48 @@ module _ {kinds : List ℕ} {starts deltas : List Float} {work₀ : List ℕ} {s
       regions = omega (arith, work-same, r .regions);
     }
 
-    pub noted : {margin : Float} {work : List ℕ} {groups : ℕ} → NotesNumbered margin (take m scratch₁) (length kinds) work₁ work groups
-        → Noted margin kinds deltas work₀ work scratch₀ scratch₁ m groups
-    noted {margin} {work} {groups} a =
-        let n : ℕ = length kinds in
-        let numbers : List ℕ = groupNumbers (rhythmMarks margin kinds deltas) in
-        let firsts : List ℕ = firstsOf (groupObjects margin kinds deltas) in
-        let mid : List ℕ = put n firsts work₁ in
-        let c : groups ≡ groupsIn margin kinds deltas = a .count ∙ ap (λ (vs : List Float). groupCount (intervalMarks margin vs)) values-are ∙ sym (groups-counted margin kinds deltas (r .whole)) in
-        let w : work ≡ put (2 * n) numbers mid =
-        a .tables
-        ∙ ap (λ (xs : List ℕ). put (2 * n) (groupNumbers (intervalMarks margin (take m scratch₁))) (put n (firstsOf (parted (intervalMarks margin (take m scratch₁)) xs)) work₁))
-        (objects-are (length (take m scratch₁)) (length-take-le m scratch₁ notes-lent))
-        ∙ ap (λ (vs : List Float). put (2 * n) (groupNumbers (intervalMarks margin vs)) (put n (firstsOf (parted (intervalMarks margin vs) (noteObjects kinds))) work₁)) values-are
-        ∙ ap (λ (ms : List ℕ). put (2 * n) (groupNumbers ms) (put n (firstsOf (parted ms (noteObjects kinds))) work₁)) (sym (rhythmMarks-made margin kinds deltas))
-        ∙ ap (λ (gs : List (List ℕ)). put (2 * n) numbers (put n (firstsOf gs) work₁)) (sym (groupObjects-made margin kinds deltas)) in
-        let ln : length numbers ≡ m = length-numbers (rhythmMarks margin kinds deltas) ∙ length-rhythm-marks margin kinds deltas (r .whole) ∙ sym noted-count in
-        let lf : length firsts ≡ groups = length-first-objects margin kinds deltas (r .whole) ∙ sym c in
-        let few : groups ≤ n = omega (arith, groups-few margin kinds deltas (r .whole), notes-few kinds, c) in
-        let most : m ≤ n = omega (arith, noted-count, notes-few kinds) in
-        let room : 8 * n ≤ length work₁ = omega (arith, work-same, r .regions) in
-        let same : length mid ≡ length work₁ = length-put n firsts work₁ (omega arith) in
-        record {
-          noted = noted-count;
-          grouped = c;
-          memory = w ∙ ap (λ (l : List ℕ). put (2 * n) numbers (put n firsts l)) (l .numbers ∙ sym (put-front (noteObjects kinds) work₀));
-          scratch-memory = l .floats ∙ sym (put-front (ofNotes kinds deltas) scratch₀);
-          firsts = ap (part n groups) w ∙ part-put-before n groups (2 * n) numbers mid (omega arith) (omega arith) ∙ part-put-same n groups firsts work₁ lf (omega arith);
-          note-groups = ap (part (2 * n) m) w ∙ part-put-same (2 * n) m numbers mid ln (omega arith);
-          regions = ap length w ∙ length-put (2 * n) numbers mid (omega arith) ∙ same ∙ work-same;
-          floats = floats-same;
-          past =
-              ap (drop (8 * n)) w
-              ∙ drop-put (8 * n) (2 * n) numbers mid (omega arith)
-              ∙ drop-put (8 * n) n firsts work₁ (omega arith)
-              ∙ ap (drop (8 * n)) (l .numbers)
-              ∙ drop-over (noteObjects kinds) work₀ (8 * n) (omega (arith, l .count));
-          past-floats =
-              ap (drop n) (l .floats) ∙ drop-over (ofNotes kinds deltas) scratch₀ n (omega (arith, length-of-notes kinds deltas (r .whole), notes-few kinds));
-        }
+    -- ---- at a margin
+    module _ (margin : Float) where
+      marks-are : intervalMarks margin (take m scratch₁) ≡ rhythmMarks margin kinds deltas
+      marks-are = ap (intervalMarks margin) values-are ∙ sym (rhythmMarks-made margin kinds deltas)
+
+      pub noted : {work : List ℕ} {groups : ℕ} → NotesNumbered (intervalMarks margin (take m scratch₁)) (take (length (take m scratch₁)) work₁) (length kinds) work₁ work groups
+          → Noted margin kinds deltas work₀ work scratch₀ scratch₁ m groups
+      unfolding groupsIn
+      noted {work} {groups} a =
+          let n : ℕ = length kinds in
+          let numbers : List ℕ = groupNumbers (rhythmMarks margin kinds deltas) in
+          let firsts : List ℕ = firstsOf (groupObjects margin kinds deltas) in
+          let c : groups ≡ groupsIn margin kinds deltas = a .count ∙ ap groupCount marks-are in
+          let w : work ≡ put (2 * n) numbers (put n firsts work₁) =
+          a .tables
+          ∙ (λ t. put (2 * n) (groupNumbers (marks-are t)) (put n (firstsOf (parted (marks-are t) (objects-are t))) work₁))
+          ∙ ap (λ (gs : List (List ℕ)). put (2 * n) numbers (put n (firstsOf gs) work₁)) (sym (groupObjects-made margin kinds deltas)) in
+          let ln : length numbers ≡ m = length-numbers (rhythmMarks margin kinds deltas) ∙ length-rhythm-marks margin kinds deltas (r .whole) ∙ sym noted-count in
+          let lf : length firsts ≡ groups = length-first-objects margin kinds deltas (r .whole) ∙ sym c in
+          let few : groups ≤ n = omega (arith, groups-few margin kinds deltas (r .whole), notes-few kinds, c) in
+          let most : m ≤ n = omega (arith, noted-count, notes-few kinds) in
+          let room : 8 * n ≤ length work₁ = omega (arith, work-same, r .regions) in
+          let same : length (put n firsts work₁) ≡ length work₁ = length-put n firsts work₁ (omega arith) in
+          record {
+            noted = noted-count;
+            grouped = c;
+            memory = w ∙ ap (λ (l : List ℕ). put (2 * n) numbers (put n firsts l)) (l .numbers ∙ sym (put-front (noteObjects kinds) work₀));
+            scratch-memory = l .floats ∙ sym (put-front (ofNotes kinds deltas) scratch₀);
+            firsts =
+                ap (part n groups) w
+                ∙ part-put-before n groups (2 * n) numbers (put n firsts work₁) (omega arith) (omega arith)
+                ∙ part-put-same n groups firsts work₁ lf (omega arith);
+            regions = ap length w ∙ length-put (2 * n) numbers (put n firsts work₁) (omega arith) ∙ same ∙ work-same;
+            floats = floats-same;
+          }
 
   -- ---- the groups numbered
   module _ {margin : Float} {work₁ : List ℕ} {scratch₁ : List Float} {m groups : ℕ} (a : Noted margin kinds deltas work₀ work₁ scratch₀ scratch₁ m groups) where
-    few-groups : groups ≤ length kinds
-    few-groups = omega (arith, groups-few margin kinds deltas (r .whole), notes-few kinds, a .grouped)
-
     pub firsts-there : FirstsThere starts (length kinds) groups work₁ scratch₁
     firsts-there = record {
       few = r .few;
-      most = few-groups;
+      most = omega (arith, groups-few margin kinds deltas (r .whole), notes-few kinds, a .grouped);
       regions = omega (arith, a .regions, r .regions);
       floats = omega (arith, a .floats, r .floats);
       inside = λ k h.
@@ -160,33 +165,60 @@ module _ {kinds : List ℕ} {starts deltas : List Float} {work₀ : List ℕ} {s
           (omega (arith, first-object-below margin kinds deltas (r .whole) k (omega (arith, length-first-objects margin kinds deltas (r .whole), a .grouped)), r .started));
     }
 
-    pub tabled : {work : List ℕ} {scratch : List Float} {patterns : ℕ} → GroupsNumbered margin starts (length kinds) groups work₁ work scratch₁ scratch patterns
-        → Tabled margin kinds starts deltas work₀ work scratch₀ scratch (record { notes = m; groups = groups; patterns = patterns })
-    unfolding patternGroupsIn workWrites scratchWrites
-    tabled {work} {scratch} {patterns} b =
+    -- by the intervals that start at the firsts
+    module _ {work : List ℕ} {scratch : List Float} {patterns : ℕ}
+        (b : GroupsNumbered margin (intervalsOf margin (startsOf starts (part (length kinds) groups work₁))) (length kinds) work₁ work scratch₁ scratch patterns) where
+      intervals-are : intervalsOf margin (startsOf starts (part (length kinds) groups work₁)) ≡ groupIntervals margin kinds starts deltas
+      intervals-are = ap (λ (xs : List ℕ). intervalsOf margin (startsOf starts xs)) (a .firsts) ∙ sym (groupIntervals-made margin kinds deltas starts)
+
+      pub counts-are : _≡_ {A = GroupCounts} (record { notes = m; groups = groups; patterns = patterns }) (countsOf margin kinds starts deltas)
+      unfolding patternGroupsIn
+      counts-are =
+          let p = b .count ∙ ap (λ (vs : List Float). groupCount (intervalMarks margin vs)) intervals-are in
+          λ t. record { notes = a .noted t; groups = a .grouped t; patterns = p t }
+
+      pub work-written : work ≡ written (workWrites margin kinds starts deltas) work₀
+      unfolding workWrites
+      work-written = b .tables ∙ (λ t. put (3 * length kinds) (groupNumbers (intervalMarks margin (intervals-are t))) (a .memory t))
+
+      pub scratch-written : scratch ≡ written (scratchWrites margin kinds starts deltas) scratch₀
+      unfolding scratchWrites
+      scratch-written = b .floats ∙ sym (put-front _ scratch₁) ∙ (λ t. put 0 (intervals-are t) (a .scratch-memory t))
+
+  -- ---- all three done
+  module _ {margin : Float} {work : List ℕ} {scratch : List Float} (w : work ≡ written (workWrites margin kinds starts deltas) work₀)
+      (f : scratch ≡ written (scratchWrites margin kinds starts deltas) scratch₀) where
+    pub tables-left : TablesLeft margin kinds starts deltas work₀ work scratch₀ scratch
+    unfolding workWrites scratchWrites
+    tables-left =
         let n : ℕ = length kinds in
+        let numbers : List ℕ = groupNumbers (rhythmMarks margin kinds deltas) in
+        let firsts : List ℕ = firstsOf (groupObjects margin kinds deltas) in
         let values : List Float = groupIntervals margin kinds starts deltas in
-        let numbers : List ℕ = groupNumbers (intervalMarks margin values) in
-        let v : intervalsOf margin (startsOf starts (part n groups work₁)) ≡ values =
-        ap (λ (xs : List ℕ). intervalsOf margin (startsOf starts xs)) (a .firsts) ∙ sym (groupIntervals-made margin kinds deltas starts) in
-        let w : work ≡ put (3 * n) numbers work₁ = b .tables ∙ ap (λ (vs : List Float). put (3 * n) (groupNumbers (intervalMarks margin vs)) work₁) v in
-        let f : scratch ≡ over values scratch₁ = b .floats ∙ ap (λ (vs : List Float). over vs scratch₁) v in
-        let lv : length values ≡ groups = length-group-intervals margin kinds deltas (r .whole) starts ∙ sym (a .grouped) in
-        let ln : length numbers ≡ groups = length-group-numbers margin values ∙ lv in
-        let few : groups ≤ n = few-groups in
-        let most : m ≤ n = omega (arith, a .noted, notes-few kinds) in
-        let room : 8 * n ≤ length work₁ = omega (arith, a .regions, r .regions) in
-        let wide : n ≤ length scratch₁ = omega (arith, a .floats, r .floats) in
+        let patterns : List ℕ = groupNumbers (intervalMarks margin values) in
+        let lo : length (noteObjects kinds) ≡ length (notes kinds) = length-note-objects kinds in
+        let ld : length (noteDeltas kinds deltas) ≡ length (notes kinds) = length-note-deltas kinds deltas (r .whole) in
+        let lf : length firsts ≡ groupsIn margin kinds deltas = length-first-objects margin kinds deltas (r .whole) in
+        let ln : length numbers ≡ length (notes kinds) = length-numbers (rhythmMarks margin kinds deltas) ∙ length-rhythm-marks margin kinds deltas (r .whole) in
+        let lv : length values ≡ groupsIn margin kinds deltas = length-group-intervals margin kinds deltas (r .whole) starts in
+        let lp : length patterns ≡ groupsIn margin kinds deltas = length-group-numbers margin values ∙ lv in
+        let few : groupsIn margin kinds deltas ≤ length (notes kinds) = groups-few margin kinds deltas (r .whole) in
+        let most : length (notes kinds) ≤ n = notes-few kinds in
+        let room : 8 * n ≤ length work₀ = r .regions in
+        let third : List ℕ = put n firsts (put 0 (noteObjects kinds) work₀) in
+        let fourth : List ℕ = put (2 * n) numbers third in
+        let l3 : length third ≡ length work₀ =
+        length-written (2 * n) (write 0 (noteObjects kinds) ∷ write n firsts ∷ []) (omega arith, (omega arith, tt)) work₀ (omega arith) in
+        let l4 : length fourth ≡ length work₀ = length-put (2 * n) numbers third (omega arith) ∙ l3 in
+        let inside : Ends (8 * n) (workWrites margin kinds starts deltas) = (omega arith, (omega arith, (omega arith, (omega arith, tt)))) in
         record {
-          noted = a .noted;
-          grouped = a .grouped;
-          patterned = b .count ∙ ap (λ (vs : List Float). groupCount (intervalMarks margin vs)) v;
-          memory = w ∙ ap (put (3 * n) numbers) (a .memory);
-          scratch-memory = f ∙ sym (put-front values scratch₁) ∙ ap (put 0 values) (a .scratch-memory);
-          note-groups = ap (part (2 * n) m) w ∙ part-put-before (2 * n) m (3 * n) numbers work₁ (omega arith) (omega arith) ∙ a .note-groups;
-          group-patterns = ap (part (3 * n) groups) w ∙ part-put-same (3 * n) groups numbers work₁ ln (omega arith);
-          regions = ap length w ∙ length-put (3 * n) numbers work₁ (omega arith) ∙ a .regions;
-          floats = ap length f ∙ length-over values scratch₁ (omega arith) ∙ a .floats;
-          past = ap (drop (8 * n)) w ∙ drop-put (8 * n) (3 * n) numbers work₁ (omega arith) ∙ a .past;
-          past-floats = ap (drop n) f ∙ drop-over values scratch₁ n (omega arith) ∙ a .past-floats;
+          note-groups =
+              ap (part (2 * n) (length (notes kinds))) w
+              ∙ part-put-before (2 * n) (length (notes kinds)) (3 * n) patterns fourth (omega arith) (omega arith)
+              ∙ part-put-same (2 * n) (length (notes kinds)) numbers third ln (omega arith);
+          group-patterns =
+              ap (part (3 * n) (groupsIn margin kinds deltas)) w ∙ part-put-same (3 * n) (groupsIn margin kinds deltas) patterns fourth lp (omega arith);
+          regions = ap length w ∙ length-written (8 * n) (workWrites margin kinds starts deltas) inside work₀ room;
+          past = ap (drop (8 * n)) w ∙ drop-written (8 * n) (workWrites margin kinds starts deltas) inside work₀;
+          past-floats = ap (drop n) f ∙ drop-written n (scratchWrites margin kinds starts deltas) (omega arith, (omega arith, tt)) scratch₀;
         }

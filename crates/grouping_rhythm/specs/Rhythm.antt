@@ -1,4 +1,5 @@
--- Document 01, "Calls and what they fill", rhythm: "per object group and pattern-group number, 65535 for a NonHit"; "rhythm [returns] the numbers of groups and of pattern groups".
+-- The call rhythm ("Calls and what they fill" of document 01): the number of each object's rhythm group and of its
+-- pattern group, and how many of both there are.
 use Prim.Native.Nat.{ℕ, _*_}
 use mathlib.Core.Bool.{cond}
 use mathlib.Core.List.{List, [], _∷_}
@@ -7,7 +8,7 @@ use lib.Ieee.{Float, binary64, ofBits}
 use Rattle.grouping_marks.specs.Over.{over}
 use Rattle.grouping_marks.specs.Scan.{tabulate}
 use Rattle.grouping_marks.specs.Marks.{groupCount, groupNumbers}
-use Rattle.grouping_chart.specs.Object.{isNote, noteIdx}
+use Rattle.grouping_chart.specs.Object.{isNote, notes, noteIdx}
 use Rattle.grouping_chart.specs.Chart.{Chart, size}
 use Rattle.grouping_chart.specs.Refusal.{verdict}
 use Rattle.grouping_chart.specs.Room.{beside}
@@ -17,6 +18,7 @@ use Rattle.grouping_chart.specs.declared.chart.Verdict.{Verdict}
 use Rattle.grouping_interval.specs.IntervalGrouping.{intervalMarks}
 use Rattle.grouping_same_rhythm.specs.SameRhythm.{rhythmMarks, groupIntervals}
 use Rattle.grouping_same_rhythm.specs.SamePatterns.{patternNumber}
+use Rattle.grouping_rhythm.specs.declared.tables.GroupCounts.{GroupCounts}
 use Rattle.grouping_rhythm.specs.declared.Grouping.{Grouping}
 use Rattle.grouping_rhythm.specs.declared.Grouping.the-variants.{Done}
 use Rattle.grouping_rhythm.specs.declared.Grouping.the-variants as answer
@@ -28,18 +30,29 @@ pub record Memory : Type 0 where
   pub work : List ℕ
   pub scratch : List Float
 
+abbrev pub memory : List ℕ → List ℕ → List ℕ → List Float → Memory
+memory group pattern work scratch = record { group = group; pattern = pattern; work = work; scratch = scratch }
+
+-- as lent, and as left
 abbrev pub before : Slice ℕ → Slice ℕ → Slice ℕ → Slice Float → Memory
-before group pattern work scratch = record { group = lent group; pattern = lent pattern; work = lent work; scratch = lent scratch }
+before group pattern work scratch = memory (lent group) (lent pattern) (lent work) (lent scratch)
 
 abbrev pub after : Slice ℕ → Slice ℕ → Slice ℕ → Slice Float → Memory
-after group pattern work scratch = record { group = left group; pattern = left pattern; work = left work; scratch = left scratch }
+after group pattern work scratch = memory (left group) (left pattern) (left work) (left scratch)
 
+-- the verdict on the chart
 abbrev pub judged : Chart → Memory → Verdict
-judged c m = verdict c (beside (size c) (length (m .group) ∷ length (m .pattern) ∷ []) (length (m .work)) (length (m .scratch)))
+judged c m =
+    verdict c (beside (size c) (length (m .group) ∷ length (m .pattern) ∷ []) (length (m .work)) (length (m .scratch)))
 
--- what is said of each note, object by object: "65535 for a NonHit"
+-- what is said of each note, object by object, and 65535 for a NonHit
 unfoldable pub perNote : (ℕ → ℕ) → List ℕ → List ℕ
-perNote f kinds = tabulate (λ (i : ℕ). cond (isNote (getD kinds i 0)) (f (noteIdx kinds i)) 65535) (length kinds)
+perNote f kinds =
+    tabulate (λ (i : ℕ). cond (isNote (getD kinds i 0)) (f (noteIdx kinds i)) 65535) (length kinds)
+
+-- the same of a list that has a number for each note
+abbrev pub byObject : List ℕ → List ℕ → List ℕ
+byObject numbers kinds = perNote (λ (j : ℕ). getD numbers j 0) kinds
 
 -- the group of note number j
 unfoldable pub noteGroup : Float → List ℕ → List Float → ℕ → ℕ
@@ -50,7 +63,8 @@ groupOf margin kinds deltas = perNote (noteGroup margin kinds deltas) kinds
 
 unfoldable pub patternGroupOf : Float → List ℕ → List Float → List Float → List ℕ
 patternGroupOf margin kinds starts deltas =
-    perNote (λ (j : ℕ). patternNumber margin (groupIntervals margin kinds starts deltas) (noteGroup margin kinds deltas j)) kinds
+    perNote
+    (λ (j : ℕ). patternNumber margin (groupIntervals margin kinds starts deltas) (noteGroup margin kinds deltas j)) kinds
 
 -- how many there are
 unfoldable pub groupsIn : Float → List ℕ → List Float → ℕ
@@ -59,16 +73,28 @@ groupsIn margin kinds deltas = groupCount (rhythmMarks margin kinds deltas)
 unfoldable pub patternGroupsIn : Float → List ℕ → List Float → List Float → ℕ
 patternGroupsIn margin kinds starts deltas = groupCount (intervalMarks margin (groupIntervals margin kinds starts deltas))
 
--- the memory after an accepted call
-unfoldable pub filled : Settings → Chart → Memory → Memory
-filled s c m = record {
-  group = over (groupOf (s .margin) (c .kinds) (c .deltas)) (m .group);
-  pattern = over (patternGroupOf (s .margin) (c .kinds) (c .starts) (c .deltas)) (m .pattern);
-  work = over (replicate (8 * size c) 0) (m .work);
-  scratch = over (replicate (size c) (ofBits binary64 0)) (m .scratch);
+abbrev pub countsOf : Float → List ℕ → List Float → List Float → GroupCounts
+countsOf margin kinds starts deltas = record {
+  notes = length (notes kinds);
+  groups = groupsIn margin kinds deltas;
+  patterns = patternGroupsIn margin kinds starts deltas;
 }
+
+-- the memory after an accepted call, by the chart's kinds, starts and deltas
+unfoldable pub filled : Settings → List ℕ → List Float → List Float → Memory → Memory
+filled s kinds starts deltas m = record {
+  group = over (groupOf (s .margin) kinds deltas) (m .group);
+  pattern = over (patternGroupOf (s .margin) kinds starts deltas) (m .pattern);
+  work = over (replicate (8 * length kinds) 0) (m .work);
+  scratch = over (replicate (length kinds) (ofBits binary64 0)) (m .scratch);
+}
+
+-- the two numbers that an accepted call answers
+abbrev pub counted : GroupCounts → Grouping
+counted k = Done (k .groups) (k .patterns)
 
 unfoldable pub rhythmOutcome : Settings → Chart → Memory → Outcome Grouping Memory
 rhythmOutcome s c m =
-    answered (judged c m) (outcome (Done (groupsIn (s .margin) (c .kinds) (c .deltas)) (patternGroupsIn (s .margin) (c .kinds) (c .starts) (c .deltas))) (filled s c m))
+    answered (judged c m)
+    (outcome (counted (countsOf (s .margin) (c .kinds) (c .starts) (c .deltas))) (filled s (c .kinds) (c .starts) (c .deltas) m))
     answer.Refused m

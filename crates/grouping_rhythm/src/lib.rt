@@ -4,14 +4,15 @@ ghost use mathlib.Core.List.{[], _∷_};
 ghost use lib.ListN.{length};
 ghost use Rattle.grouping_chart.specs.Room.{anyShort};
 ghost use Rattle.grouping_chart.specs.Settings.{baseSettings};
-ghost use Rattle.grouping_chart.specs.Lent.{outcome, chart};
-ghost use Rattle.grouping_rhythm.specs.Rhythm.{before, after, rhythmOutcome};
-ghost use Rattle.grouping_rhythm.specs.Passes.{AnswerRoom, Grouped};
-use crate::tables::Counts;
+ghost use Rattle.grouping_chart.specs.Lent.{outcome, chart, lent};
+ghost use Rattle.grouping_rhythm.specs.Rhythm.{memory, before, after, countsOf, filled, rhythmOutcome};
+ghost use Rattle.grouping_rhythm.specs.Passes.{RhythmRoom};
+use crate::tables::GroupCounts;
 use grouping_chart::chart::Verdict;
 use grouping_chart::object::ObjectIndex;
 use grouping_chart::room::short_refusal;
 use grouping_chart::settings;
+use grouping_chart::settings::Settings;
 use grouping_marks::fill;
 
 pub mod spread;
@@ -25,7 +26,7 @@ pub enum Grouping {
 
 // Whether an answer slice has too few places for n objects.
 fn too_short(n: usize, group: &[u16], pattern: &[u16]) -> bool
-    ensures { λ r. ⌜ r ≡ anyShort n (length (now (group .entry)) ∷ length (now (pattern .entry)) ∷ []) ⌝ }
+    ensures { λ r. ⌜ r ≡ anyShort n (length (lent group) ∷ length (lent pattern) ∷ []) ⌝ }
 {
     if group.len() < n {
         return true;
@@ -38,17 +39,20 @@ fn fill_groups(
     kind: &[u8],
     start: &[f64],
     delta: &[f64],
-    margin: f64,
+    s: Settings,
     group: &mut [u16],
     pattern: &mut [u16],
     work: &mut [u16],
     scratch: &mut [f64],
-) -> Counts
-    requires { ⌜ AnswerRoom (now kind) (now start) (now delta) (now group) (now pattern) (now work) (now scratch) ⌝ }
-    ensures { λ r. ⌜ Grouped margin (now (kind .entry)) (now (start .entry)) (now (delta .entry)) (now (group .entry)) (now (group .exit)) (now (pattern .entry)) (now (pattern .exit)) (now (work .entry)) (now (work .exit)) (now (scratch .entry)) (now (scratch .exit)) r ⌝ }
+) -> GroupCounts
+    requires { ⌜ RhythmRoom (now kind) (now start) (now delta)
+        (memory (now group) (now pattern) (now work) (now scratch)) ⌝ }
+    ensures { λ r. ⌜ r ≡ countsOf (s .margin) (lent kind) (lent start) (lent delta) ⌝ }
+    ensures { λ r. ⌜ after group pattern work scratch
+        ≡ filled s (lent kind) (lent start) (lent delta) (before group pattern work scratch) ⌝ }
 {
     let n = kind.len();
-    let k = tables::group_notes(kind, start, delta, margin, work, scratch);
+    let k = tables::group_notes(kind, start, delta, s.margin, work, scratch);
     spread::fill_answers(kind, k, work, group, pattern);
     fill::clear(work, 8 * n);
     fill::clear_floats(scratch, n);
@@ -70,12 +74,12 @@ pub fn rhythm(
 {
     let n = kind.len();
     let short = too_short(n, group, pattern);
-    let beside = short_refusal(short, n, work.len(), scratch.len());
-    match grouping_chart::chart::check(kind, start, delta, ratio, beside) {
+    let refusal = short_refusal(short, n, work.len(), scratch.len());
+    match grouping_chart::chart::check(kind, start, delta, ratio, refusal) {
         Verdict::Refused(number, place) => Grouping::Refused(number, place),
         Verdict::Accepted => {
             let s = settings::base();
-            let k = fill_groups(kind, start, delta, s.margin, group, pattern, work, scratch);
+            let k = fill_groups(kind, start, delta, s, group, pattern, work, scratch);
             Grouping::Done(k.groups, k.patterns)
         }
     }

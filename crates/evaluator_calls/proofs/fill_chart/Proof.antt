@@ -1,25 +1,35 @@
 -- `fill_chart` meets its contract: the values by the encoder's tables, which are then cleared.
 use borrow.Author.Needs.{needs}
+use native.Mathlib.Omega.{arith}
 use Rattle.evaluator_values.proofs.TablesLaws.{tabled}
-use Rattle.evaluator_calls.proofs.ColouredLaws.{coloured}
+use Rattle.evaluator_calls.specs.Calls.{memory}
+use Rattle.evaluator_calls.proofs.FilledLaws.{filled-is}
 use Rattle.evaluator_calls.proofs.fill_chart.Statement.{statement}
 use Rattle.evaluator_calls.proofs.fill_chart.Tie as tie
+
+-- ---- once the tables are made
+abbrev start : tie.After-encode-colors → tie.Start
+start c = c .before .before .before .before .before .before .before .before
 
 fill-values-requires : tie.Need-fill-values-requires
 fill-values-requires c κs =
     let e = c .before .before .before .before .before .before in
-    let s = e .before .before .before .before .before .before .before in
-    (record { steps = c .before .before .before .table .ensures; tabled = tabled (s .pre .regions) (e .encode-colors .ensures .tables); ratio = s .pre .values .ratio }, s .pre .values .room)
+    let room = start e .pre in
+    (record { steps = c .before .before .before .table .ensures; tabled = tabled (room .regions) (e .encode-colors .ensures .tables); ratio = room .ratio }, room .values)
 
 returns : tie.Need-returns
 returns c =
     let f = c .before .before .before .before .before .before .before .before .before .before in
-    coloured _ (f .before .before .before .before .before .before .before .encode-colors .ensures .tables) (f .fill-values .ensures) (c .before .before .before .before .before .before .clear .ensures) (c .before .before .clear-floats .ensures)
+    let e = f .before .before .before .before .before .before .before in
+    let a = start e .args in
+    filled-is (a .s) _ (memory (a .value .now) (a .work .now) (a .scratch .now)) (e .encode-colors .ensures .tables) (f .fill-values .ensures)
+    (c .before .before .before .before .before .before .clear .ensures) (c .before .before .clear-floats .ensures)
 
 pub fill-chart-spec : {M : Type 1} → statement M
 fill-chart-spec =
     tie.close
     (tie.spec
+    (λ c. omega arith)
     (λ c κs. search needs)
     (λ c κs. search needs)
     (λ c. search needs)

@@ -2,11 +2,12 @@
 use mathlib.Core.Path.{_≡_, ap, _∙_}
 use Rattle.grouping_chart.specs.Chart.{Chart}
 use Rattle.grouping_chart.specs.Settings.{Settings, baseSettings}
+use Rattle.grouping_chart.specs.declared.chart.Verdict.{Verdict}
 use Rattle.grouping_chart.specs.declared.chart.Verdict.the-variants.{Accepted}
 use Rattle.grouping_chart.proofs.LentLaws.{judged-is, answered-refused}
 use Rattle.grouping_rhythm.specs.declared.Grouping.the-variants as answer
-use Rattle.grouping_rhythm.specs.Rhythm.{Memory, judged, rhythmOutcome}
-use Rattle.grouping_rhythm.proofs.RhythmLaws.{answer-room, rhythm-done}
+use Rattle.grouping_rhythm.specs.Rhythm.{Memory, memory, judged, rhythmOutcome}
+use Rattle.grouping_rhythm.proofs.RhythmLaws.{rhythm-room, rhythm-done}
 use borrow.Author.Needs.{needs}
 use Rattle.grouping_rhythm.proofs.rhythm.Statement.{statement}
 use Rattle.grouping_rhythm.proofs.rhythm.Tie as tie
@@ -16,31 +17,37 @@ abbrev chartOf : tie.Start → Chart
 chartOf c = record { kinds = c .args .kind .now; starts = c .args .start .now; deltas = c .args .delta .now; ratios = c .args .ratio .now }
 
 abbrev memoryOf : tie.Start → Memory
-memoryOf c = record { group = c .args .group .now; pattern = c .args .pattern .now; work = c .args .work .now; scratch = c .args .scratch .now }
+memoryOf c = memory (c .args .group .now) (c .args .pattern .now) (c .args .work .now) (c .args .scratch .now)
 
--- ---- once the call is known to be accepted
-abbrev start : tie.After-enum-told → tie.Start
-start c = c .before .before .before .before .before .before .before .before .before .before .before .before .before .before .before
+-- ---- once the chart is tested
+abbrev start : tie.After-check → tie.Start
+start c = c .before .before .before .before .before .before .before .before .before .before .before .before .before
 
-accepted : (c : tie.After-enum-told) → judged (chartOf (start c)) (memoryOf (start c)) ≡ Accepted
-accepted c = judged-is (chartOf (start c)) _ _ _ (c .before .before .before .before .too-short .ensures) (c .before .before .before .short-refusal .ensures) (c .before .before .check .ensures) (c .enum-told .given .1)
+verdict-is : (c : tie.After-check) {v : Verdict} → c .check .result ≡ v → judged (chartOf (start c)) (memoryOf (start c)) ≡ v
+verdict-is c e = judged-is (chartOf (start c)) _ _ _ (c .before .before .too-short .ensures) (c .before .short-refusal .ensures) (c .check .ensures) e
+
+-- ---- once it is accepted
+accepted : (c : tie.After-enum-told) → judged (chartOf (start (c .before .before))) (memoryOf (start (c .before .before))) ≡ Accepted
+accepted c = verdict-is (c .before .before) (c .enum-told .given .1)
 
 fill-groups-requires : tie.Need-fill-groups-requires
 fill-groups-requires c κs =
     let t = c .before .before .before .before .before in
-    answer-room baseSettings (chartOf (start t)) (memoryOf (start t)) (accepted t)
+    let s = start (t .before .before) in
+    rhythm-room baseSettings (chartOf s) (memoryOf s) (accepted t)
 
 returns : tie.Need-returns
 unfolding rhythmOutcome
 returns c =
-    let s = c .before .before .before .before .before .before .before .before .before .before .before .before .before .before .before .before in
-    answered-refused _ answer.Refused (memoryOf s) (judged-is (chartOf s) _ _ _ (c .before .before .before .before .before .too-short .ensures) (c .before .before .before .before .short-refusal .ensures) (c .before .before .before .check .ensures) (c .before .number .given .1))
+    let k = c .before .before .before in
+    answered-refused _ answer.Refused (memoryOf (start k)) (verdict-is k (c .before .number .given .1))
 
 returns-2 : tie.Need-returns-2
 returns-2 c =
-    let b = c .before .before .before .before .before .before .before .before .before .before .before .before .before in
-    let s = start (b .before) in
-    rhythm-done (b .base .result) (chartOf s) (memoryOf s) _ _ _ _ _ (accepted (b .before)) (c .before .before .before .before .before .before .before .before .fill-groups .ensures)
+    let f = c .before .before .before .before .before .before .before .before in
+    let b = f .before .before .before .before .before in
+    let s = start (b .before .before .before) in
+    rhythm-done (b .base .result) (chartOf s) (memoryOf s) _ _ (accepted (b .before)) (f .fill-groups .ensures .0) (f .fill-groups .ensures .1)
     ∙ ap (λ (set : Settings). rhythmOutcome set (chartOf s) (memoryOf s)) (b .base .ensures)
 
 pub rhythm-spec : {M : Type 1} → statement M

@@ -7,28 +7,32 @@ use Rattle.grouping_rhythm.proofs.spread.spread.Statement.{statement}
 use Rattle.grouping_rhythm.proofs.spread.spread.Tie as tie
 
 abbrev Inv-loop : tie.InvT-loop
-Inv-loop kind numbers out₀ next₀ i₀ out next i = Spread kind numbers out₀ out (next .0) i
+Inv-loop kind numbers out₀ at₀ next₀ out at next = Spread kind numbers out₀ out (next .0) (at .0)
 
 abbrev μ-loop : tie.MeasureT-loop
-μ-loop kind numbers out₀ next₀ i₀ out next i = length kind - i
+μ-loop kind numbers out₀ at₀ next₀ out at next = length kind - at .0
 
 loop-holds : tie.Need-loop-holds Inv-loop μ-loop
 loop-holds c = spread-start _ _ _ (c .before .before .before .pre)
 
 number-of-requires : tie.Need-number-of-requires Inv-loop μ-loop
-number-of-requires c κs = spread-within (c .before .before .loop .inv) (c .before .before .before .before .before .before .pre) (c .before .loop-test .taken)
+number-of-requires c κs =
+    let l = c .before .before .before in
+    spread-within (l .loop .inv) (l .before .before .before .before .pre) (c .before .if1 .taken)
 
 note-after-requires : tie.Need-note-after-requires Inv-loop μ-loop
-note-after-requires c κs = omega (arith, spread-few (c .before .before .before .before .loop .inv) (c .before .before .before .loop-test .taken))
+note-after-requires c κs = omega (arith, spread-few (c .before .before .before .before .loop .inv) (c .before .before .if1 .taken))
 
 loop-again : tie.Need-loop-again Inv-loop μ-loop
-loop-again c = spread-turn (c .before .before .before .before .before .loop .inv) _ _ (c .before .before .before .before .loop-test .taken) (c .before .before .number-of .ensures) (c .note-after .ensures)
+loop-again c =
+    let t = c .before .before .before in
+    spread-turn (t .before .before .loop .inv) _ _ (t .if1 .taken) (c .before .number-of .ensures) (c .note-after .ensures)
 
 same-length : tie.Need-same-length Inv-loop μ-loop
-same-length c = c .before .loop .inv .fill .long
+same-length c = c .before .before .loop .inv .fill .long
 
 returns : tie.Need-returns Inv-loop μ-loop
-returns c = spread-end (c .before .loop .inv) (c .loop-test .left)
+returns c = spread-end (c .before .before .loop .inv) (c .if1 .left)
 
 pub spread-spec : {M : Type 1} → statement M
 spread-spec =
@@ -39,7 +43,6 @@ spread-spec =
     loop-holds
     (λ c. omega arith)
     number-of-requires
-    (λ c. omega arith)
     (λ c. omega arith)
     (λ c. omega arith)
     note-after-requires

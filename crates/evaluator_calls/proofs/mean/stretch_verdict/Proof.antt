@@ -1,4 +1,4 @@
--- `with_bounds` meets its contract: the verdict is the definition's by what is refused of the stretch.
+-- `stretch_verdict` meets its contract: the verdict is the definition's by what is refused of the stretch.
 use mathlib.Core.Path.{_≡_, sym, ap, _∙_}
 use mathlib.Core.List.{List}
 use Prim.Native.Nat.{ℕ}
@@ -11,8 +11,8 @@ use Rattle.evaluator_calls.specs.Stretch.{stretchRefusal}
 use Rattle.evaluator_calls.specs.Calls.{stretchVerdict}
 use Rattle.evaluator_calls.proofs.CallsLaws.{stretch-refusal}
 use borrow.Author.Needs.{needs}
-use Rattle.evaluator_calls.proofs.mean.with_bounds.Statement.{statement}
-use Rattle.evaluator_calls.proofs.mean.with_bounds.Tie as tie
+use Rattle.evaluator_calls.proofs.mean.stretch_verdict.Statement.{statement}
+use Rattle.evaluator_calls.proofs.mean.stretch_verdict.Tie as tie
 
 chart-refused : (v : Verdict) (kinds : List ℕ) (a b number : ℕ) (place : ObjectIndex) → v ≡ Refused number place → Refused number place ≡ stretchVerdict v kinds a b
 unfolding stretchVerdict
@@ -34,7 +34,7 @@ returns-2 c = chart-refused _ _ _ _ _ _ (c .before .verdict .given .1)
 returns-3 : tie.Need-returns-3
 returns-3 c = stretch-refused _ _ _ _ _ (c .before .before .enum-told .given .1) (c .before .stretch-refusal .ensures) (c .if1 .left)
 
-pub with-bounds-spec : {M : Type 1} → statement M
-with-bounds-spec =
+pub stretch-verdict-spec : {M : Type 1} → statement M
+stretch-verdict-spec =
     tie.close
     (tie.spec (λ c. search needs) (λ c. search needs) (λ c κs. search needs) returns returns-2 returns-3)
