@@ -45,10 +45,20 @@ pub record EncodeStored (size width n : ℕ) (body : List ℕ) (o : Outcome Enco
   pub cleared : Cleared n (o .memory .work) (o .memory .scratch)
 
 -- a body for the columns
-pub record EncodeRoom (size n : ℕ) (body : List ℕ) (spare : ℕ) : Type 0 where
-  pub few : Few n spare
+pub record EncodeBody (size n : ℕ) (body : List ℕ) : Type 0 where
   pub small : size ≤ 2 * n
   pub whole : length body ≡ 2 + 2 * n + 5 * size
+
+-- and a slice of intervals that is short enough to be compared with its row
+pub record EncodeCompared (size n : ℕ) (body interval : List ℕ) : Type 0 where
+  pub objects : n ≤ 16384
+  pub stored : EncodeBody size n body
+  pub most : length interval ≤ 16391
+
+-- and room for the chart and the slices
+pub record EncodeRoom (size n : ℕ) (body : List ℕ) (spare : ℕ) : Type 0 where
+  pub few : Few n spare
+  pub stored : EncodeBody size n body
 
 -- a case with this head and this body, in slices with so many places to spare
 unfoldable pub EncodeHolds : Head → List ℕ → ℕ → Type 0

@@ -1,11 +1,12 @@
 -- Slices that are lent are fronts of longer lists, of one value throughout.
-use mathlib.Core.Path.{_≡_, refl, ap}
+use mathlib.Core.Path.{_≡_, refl, sym, ap}
 use mathlib.Core.List.{List, _∷_}
 use mathlib.Core.Bool.{Bool}
 use Prim.Native.Nat.{ℕ, zero, suc, _+_, _*_, _≤_}
 use native.Mathlib.Nat.{le-of-suc-le-suc, not-suc-le-zero}
 use native.Mathlib.Omega.{arith}
 use lib.ListN.{length, take, length-take, replicate, length-replicate}
+use lib.Seq.{length-take-le}
 use lib.Ieee.{Float, binary64, toBits}
 use Rattle.vectors.specs.Case.{column}
 use Rattle.vectors.specs.Held.{Tells, Held, bitsOf}
@@ -33,9 +34,13 @@ module _ {n spare : ℕ} (few : Few n spare) where
   pub work-lent : take (8 * n + spare) (replicate 131079 numberMark) ≡ replicate (8 * n + spare) numberMark
   work-lent = front-same (8 * n + spare) 131079 numberMark (omega arith)
 
--- a slice that was lent so keeps its length
-pub front-fits : {A : Type 0} (k n : ℕ) (x : A) {m : ℕ} → m ≡ length (take k (replicate n x)) → m ≤ n
-front-fits k n x e = omega (arith, length-take k (replicate n x), length-replicate n x)
+-- a front has as many places as are asked for, where there are so many
+pub front-counts : {A : Type 0} (k : ℕ) (xs : List A) → k ≤ length xs → k ≡ length (take k xs)
+front-counts k xs h = sym (length-take-le k xs h)
+
+-- and never more than the whole
+pub front-fits : {A : Type 0} (k n : ℕ) (x : A) → length (take k (replicate n x)) ≤ n
+front-fits k n x = omega (arith, length-take k (replicate n x), length-replicate n x)
 
 pub columns-told : {s : List ℕ} {at size width n : ℕ} {a b : List ℕ} {r : Bool}
     → Tells r (Held (column s at width n) numberMark a × Held (column s (at + size) width n) numberMark b) → Tells r (Columns s at size width n a b)
