@@ -19,11 +19,11 @@ use vectors::form::part_formed;
 use vectors::held;
 use vectors::held::both;
 use vectors::lent;
-use vectors::lent::FLOAT_MARK;
-use vectors::lent::NUMBER_MARK;
+use vectors::lent::FLOAT_SENTINEL;
+use vectors::lent::NUMBER_SENTINEL;
 
 // What is stored of a stretch: its two ends, the bits of its mean, and the tenths, whose sign is in their highest bit.
-pub struct Stretch {
+pub struct StoredStretch {
     pub a: usize,
     pub b: usize,
     pub mean: u64,
@@ -33,7 +33,7 @@ pub struct Stretch {
 // The call that a case is of.
 enum Asked {
     Colour,
-    Stretched(Stretch),
+    Stretched(StoredStretch),
 }
 
 // Four bytes as a number with a sign.
@@ -46,10 +46,10 @@ fn signed(x: u32) -> i64
     -((4294967296 - x as u64) as i64)
 }
 
-fn read_stretch(part: &[u8]) -> Stretch
+fn read_stretch(part: &[u8]) -> StoredStretch
     ensures { λ r. ⌜ r ≡ stretchOf (now (part .entry)) ⌝ }
 {
-    Stretch {
+    StoredStretch {
         a: case::pair_at(part, 0) as usize,
         b: case::pair_at(part, 2) as usize,
         mean: case::word_at(part, 4),
@@ -68,7 +68,7 @@ fn done(answer: Colouring) -> bool
 }
 
 // Whether the stretch is accepted, with the mean and the tenths that are stored.
-fn mean_holds(s: Stretch, answer: Stretching) -> bool
+fn mean_holds(s: StoredStretch, answer: Stretching) -> bool
     ensures { λ r. ⌜ Tells r (MeanIs s answer) ⌝ }
 {
     match answer {
@@ -115,8 +115,8 @@ fn values_hold(
     requires { ⌜ (n ≤ 16384) × (size ≤ 2 * n) ⌝ }
     ensures { λ r. ⌜ Tells r (ValuesHeld size n (lent body) (before value work scratch)) ⌝ }
 {
-    let values = held::floats(body, 2 + n + size, n, FLOAT_MARK, value);
-    let cleared = lent::cleared(n, work, scratch);
+    let values = held::floats_held(body, 2 + n + size, n, FLOAT_SENTINEL, value);
+    let cleared = lent::work_cleared(n, work, scratch);
     both(values, cleared)
 }
 
@@ -140,7 +140,7 @@ fn lent_holds(
     both(answer, values_hold(size, n, body, value, work, scratch))
 }
 
-// The call that is asked, in slices full of marks, held to the body, whose column of ratios has so many bytes.
+// The call that is asked, in slices full of sentinels, held to the body, whose column of ratios has so many bytes.
 fn call_holds(asked: Asked, size: usize, width: u8, n: usize, body: &[u8], spare: usize) -> bool
     requires { ⌜ ColourRoom size n (now body) spare ⌝ }
     ensures { λ r. ⌜ Tells r (CallStored asked size n (lent body)
@@ -157,9 +157,9 @@ fn call_holds(asked: Asked, size: usize, width: u8, n: usize, body: &[u8], spare
         &body[2..2 + n],
         &[1.0; 16384][..n],
         &ratios[..n],
-        &mut [FLOAT_MARK; 16391][..room],
-        &mut [NUMBER_MARK; 131079][..8 * n + spare],
-        &mut [FLOAT_MARK; 16391][..room],
+        &mut [FLOAT_SENTINEL; 16391][..room],
+        &mut [NUMBER_SENTINEL; 131079][..8 * n + spare],
+        &mut [FLOAT_SENTINEL; 16391][..room],
     )
 }
 

@@ -1,4 +1,4 @@
--- What encode hands back on the lent slices is what its definition gives on slices full of marks; and each of its parts is held to the case.
+-- What encode hands back on the lent slices is what its definition gives on slices full of sentinels; and each of its parts is held to the case.
 use mathlib.Core.Path.{_≡_, ap, _∙_, subst}
 use mathlib.Core.List.{List}
 use mathlib.Core.Bool.{Bool, true, false, _&&_}
@@ -20,7 +20,7 @@ use Rattle.vectors.specs.Case.{pairAt, columnSize, column}
 use Rattle.vectors.specs.Held.{Tells, Held}
 use Rattle.vectors.specs.declared.case.Head.{Head}
 use Rattle.vectors.specs.Form.{Formed}
-use Rattle.vectors.specs.Lent.{numberMark, byteMark, floatMark, one, Columns, Cleared, Few}
+use Rattle.vectors.specs.Lent.{numberSentinel, byteSentinel, floatSentinel, one, Columns, Cleared, Few}
 use Rattle.vectors.proofs.TellsLaws.{denied, tells-as, tells-both, tells-eqb}
 use Rattle.vectors.proofs.FormLaws.{ill-at, well-at}
 use Rattle.vectors.proofs.LentLaws.{ones-lent, numbers-lent, bytes-lent, work-lent, floats-lent}
@@ -41,8 +41,8 @@ pub outcome-told : {size width n : ℕ} {body : List ℕ} {o : Outcome Encoding 
     → Tells a (o .answer ≡ Done (pairAt body 0))
     → Tells b (Columns body (2 + n) size width n (o .memory .streak) (o .memory .streakPlace))
     → Tells c (Columns body (2 + n + 2 * size) size width n (o .memory .pattern) (o .memory .patternPlace))
-    → Tells d (Held (column body (2 + n + 4 * size) width n) numberMark (o .memory .hit))
-    → Tells e (Held (part (2 + n + 5 * size) n body) byteMark (o .memory .interval))
+    → Tells d (Held (column body (2 + n + 4 * size) width n) numberSentinel (o .memory .hit))
+    → Tells e (Held (part (2 + n + 5 * size) n body) byteSentinel (o .memory .interval))
     → Tells f (Cleared n (o .memory .work) (o .memory .scratch))
     → bc ≡ (b && c) → abc ≡ (a && bc) → de ≡ (d && e) → def ≡ (de && f) → r ≡ (abc && def)
     → Tells r (EncodeStored size width n body o)
@@ -73,16 +73,16 @@ made-chart n body =
 
 abbrev made-memory : ℕ → ℕ → Memory
 made-memory n spare =
-    let numbers : List ℕ = take (n + spare) (replicate 16391 numberMark) in
+    let numbers : List ℕ = take (n + spare) (replicate 16391 numberSentinel) in
     record {
       streak = numbers;
       streakPlace = numbers;
       pattern = numbers;
       patternPlace = numbers;
       hit = numbers;
-      interval = take (n + spare) (replicate 16391 byteMark);
-      work = take (8 * n + spare) (replicate 131079 numberMark);
-      scratch = take (n + spare) (replicate 16391 floatMark);
+      interval = take (n + spare) (replicate 16391 byteSentinel);
+      work = take (8 * n + spare) (replicate 131079 numberSentinel);
+      scratch = take (n + spare) (replicate 16391 floatSentinel);
     }
 
 module _ {n spare : ℕ} (few : Few n spare) where

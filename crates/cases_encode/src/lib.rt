@@ -15,9 +15,9 @@ use vectors::form::formed;
 use vectors::held;
 use vectors::held::both;
 use vectors::lent;
-use vectors::lent::BYTE_MARK;
-use vectors::lent::FLOAT_MARK;
-use vectors::lent::NUMBER_MARK;
+use vectors::lent::BYTE_SENTINEL;
+use vectors::lent::FLOAT_SENTINEL;
+use vectors::lent::NUMBER_SENTINEL;
 
 // Whether the chart is accepted, with as many hit patterns as the body's first number says.
 fn count_holds(body: &[u8], answer: Encoding) -> bool
@@ -51,11 +51,11 @@ fn outcome_holds(
 {
     let at = 2 + n;
     let count = count_holds(body, answer);
-    let streaks = lent::columns(body, at, size, width, n, streak, streak_place);
-    let patterns = lent::columns(body, at + 2 * size, size, width, n, pattern, pattern_place);
-    let hits = held::numbers(body, at + 4 * size, width, n, NUMBER_MARK, hit);
-    let intervals = held::row(body, at + 5 * size, n, BYTE_MARK, interval);
-    let cleared = lent::cleared(n, work, scratch);
+    let streaks = lent::columns_held(body, at, size, width, n, streak, streak_place);
+    let patterns = lent::columns_held(body, at + 2 * size, size, width, n, pattern, pattern_place);
+    let hits = held::column_held(body, at + 4 * size, width, n, NUMBER_SENTINEL, hit);
+    let intervals = held::bytes_held(body, at + 5 * size, n, BYTE_SENTINEL, interval);
+    let cleared = lent::work_cleared(n, work, scratch);
     let first = both(count, both(streaks, patterns));
     let rest = both(both(hits, intervals), cleared);
     both(first, rest)
@@ -113,7 +113,7 @@ fn lent_holds(
     )
 }
 
-// Encode in slices full of marks, held to the body.
+// Encode in slices full of sentinels, held to the body.
 fn call_holds(size: usize, width: u8, n: usize, body: &[u8], spare: usize) -> bool
     requires { ⌜ EncodeRoom size n (now body) spare ⌝ }
     ensures { λ r. ⌜ Tells r (EncodeStored size width n (lent body)
@@ -127,14 +127,14 @@ fn call_holds(size: usize, width: u8, n: usize, body: &[u8], spare: usize) -> bo
         body,
         &body[2..2 + n],
         &[1.0; 16384][..n],
-        &mut [NUMBER_MARK; 16391][..room],
-        &mut [NUMBER_MARK; 16391][..room],
-        &mut [NUMBER_MARK; 16391][..room],
-        &mut [NUMBER_MARK; 16391][..room],
-        &mut [NUMBER_MARK; 16391][..room],
-        &mut [BYTE_MARK; 16391][..room],
-        &mut [NUMBER_MARK; 131079][..8 * n + spare],
-        &mut [FLOAT_MARK; 16391][..room],
+        &mut [NUMBER_SENTINEL; 16391][..room],
+        &mut [NUMBER_SENTINEL; 16391][..room],
+        &mut [NUMBER_SENTINEL; 16391][..room],
+        &mut [NUMBER_SENTINEL; 16391][..room],
+        &mut [NUMBER_SENTINEL; 16391][..room],
+        &mut [BYTE_SENTINEL; 16391][..room],
+        &mut [NUMBER_SENTINEL; 131079][..8 * n + spare],
+        &mut [FLOAT_SENTINEL; 16391][..room],
     )
 }
 

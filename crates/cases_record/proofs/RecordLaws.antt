@@ -1,4 +1,4 @@
--- What record hands back on the lent slices is what its definition gives on slices full of marks; and its fields are compared one by one.
+-- What record hands back on the lent slices is what its definition gives on slices full of sentinels; and its fields are compared one by one.
 use mathlib.Core.Path.{_≡_, refl, sym, _∙_, subst}
 use mathlib.Core.List.{List}
 use mathlib.Core.Bool.{Bool, false, _&&_}
@@ -19,7 +19,7 @@ use Rattle.evaluator_record.specs.declared.Recording.the-variants.{Done, Refuse
 use Rattle.vectors.specs.Case.{pairAt, wordAt}
 use Rattle.vectors.specs.Held.{Tells}
 use Rattle.vectors.specs.declared.case.Head.{Head}
-use Rattle.vectors.specs.Lent.{numberMark, floatMark, Cleared, Few}
+use Rattle.vectors.specs.Lent.{numberSentinel, floatSentinel, Cleared, Few}
 use Rattle.vectors.proofs.LentLaws.{work-lent, floats-lent}
 use Rattle.vectors.proofs.TellsLaws.{denied, tells-as, tells-both, tells-of, tells-eqb-as}
 use Rattle.cases_rhythm.specs.Rhythm.{rhythmChart, TimesRead}
@@ -79,7 +79,7 @@ outcome-told c m {n} {part} e p w t u q =
 -- ---- the chart and the slices, as fronts of what the code makes
 
 abbrev made-memory : ℕ → ℕ → Memory
-made-memory n spare = record { work = take (8 * n + spare) (replicate 131079 numberMark); scratch = take (n + spare) (replicate 16391 floatMark) }
+made-memory n spare = record { work = take (8 * n + spare) (replicate 131079 numberSentinel); scratch = take (n + spare) (replicate 16391 floatSentinel) }
 
 module _ {n spare : ℕ} (few : Few n spare) (body : List ℕ) {starts deltas : List Float} (x : TimesRead n body zeros starts zeros deltas) where
   memory-is : made-memory n spare ≡ recordLent n spare

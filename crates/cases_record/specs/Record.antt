@@ -1,4 +1,5 @@
--- When a stored record of a rhythm case's chart holds: the definition of the call gives what the original answered, on that chart and slices that are lent full of marks.
+-- When a stored record of a rhythm case's chart holds: on that chart and slices full of sentinels the call's definition gives
+-- the original's answer.
 use mathlib.Core.Path.{_≡_}
 use mathlib.Core.List.{List}
 use Prim.Native.Nat.{ℕ, _+_, _*_}
@@ -16,12 +17,12 @@ use Rattle.evaluator_record.specs.declared.Recording.the-variants.{Done, Refuse
 use Rattle.vectors.specs.Case.{pairAt, wordAt}
 use Rattle.vectors.specs.declared.case.Head.{Head}
 use Rattle.vectors.specs.Form.{PartFormed, Holds}
-use Rattle.vectors.specs.Lent.{numberMark, floatMark, Cleared}
+use Rattle.vectors.specs.Lent.{numberSentinel, floatSentinel, Cleared}
 use Rattle.cases_rhythm.specs.Rhythm.{rhythmChart, RhythmForm}
 
 -- so many places to spare in each slice
 unfoldable pub recordLent : ℕ → ℕ → Memory
-recordLent n spare = record { work = replicate (8 * n + spare) numberMark; scratch = replicate (n + spare) floatMark }
+recordLent n spare = record { work = replicate (8 * n + spare) numberSentinel; scratch = replicate (n + spare) floatSentinel }
 
 -- the group's own interval: 1 and its bits, or 0 and 0 where there is none
 unfoldable pub OwnIs : List ℕ → Own → Type 0

@@ -20,8 +20,8 @@ use vectors::form::RECORD;
 use vectors::form::part_formed;
 use vectors::held::both;
 use vectors::lent;
-use vectors::lent::FLOAT_MARK;
-use vectors::lent::NUMBER_MARK;
+use vectors::lent::FLOAT_SENTINEL;
+use vectors::lent::NUMBER_SENTINEL;
 
 // Whether a float has the bits that stand at a place.
 fn bits_hold(part: &[u8], at: usize, x: f64) -> bool
@@ -110,10 +110,10 @@ fn lent_holds(
     let group = case::pair_at(part, 0) as usize;
     let window = case::float_of(case::word_at(part, 10));
     let answer = evaluator_record::record(kind, start, delta, one, group, window, work, scratch);
-    both(fields_hold(part, answer), lent::cleared(n, work, scratch))
+    both(fields_hold(part, answer), lent::work_cleared(n, work, scratch))
 }
 
-// Record in slices full of marks, held to the part.
+// Record in slices full of sentinels, held to the part.
 fn call_holds(n: usize, body: &[u8], part: &[u8], spare: usize) -> bool
     requires { ⌜ RhythmRoom n (now body) spare ⌝ }
     ensures { λ r. ⌜ Tells r (RecordStored n (lent part)
@@ -129,8 +129,8 @@ fn call_holds(n: usize, body: &[u8], part: &[u8], spare: usize) -> bool
         &starts[..n],
         &deltas[..n],
         &[1.0; 16384][..n],
-        &mut [NUMBER_MARK; 131079][..8 * n + spare],
-        &mut [FLOAT_MARK; 16391][..n + spare],
+        &mut [NUMBER_SENTINEL; 131079][..8 * n + spare],
+        &mut [FLOAT_SENTINEL; 16391][..n + spare],
     )
 }
 

@@ -1,4 +1,4 @@
--- What rhythm hands back on the lent slices is what its definition gives on slices full of marks; and each of its parts is held to the case.
+-- What rhythm hands back on the lent slices is what its definition gives on slices full of sentinels; and each of its parts is held to the case.
 use mathlib.Core.Path.{_≡_, ap, _∙_, subst}
 use mathlib.Core.List.{List}
 use mathlib.Core.Bool.{Bool, false, _&&_}
@@ -19,7 +19,7 @@ use Rattle.vectors.specs.Case.{pairAt}
 use Rattle.vectors.specs.Held.{Tells}
 use Rattle.vectors.specs.Table.{entries}
 use Rattle.vectors.specs.declared.case.Head.{Head}
-use Rattle.vectors.specs.Lent.{numberMark, floatMark, one, Columns, Cleared, Few}
+use Rattle.vectors.specs.Lent.{numberSentinel, floatSentinel, one, Columns, Cleared, Few}
 use Rattle.vectors.proofs.TableLaws.{entries-front}
 use Rattle.vectors.proofs.TellsLaws.{denied, tells-as, tells-both, tells-of, tells-eqb}
 use Rattle.vectors.proofs.LentLaws.{ones-lent, numbers-lent, work-lent, floats-lent}
@@ -55,10 +55,10 @@ made-chart n body starts deltas =
 
 abbrev made-memory : ℕ → ℕ → Memory
 made-memory n spare = record {
-  group = take (n + spare) (replicate 16391 numberMark);
-  pattern = take (n + spare) (replicate 16391 numberMark);
-  work = take (8 * n + spare) (replicate 131079 numberMark);
-  scratch = take (n + spare) (replicate 16391 floatMark);
+  group = take (n + spare) (replicate 16391 numberSentinel);
+  pattern = take (n + spare) (replicate 16391 numberSentinel);
+  work = take (8 * n + spare) (replicate 131079 numberSentinel);
+  scratch = take (n + spare) (replicate 16391 floatSentinel);
 }
 
 abbrev pub zeros : List Float

@@ -16,8 +16,8 @@ use vectors::form::RHYTHM;
 use vectors::form::formed;
 use vectors::held::both;
 use vectors::lent;
-use vectors::lent::FLOAT_MARK;
-use vectors::lent::NUMBER_MARK;
+use vectors::lent::FLOAT_SENTINEL;
+use vectors::lent::NUMBER_SENTINEL;
 use vectors::table;
 
 // Reads the starts and the deltas.
@@ -56,8 +56,8 @@ fn outcome_holds(
     ensures { λ r. ⌜ Tells r (RhythmStored n (lent body) (outcome answer (before group pattern work scratch))) ⌝ }
 {
     let counts = counts_hold(body, answer);
-    let numbers = lent::columns(body, 4 + 17 * n, 2 * n, 2, n, group, pattern);
-    let cleared = lent::cleared(n, work, scratch);
+    let numbers = lent::columns_held(body, 4 + 17 * n, 2 * n, 2, n, group, pattern);
+    let cleared = lent::work_cleared(n, work, scratch);
     both(counts, both(numbers, cleared))
 }
 
@@ -82,7 +82,7 @@ fn lent_holds(
     outcome_holds(n, body, answer, group, pattern, work, scratch)
 }
 
-// Rhythm in slices full of marks, held to the body.
+// Rhythm in slices full of sentinels, held to the body.
 fn call_holds(n: usize, body: &[u8], spare: usize) -> bool
     requires { ⌜ RhythmRoom n (now body) spare ⌝ }
     ensures { λ r. ⌜ Tells r (RhythmStored n (lent body)
@@ -99,10 +99,10 @@ fn call_holds(n: usize, body: &[u8], spare: usize) -> bool
         &starts[..n],
         &deltas[..n],
         &[1.0; 16384][..n],
-        &mut [NUMBER_MARK; 16391][..room],
-        &mut [NUMBER_MARK; 16391][..room],
-        &mut [NUMBER_MARK; 131079][..8 * n + spare],
-        &mut [FLOAT_MARK; 16391][..room],
+        &mut [NUMBER_SENTINEL; 16391][..room],
+        &mut [NUMBER_SENTINEL; 16391][..room],
+        &mut [NUMBER_SENTINEL; 131079][..8 * n + spare],
+        &mut [FLOAT_SENTINEL; 16391][..room],
     )
 }
 

@@ -1,4 +1,4 @@
--- The slices that are lent are full of marks, and the ratios are read from the body.
+-- The slices that are lent are full of sentinels, and the ratios are read from the body.
 use native.Mathlib.Omega.{arith}
 use Rattle.vectors.proofs.LentLaws.{front-counts}
 use Rattle.cases_colour.proofs.ColourLaws.{made-told}

@@ -1,7 +1,7 @@
--- The slices that are lent are full of marks.
+-- The slices that are lent are full of sentinels.
 use Prim.Native.Nat.{_+_}
 use native.Mathlib.Omega.{arith}
-use Rattle.vectors.specs.Lent.{byteMark}
+use Rattle.vectors.specs.Lent.{byteSentinel}
 use Rattle.vectors.proofs.TellsLaws.{tells-of}
 use Rattle.vectors.proofs.LentLaws.{front-counts, front-fits}
 use Rattle.cases_encode.specs.Encode.{EncodeStored}
@@ -12,7 +12,7 @@ use Rattle.cases_encode.proofs.call_holds.Tie as tie
 lent-holds-requires : tie.Need-lent-holds-requires
 lent-holds-requires c κs =
     let entry = c .before .before .before .before .before .before .before .before .before .before .before in
-    let most = front-fits (entry .args .n + entry .args .spare) 16391 byteMark in
+    let most = front-fits (entry .args .n + entry .args .spare) 16391 byteSentinel in
     record { objects = entry .pre .few .objects; stored = entry .pre .stored; most = most }
 
 returns : tie.Need-returns

@@ -12,7 +12,7 @@ returns c =
     let read = called .before .before .before in
     outcome-told _ _ (called .«record» .ensures) (read .before .before .pair-at .ensures)
     (read .float-of .ensures ∙ ap (ofBits binary64) (read .before .word-at .ensures)) (c .before .before .before .before .fields-hold .ensures)
-    (c .before .cleared .ensures) (c .both .ensures)
+    (c .before .work-cleared .ensures) (c .both .ensures)
 
 pub lent-holds-spec : {M : Type 1} → statement M
 lent-holds-spec =

@@ -6,8 +6,8 @@ use Rattle.cases_rhythm.proofs.outcome_holds.Tie as tie
 
 returns : tie.Need-returns
 returns c =
-    outcome-told (c .before .before .before .before .counts-hold .ensures) (c .before .before .before .columns .ensures)
-    (c .before .before .cleared .ensures) (c .before .both .ensures) (c .both2 .ensures)
+    outcome-told (c .before .before .before .before .counts-hold .ensures) (c .before .before .before .columns-held .ensures)
+    (c .before .before .work-cleared .ensures) (c .before .both .ensures) (c .both2 .ensures)
 
 pub outcome-holds-spec : {M : Type 1} → statement M
 outcome-holds-spec =
