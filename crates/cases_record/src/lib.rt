@@ -110,7 +110,10 @@ fn lent_holds(
     let group = case::pair_at(part, 0) as usize;
     let window = case::float_of(case::word_at(part, 10));
     let answer = evaluator_record::record(kind, start, delta, one, group, window, work, scratch);
-    both(fields_hold(part, answer), lent::work_cleared(n, work, scratch))
+    both(
+        fields_hold(part, answer),
+        lent::work_cleared(n, work, scratch),
+    )
 }
 
 // Record in slices full of sentinels, held to the part.

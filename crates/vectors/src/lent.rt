@@ -14,7 +14,15 @@ pub const BYTE_SENTINEL: u8 = 190;
 pub const FLOAT_SENTINEL: f64 = -1.0e300;
 
 // Whether two slices hold two columns of n numbers, the first of which begins at a place and has so many bytes.
-pub fn columns_held(s: &[u8], at: usize, size: usize, width: u8, n: usize, a: &[u16], b: &[u16]) -> bool
+pub fn columns_held(
+    s: &[u8],
+    at: usize,
+    size: usize,
+    width: u8,
+    n: usize,
+    a: &[u16],
+    b: &[u16],
+) -> bool
     requires { ⌜ at + size + 2 * n < 2 ^ 32 ⌝ }
     ensures { λ r. ⌜ Tells r (Columns (now (s .entry)) at size width n (now (a .entry)) (now (b .entry))) ⌝ }
 {
