@@ -11,8 +11,7 @@ rt fmt --check
 RT_JOBS=4 rt check evaluator_calls evaluator_record letters
 rt staticlib dresserduck &
 archive=$!
-rt staticlib numeric_host
-rt staticlib grouping_host
+rt staticlib test_host
 wait "$archive"
 
 (cd tests/numeric && cargo test --release --offline --quiet)

@@ -1,7 +1,7 @@
-//! Links libgrouping_host.a.
+//! Links libtest_host.a.
 
 include!("../archive.rs");
 
 fn main() {
-    link("grouping_host");
+    link();
 }

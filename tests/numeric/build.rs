@@ -1,7 +1,7 @@
-//! Links libnumeric_host.a.
+//! Links libtest_host.a.
 
 include!("../archive.rs");
 
 fn main() {
-    link("numeric_host");
+    link();
 }

@@ -1,6 +1,6 @@
--- What the call that is asked hands back on the lent slices is what its definition gives on slices full of marks; and each of its parts is held to the case.
+-- What the call that is asked hands back on the lent slices is what its definition gives on slices full of sentinels; and each of its parts is held to the case.
 use mathlib.Core.Path.{_≡_, ap, _∙_, subst}
-use mathlib.Core.List.{List}
+use mathlib.Core.List.{List, map}
 use mathlib.Core.Bool.{Bool, true, false, _&&_}
 use Prim.Native.Nat.{ℕ, _+_, _-_, _*_, _≤_}
 use native.Mathlib.Omega.{arith}
@@ -17,17 +17,17 @@ use Rattle.evaluator_calls.specs.declared.Colouring.{Colouring}
 use Rattle.evaluator_calls.specs.declared.Colouring.the-variants as colouring
 use Rattle.evaluator_calls.specs.declared.Stretching.{Stretching}
 use Rattle.vectors.specs.Case.{pairAt, columnSize, words}
-use Rattle.vectors.specs.Held.{Tells, Held, bitsOf}
+use Rattle.vectors.specs.Held.{Tells, Held}
 use Rattle.vectors.specs.Table.{entries}
 use Rattle.vectors.specs.declared.case.Head.{Head}
 use Rattle.vectors.specs.Form.{Formed, PartFormed}
-use Rattle.vectors.specs.Lent.{numberMark, floatMark, one, Cleared, Few}
+use Rattle.vectors.specs.Lent.{numberSentinel, floatSentinel, one, Cleared, Few}
 use Rattle.vectors.proofs.TableLaws.{entries-front}
-use Rattle.vectors.proofs.TellsLaws.{denied, tells-as, tells-both}
+use Rattle.vectors.proofs.TellsLaws.{denied, tells-as, tells-both, tells-of}
 use Rattle.vectors.proofs.FormLaws.{ill-at, well-at}
 use Rattle.vectors.proofs.LentLaws.{ones-lent, work-lent, floats-lent}
 use Rattle.cases_colour.specs.Colour.{colourChart, colourLent, stretchOf, MeanIs, Answers, leaves, Answered, ValuesHeld, CallStored, ColourRoom, ColourForm, ColourHolds, StretchHolds}
-use Rattle.cases_colour.specs.declared.Stretch.{Stretch}
+use Rattle.cases_colour.specs.declared.StoredStretch.{StoredStretch}
 use Rattle.cases_colour.specs.declared.Asked.{Asked}
 use Rattle.cases_colour.specs.declared.Asked.the-variants as asked
 
@@ -42,52 +42,56 @@ module _ {call : Asked} {c : Chart} {m : Memory} {r : Bool} where
   colour-answered a e t =
       rw a (record { told = subst (λ (x : Outcome Colouring Memory). Tells r (x .answer ≡ colouring.Done)) e t; memory = ap (λ (x : Outcome Colouring Memory). x .memory) e })
 
-  pub stretch-answered : {o : Outcome Stretching Memory} (s : Stretch) → call ≡ asked.Stretched s → o ≡ stretchOutcome baseSettings c (s .a) (s .b) m → Tells r (MeanIs s (o .answer))
+  pub stretch-answered : {o : Outcome Stretching Memory} (s : StoredStretch) → call ≡ asked.Stretched s → o ≡ stretchOutcome baseSettings c (s .a) (s .b) m → Tells r (MeanIs s (o .answer))
       → Answered call c m (o .memory) r
   unfolding Answers leaves
   stretch-answered s a e t =
       rw a (record { told = subst (λ (x : Outcome Stretching Memory). Tells r (MeanIs s (x .answer))) e t; memory = ap (λ (x : Outcome Stretching Memory). x .memory) e })
 
 pub values-told : {size n : ℕ} {body : List ℕ} {m : Memory} {r : Bool}
-    → Tells r (Held (words body (2 + n + size) n) (toBits binary64 floatMark) (bitsOf (m .value)) × Cleared n (m .work) (m .scratch)) → Tells r (ValuesHeld size n body m)
+    → Tells r (Held (words body (2 + n + size) n) (toBits binary64 floatSentinel) (map (toBits binary64) (m .value)) × Cleared n (m .work) (m .scratch)) → Tells r (ValuesHeld size n body m)
 values-told = tells-as (λ p. record { values = p .0; cleared = p .1 }) (λ p. (p .values, p .cleared))
+
+-- the answer, and what the call leaves
+pub call-told : {call : Asked} {size n : ℕ} {body : List ℕ} {c : Chart} {m m′ : Memory} {a b r : Bool}
+    → Answered call c m m′ a → Tells b (ValuesHeld size n body m′) → r ≡ (a && b) → Tells r (CallStored call size n body c m)
+call-told {size} {n} {body} x t q =
+    tells-as (λ p. record { answer = p .0; memory = p .1 }) (λ p. (p .answer, p .memory))
+    (tells-both _ _ q (x .told) (tells-of (ValuesHeld size n body) (x .memory) t))
 
 -- ---- the chart and the slices, as fronts of what the code makes
 
-abbrev chart : ℕ → List ℕ → List Float → Chart
-chart n body ratios =
+-- the table's floats, read over zeros
+abbrev readRatios : ℕ → ℕ → ℕ → List ℕ → List Float
+readRatios size width n body = over (entries body (2 + n + size + 8 * n) (2 + n) width n) (replicate 16384 (ofBits binary64 0))
+
+abbrev made-chart : ℕ → List ℕ → List Float → Chart
+made-chart n body ratios =
     let ones : List Float = take n (replicate 16384 one) in
     record { kinds = take (2 + n - 2) (drop 2 body); starts = ones; deltas = ones; ratios = take n ratios }
 
-abbrev memory : ℕ → ℕ → Memory
-memory n spare = record {
-  value = take (n + spare) (replicate 16391 floatMark);
-  work = take (8 * n + spare) (replicate 131079 numberMark);
-  scratch = take (n + spare) (replicate 16391 floatMark);
+abbrev made-memory : ℕ → ℕ → Memory
+made-memory n spare = record {
+  value = take (n + spare) (replicate 16391 floatSentinel);
+  work = take (8 * n + spare) (replicate 131079 numberSentinel);
+  scratch = take (n + spare) (replicate 16391 floatSentinel);
 }
 
-module _ (size width n spare : ℕ) (body : List ℕ) (few : Few n spare) where
-  -- the table's floats, read over zeros
-  abbrev readRatios : List Float
-  readRatios = over (entries body (2 + n + size + 8 * n) (2 + n) width n) (replicate 16384 (ofBits binary64 0))
-
-  chart-is : (ratios : List Float) → ratios ≡ readRatios → chart n body ratios ≡ colourChart size width n body
+module _ {n spare : ℕ} (few : Few n spare) (size width : ℕ) (body : List ℕ) {ratios : List Float} (e : ratios ≡ readRatios size width n body) where
+  chart-is : made-chart n body ratios ≡ colourChart size width n body
   unfolding colourChart
-  chart-is ratios e =
-      let f : take n ratios ≡ entries body (2 + n + size + 8 * n) (2 + n) width n = ap (take n) e ∙ entries-front body (2 + n + size + 8 * n) (2 + n) width n _ in
-      rw (lent-part 2 n body, ones-lent few, f)
+  chart-is =
+      let read : take n ratios ≡ entries body (2 + n + size + 8 * n) (2 + n) width n =
+      ap (take n) e ∙ entries-front body (2 + n + size + 8 * n) (2 + n) width n _ in
+      rw (lent-part 2 n body, ones-lent few, read)
 
-  memory-is : memory n spare ≡ colourLent n spare
+  memory-is : made-memory n spare ≡ colourLent n spare
   unfolding colourLent
   memory-is = rw (floats-lent few, work-lent few)
 
-  pub call-told : {call : Asked} {m′ : Memory} {a b r : Bool} (ratios : List Float) → ratios ≡ readRatios → Answered call (chart n body ratios) (memory n spare) m′ a
-      → Tells b (ValuesHeld size n body m′) → r ≡ (a && b) → Tells r (CallStored call size n body (colourChart size width n body) (colourLent n spare))
-  call-told {call} {m′} {a} {b} {r} ratios e x t q =
-      let y : Answered call (colourChart size width n body) (colourLent n spare) m′ a =
-      subst (λ (p : Chart × Memory). Answered call (p .0) (p .1) m′ a) (λ i. (chart-is ratios e i, memory-is i)) x in
-      tells-as (λ p. record { answer = p .0; memory = p .1 }) (λ p. (p .answer, p .memory))
-      (tells-both a b q (y .told) (subst (λ (m : Memory). Tells b (ValuesHeld size n body m)) (y .memory) t))
+  pub made-told : {call : Asked} {r : Bool} → Tells r (CallStored call size n body (made-chart n body ratios) (made-memory n spare))
+      → Tells r (CallStored call size n body (colourChart size width n body) (colourLent n spare))
+  made-told {call} t = tells-of (λ (p : Chart × Memory). CallStored call size n body (p .0) (p .1)) (λ i. (chart-is i, memory-is i)) t
 
 -- ---- the cases
 
@@ -124,11 +128,11 @@ module _ (h : Head) (body : List ℕ) (spare size : ℕ) (e : size ≡ columnSiz
     unfolding StretchHolds
     stretch-ill t f = ill-at forms (stored (asked.Stretched (stretchOf part))) e t f
 
-    pub stretch-told : {b r : Bool} (s : Stretch) → s ≡ stretchOf part → h .objects ≤ 16384 → Tells b (forms size) → b ≡ true → Tells r (stored (asked.Stretched s) size)
+    pub stretch-told : {b r : Bool} (s : StoredStretch) → s ≡ stretchOf part → h .objects ≤ 16384 → Tells b (forms size) → b ≡ true → Tells r (stored (asked.Stretched s) size)
         → Tells r (StretchHolds h body k part spare)
     unfolding StretchHolds
     stretch-told {r} s q l t f u =
-        well-at forms (stored (asked.Stretched (stretchOf part))) e t l f (subst (λ (x : Stretch). Tells r (stored (asked.Stretched x) size)) q u)
+        well-at forms (stored (asked.Stretched (stretchOf part))) e t l f (subst (λ (x : StoredStretch). Tells r (stored (asked.Stretched x) size)) q u)
 
 pub colour-call : (h : Head) (body : List ℕ) (spare : ℕ) → ColourHolds h body spare → h .call ≡ 2
 unfolding ColourHolds ColourForm

@@ -23,7 +23,7 @@ use Rattle.vectors.specs.Case.{pairAt, quadAt, wordAt}
 use Rattle.vectors.specs.Held.{Tells}
 use Rattle.vectors.proofs.TellsLaws.{denied, tells-as, tells-eqb}
 use Rattle.cases_colour.specs.Colour.{signedOf, stretchOf, MeanIs}
-use Rattle.cases_colour.specs.declared.Stretch.{Stretch}
+use Rattle.cases_colour.specs.declared.StoredStretch.{StoredStretch}
 
 -- ---- a number with a sign
 
@@ -53,13 +53,13 @@ signed-high x h =
 -- ---- what is stored
 
 pub stretch-is : (part : List ℕ) (a b mean tenths : ℕ) → a ≡ pairAt part 0 → b ≡ pairAt part 2 → mean ≡ wordAt part 4 → tenths ≡ quadAt part 12
-    → _≡_ {A = Stretch} (record { a = a; b = b; mean = mean; tenths = tenths }) (stretchOf part)
+    → _≡_ {A = StoredStretch} (record { a = a; b = b; mean = mean; tenths = tenths }) (stretchOf part)
 unfolding stretchOf
 stretch-is part a b mean tenths p q r t = rw (p, q, r, t)
 
 -- ---- the comparison
 
-module _ (s : Stretch) (answer : Stretching) (mean : Float) (tenths : ℤ) (e : answer ≡ Done mean tenths) (small : mag tenths < 2 ^ 63)
+module _ (s : StoredStretch) (answer : Stretching) (mean : Float) (tenths : ℤ) (e : answer ≡ Done mean tenths) (small : mag tenths < 2 ^ 63)
     (stored : ℤ) (sign : stored ≡ signedOf (s .tenths)) (fits : mag stored < 2 ^ 63) where
   pub mean-told : (bits : ℕ) → ofZ w64 tenths ≡ ofZ w64 stored → bits ≡ toBits binary64 mean → Tells (eqb bits (s .mean)) (MeanIs s answer)
   unfolding MeanIs
@@ -72,6 +72,6 @@ module _ (s : Stretch) (answer : Stretching) (mean : Float) (tenths : ℤ) (e : 
   tenths-differ f =
       subst (λ (a : Stretching). Tells false (MeanIs s a)) (sym e) (denied (λ p. f (ap (ofZ w64) (p .1 ∙ sym sign))))
 
-pub mean-refused : (s : Stretch) (answer : Stretching) (number : ℕ) (place : ObjectIndex) → answer ≡ Refused number place → Tells false (MeanIs s answer)
+pub mean-refused : (s : StoredStretch) (answer : Stretching) (number : ℕ) (place : ObjectIndex) → answer ≡ Refused number place → Tells false (MeanIs s answer)
 unfolding MeanIs
 mean-refused s answer number place e = subst (λ (a : Stretching). Tells false (MeanIs s a)) (sym e) (denied (λ p. p))

@@ -1,8 +1,8 @@
--- When a stored case of colour, or of a stretch of its chart, holds: the definition of the call gives what the original answered, on the chart that the case says and slices that are
--- lent full of marks.
+-- When a stored case of colour, or of a stretch of its chart, holds: on the chart that its bytes say and slices full of sentinels
+-- the call's definition gives the original's answer.
 use mathlib.Core.Path.{_≡_}
 use mathlib.Core.Bool.{Bool, cond}
-use mathlib.Core.List.{List}
+use mathlib.Core.List.{List, map}
 use Prim.Native.Nat.{ℕ, _+_, _-_, _*_, _≤_}
 use lib.Dec.{ltb}
 use lib.IntN.{ℤ, pos, negℤ}
@@ -16,12 +16,12 @@ use Rattle.evaluator_calls.specs.declared.Colouring.the-variants as colouring
 use Rattle.evaluator_calls.specs.declared.Stretching.{Stretching}
 use Rattle.evaluator_calls.specs.declared.Stretching.the-variants as stretching
 use Rattle.vectors.specs.Case.{pairAt, quadAt, wordAt, columnSize, words}
-use Rattle.vectors.specs.Held.{Tells, Held, bitsOf}
+use Rattle.vectors.specs.Held.{Tells, Held}
 use Rattle.vectors.specs.Table.{entries}
 use Rattle.vectors.specs.declared.case.Head.{Head}
 use Rattle.vectors.specs.Form.{Formed, PartFormed, Holds}
-use Rattle.vectors.specs.Lent.{numberMark, floatMark, one, Cleared, Few}
-use Rattle.cases_colour.specs.declared.Stretch.{Stretch}
+use Rattle.vectors.specs.Lent.{numberSentinel, floatSentinel, one, Cleared, Few}
+use Rattle.cases_colour.specs.declared.StoredStretch.{StoredStretch}
 use Rattle.cases_colour.specs.declared.Asked.{Asked}
 use Rattle.cases_colour.specs.declared.Asked.the-variants as asked
 
@@ -41,13 +41,13 @@ unfoldable pub signedOf : ℕ → ℤ
 signedOf x = cond (ltb x 2147483648) (pos x) (negℤ (pos (4294967296 - x)))
 
 -- a stretch: its two ends, the bits of its mean, and the tenths
-unfoldable pub stretchOf : List ℕ → Stretch
+unfoldable pub stretchOf : List ℕ → StoredStretch
 stretchOf part = record { a = pairAt part 0; b = pairAt part 2; mean = wordAt part 4; tenths = quadAt part 12 }
 
 -- ---- what is compared
 
 -- the mean by its bits, and the tenths
-unfoldable pub MeanIs : Stretch → Stretching → Type 0
+unfoldable pub MeanIs : StoredStretch → Stretching → Type 0
 MeanIs s (stretching.Done mean tenths) = (toBits binary64 mean ≡ s .mean) × (tenths ≡ signedOf (s .tenths))
 MeanIs s (stretching.Refused number place) = ⊥
 
@@ -68,7 +68,7 @@ pub record Answered (call : Asked) (c : Chart) (m m′ : Memory) (r : Bool) : Ty
 
 -- the values of the body, by their bits, and cleared work slices
 pub record ValuesHeld (size n : ℕ) (body : List ℕ) (m : Memory) : Type 0 where
-  pub values : Held (words body (2 + n + size) n) (toBits binary64 floatMark) (bitsOf (m .value))
+  pub values : Held (words body (2 + n + size) n) (toBits binary64 floatSentinel) (map (toBits binary64) (m .value))
   pub cleared : Cleared n (m .work) (m .scratch)
 
 pub record CallStored (call : Asked) (size n : ℕ) (body : List ℕ) (c : Chart) (m : Memory) : Type 0 where
@@ -80,9 +80,9 @@ pub record CallStored (call : Asked) (size n : ℕ) (body : List ℕ) (c : Chart
 -- so many places to spare in each slice
 unfoldable pub colourLent : ℕ → ℕ → Memory
 colourLent n spare = record {
-  value = replicate (n + spare) floatMark;
-  work = replicate (8 * n + spare) numberMark;
-  scratch = replicate (n + spare) floatMark;
+  value = replicate (n + spare) floatSentinel;
+  work = replicate (8 * n + spare) numberSentinel;
+  scratch = replicate (n + spare) floatSentinel;
 }
 
 -- a body for the column and the values

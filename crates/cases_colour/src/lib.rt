@@ -1,9 +1,12 @@
 // A stored case of colour, and of a stretch of its chart.
 ghost use mathlib.Core.Path.{_≡_};
 ghost use Prim.Native.Nat.{_+_, _*_, _≤_};
+ghost use Rattle.grouping_chart.specs.Lent.{chart, lent};
+ghost use Rattle.evaluator_calls.specs.Calls.{before, after};
 ghost use Rattle.evaluator_calls.specs.declared.Colouring.the-variants as colouring;
 ghost use Rattle.vectors.specs.Held.{Tells};
-ghost use Rattle.cases_colour.specs.Colour.{colourChart, colourLent, signedOf, stretchOf, MeanIs, Answered, ValuesHeld, CallStored, ColourRoom, ColourForm, ColourHolds, StretchHolds};
+ghost use Rattle.cases_colour.specs.Colour.{colourChart, colourLent, signedOf, stretchOf, MeanIs, Answered};
+ghost use Rattle.cases_colour.specs.Colour.{ValuesHeld, CallStored, ColourRoom, ColourForm, ColourHolds, StretchHolds};
 use evaluator_calls::Colouring;
 use evaluator_calls::Stretching;
 use numeric::canonical::bits;
@@ -16,11 +19,11 @@ use vectors::form::part_formed;
 use vectors::held;
 use vectors::held::both;
 use vectors::lent;
-use vectors::lent::FLOAT_MARK;
-use vectors::lent::NUMBER_MARK;
+use vectors::lent::FLOAT_SENTINEL;
+use vectors::lent::NUMBER_SENTINEL;
 
 // What is stored of a stretch: its two ends, the bits of its mean, and the tenths, whose sign is in their highest bit.
-pub struct Stretch {
+pub struct StoredStretch {
     pub a: usize,
     pub b: usize,
     pub mean: u64,
@@ -30,7 +33,7 @@ pub struct Stretch {
 // The call that a case is of.
 enum Asked {
     Colour,
-    Stretched(Stretch),
+    Stretched(StoredStretch),
 }
 
 // Four bytes as a number with a sign.
@@ -43,10 +46,10 @@ fn signed(x: u32) -> i64
     -((4294967296 - x as u64) as i64)
 }
 
-fn read_stretch(part: &[u8]) -> Stretch
+fn read_stretch(part: &[u8]) -> StoredStretch
     ensures { λ r. ⌜ r ≡ stretchOf (now (part .entry)) ⌝ }
 {
-    Stretch {
+    StoredStretch {
         a: case::pair_at(part, 0) as usize,
         b: case::pair_at(part, 2) as usize,
         mean: case::word_at(part, 4),
@@ -65,7 +68,7 @@ fn done(answer: Colouring) -> bool
 }
 
 // Whether the stretch is accepted, with the mean and the tenths that are stored.
-fn mean_holds(s: Stretch, answer: Stretching) -> bool
+fn mean_holds(s: StoredStretch, answer: Stretching) -> bool
     ensures { λ r. ⌜ Tells r (MeanIs s answer) ⌝ }
 {
     match answer {
@@ -89,9 +92,7 @@ fn answer_holds(
     work: &mut [u16],
     scratch: &mut [f64],
 ) -> bool
-    ensures { λ r. ⌜ Answered asked (record { kinds = now (kind .entry); starts = now (one .entry); deltas = now (one .entry); ratios = now (ratio .entry) })
-        (record { value = now (value .entry); work = now (work .entry); scratch = now (scratch .entry) })
-        (record { value = now (value .exit); work = now (work .exit); scratch = now (scratch .exit) }) r ⌝ }
+    ensures { λ r. ⌜ Answered asked (chart kind one one ratio) (before value work scratch) (after value work scratch) r ⌝ }
 {
     match asked {
         Asked::Colour => done(evaluator_calls::colour(kind, one, one, ratio, value, work, scratch)),
@@ -112,36 +113,54 @@ fn values_hold(
     scratch: &[f64],
 ) -> bool
     requires { ⌜ (n ≤ 16384) × (size ≤ 2 * n) ⌝ }
-    ensures { λ r. ⌜ Tells r (ValuesHeld size n (now (body .entry)) (record { value = now (value .entry); work = now (work .entry); scratch = now (scratch .entry) })) ⌝ }
+    ensures { λ r. ⌜ Tells r (ValuesHeld size n (lent body) (before value work scratch)) ⌝ }
 {
-    let values = held::floats(body, 2 + n + size, n, FLOAT_MARK, value);
-    let cleared = lent::cleared(n, work, scratch);
+    let values = held::floats_held(body, 2 + n + size, n, FLOAT_SENTINEL, value);
+    let cleared = lent::work_cleared(n, work, scratch);
     both(values, cleared)
 }
 
-// The call that is asked, in slices full of marks, held to the body, whose column of ratios has so many bytes.
+// The call that is asked, in lent slices, held to the body.
+fn lent_holds(
+    asked: Asked,
+    size: usize,
+    n: usize,
+    body: &[u8],
+    kind: &[u8],
+    one: &[f64],
+    ratio: &[f64],
+    value: &mut [f64],
+    work: &mut [u16],
+    scratch: &mut [f64],
+) -> bool
+    requires { ⌜ (n ≤ 16384) × (size ≤ 2 * n) ⌝ }
+    ensures { λ r. ⌜ Tells r (CallStored asked size n (lent body) (chart kind one one ratio) (before value work scratch)) ⌝ }
+{
+    let answer = answer_holds(asked, kind, one, ratio, value, work, scratch);
+    both(answer, values_hold(size, n, body, value, work, scratch))
+}
+
+// The call that is asked, in slices full of sentinels, held to the body, whose column of ratios has so many bytes.
 fn call_holds(asked: Asked, size: usize, width: u8, n: usize, body: &[u8], spare: usize) -> bool
     requires { ⌜ ColourRoom size n (now body) spare ⌝ }
-    ensures { λ r. ⌜ Tells r (CallStored asked size n (now (body .entry)) (colourChart size width n (now (body .entry))) (colourLent n spare)) ⌝ }
+    ensures { λ r. ⌜ Tells r (CallStored asked size n (lent body)
+        (colourChart size width n (lent body)) (colourLent n spare)) ⌝ }
 {
     let room = n + spare;
-    let one = &[1.0; 16384][..n];
     let mut ratios = [0.0; 16384];
     vectors::table::read(body, 2 + n + size + 8 * n, 2 + n, width, n, &mut ratios);
-    let value = &mut [FLOAT_MARK; 16391][..room];
-    let work = &mut [NUMBER_MARK; 131079][..8 * n + spare];
-    let scratch = &mut [FLOAT_MARK; 16391][..room];
-    let answer = answer_holds(
+    lent_holds(
         asked,
+        size,
+        n,
+        body,
         &body[2..2 + n],
-        one,
+        &[1.0; 16384][..n],
         &ratios[..n],
-        value,
-        work,
-        scratch,
-    );
-    let values = values_hold(size, n, body, value, work, scratch);
-    both(answer, values)
+        &mut [FLOAT_SENTINEL; 16391][..room],
+        &mut [NUMBER_SENTINEL; 131079][..8 * n + spare],
+        &mut [FLOAT_SENTINEL; 16391][..room],
+    )
 }
 
 // Whether the bytes have the form of a colour case with a column of this size.

@@ -1,4 +1,4 @@
--- What encode hands back on the lent slices is what its definition gives on slices full of marks; and each of its parts is held to the case.
+-- What encode hands back on the lent slices is what its definition gives on slices full of sentinels; and each of its parts is held to the case.
 use mathlib.Core.Path.{_≡_, ap, _∙_, subst}
 use mathlib.Core.List.{List}
 use mathlib.Core.Bool.{Bool, true, false, _&&_}
@@ -20,7 +20,7 @@ use Rattle.vectors.specs.Case.{pairAt, columnSize, column}
 use Rattle.vectors.specs.Held.{Tells, Held}
 use Rattle.vectors.specs.declared.case.Head.{Head}
 use Rattle.vectors.specs.Form.{Formed}
-use Rattle.vectors.specs.Lent.{numberMark, byteMark, floatMark, one, Columns, Cleared, Few}
+use Rattle.vectors.specs.Lent.{numberSentinel, byteSentinel, floatSentinel, one, Columns, Cleared, Few}
 use Rattle.vectors.proofs.TellsLaws.{denied, tells-as, tells-both, tells-eqb}
 use Rattle.vectors.proofs.FormLaws.{ill-at, well-at}
 use Rattle.vectors.proofs.LentLaws.{ones-lent, numbers-lent, bytes-lent, work-lent, floats-lent}
@@ -35,64 +35,68 @@ module _ (body : List ℕ) (answer : Encoding) where
   pub refused-told : (number : ℕ) (place : ObjectIndex) → answer ≡ Refused number place → Tells false (answer ≡ Done (pairAt body 0))
   refused-told number place e = denied (λ h. let z : _≡_ {A = ℕ} 0 1 = cc in omega arith)
 
+-- ---- answer and slices: each part is compared by itself, and what is told of the parts is put together
+
+pub outcome-told : {size width n : ℕ} {body : List ℕ} {o : Outcome Encoding Memory} {a b c d e f bc abc de def r : Bool}
+    → Tells a (o .answer ≡ Done (pairAt body 0))
+    → Tells b (Columns body (2 + n) size width n (o .memory .streak) (o .memory .streakPlace))
+    → Tells c (Columns body (2 + n + 2 * size) size width n (o .memory .pattern) (o .memory .patternPlace))
+    → Tells d (Held (column body (2 + n + 4 * size) width n) numberSentinel (o .memory .hit))
+    → Tells e (Held (part (2 + n + 5 * size) n body) byteSentinel (o .memory .interval))
+    → Tells f (Cleared n (o .memory .work) (o .memory .scratch))
+    → bc ≡ (b && c) → abc ≡ (a && bc) → de ≡ (d && e) → def ≡ (de && f) → r ≡ (abc && def)
+    → Tells r (EncodeStored size width n body o)
+outcome-told ta tb tc td te tf p q u v w =
+    tells-as
+    (λ p. record {
+      answer = p .0 .0;
+      streak = p .0 .1 .0 .first;
+      streakPlace = p .0 .1 .0 .second;
+      pattern = p .0 .1 .1 .first;
+      patternPlace = p .0 .1 .1 .second;
+      hit = p .1 .0 .0;
+      interval = p .1 .0 .1;
+      cleared = p .1 .1;
+    })
+    (λ q. (
+      (q .answer, (record { first = q .streak; second = q .streakPlace }, record { first = q .pattern; second = q .patternPlace })),
+      ((q .hit, q .interval), q .cleared),
+    ))
+    (tells-both _ _ w (tells-both _ _ q ta (tells-both _ _ p tb tc)) (tells-both _ _ v (tells-both _ _ u td te) tf))
+
 -- ---- the chart and the slices, as fronts of what the code makes
 
-abbrev chart : ℕ → List ℕ → Chart
-chart n body =
+abbrev made-chart : ℕ → List ℕ → Chart
+made-chart n body =
     let ones : List Float = take n (replicate 16384 one) in
     record { kinds = take (2 + n - 2) (drop 2 body); starts = ones; deltas = ones; ratios = ones }
 
-abbrev memory : ℕ → ℕ → Memory
-memory n spare =
-    let numbers : List ℕ = take (n + spare) (replicate 16391 numberMark) in
+abbrev made-memory : ℕ → ℕ → Memory
+made-memory n spare =
+    let numbers : List ℕ = take (n + spare) (replicate 16391 numberSentinel) in
     record {
       streak = numbers;
       streakPlace = numbers;
       pattern = numbers;
       patternPlace = numbers;
       hit = numbers;
-      interval = take (n + spare) (replicate 16391 byteMark);
-      work = take (8 * n + spare) (replicate 131079 numberMark);
-      scratch = take (n + spare) (replicate 16391 floatMark);
+      interval = take (n + spare) (replicate 16391 byteSentinel);
+      work = take (8 * n + spare) (replicate 131079 numberSentinel);
+      scratch = take (n + spare) (replicate 16391 floatSentinel);
     }
 
-module _ (n spare : ℕ) (body : List ℕ) (few : Few n spare) where
-  chart-is : chart n body ≡ encodeChart n body
+module _ {n spare : ℕ} (few : Few n spare) where
+  chart-is : (body : List ℕ) → made-chart n body ≡ encodeChart n body
   unfolding encodeChart
-  chart-is = rw (lent-part 2 n body, ones-lent few)
+  chart-is body = rw (lent-part 2 n body, ones-lent few)
 
-  memory-is : memory n spare ≡ encodeLent n spare
+  memory-is : made-memory n spare ≡ encodeLent n spare
   unfolding encodeLent
   memory-is = rw (numbers-lent few, bytes-lent few, work-lent few, floats-lent few)
 
-  -- each part is compared by itself, and the answers are put together
-  pub call-told : (size width : ℕ) {o : Outcome Encoding Memory} {a b c d e f bc abc de def r : Bool} → o ≡ encodeOutcome baseSettings (chart n body) (memory n spare)
-      → Tells a (o .answer ≡ Done (pairAt body 0))
-      → Tells b (Columns body (2 + n) size width n (o .memory .streak) (o .memory .streakPlace))
-      → Tells c (Columns body (2 + n + 2 * size) size width n (o .memory .pattern) (o .memory .patternPlace))
-      → Tells d (Held (column body (2 + n + 4 * size) width n) numberMark (o .memory .hit))
-      → Tells e (Held (part (2 + n + 5 * size) n body) byteMark (o .memory .interval))
-      → Tells f (Cleared n (o .memory .work) (o .memory .scratch))
-      → bc ≡ (b && c) → abc ≡ (a && bc) → de ≡ (d && e) → def ≡ (de && f) → r ≡ (abc && def)
-      → Tells r (EncodeStored size width n body (encodeOutcome baseSettings (encodeChart n body) (encodeLent n spare)))
-  call-told size width {r} is ta tb tc td te tf p q u v w =
-      subst (λ (x : Outcome Encoding Memory). Tells r (EncodeStored size width n body x)) (is ∙ (λ i. encodeOutcome baseSettings (chart-is i) (memory-is i)))
-      (tells-as
-      (λ p. record {
-        answer = p .0 .0;
-        streak = p .0 .1 .0 .first;
-        streakPlace = p .0 .1 .0 .second;
-        pattern = p .0 .1 .1 .first;
-        patternPlace = p .0 .1 .1 .second;
-        hit = p .1 .0 .0;
-        interval = p .1 .0 .1;
-        cleared = p .1 .1;
-      })
-      (λ q. (
-        (q .answer, (record { first = q .streak; second = q .streakPlace }, record { first = q .pattern; second = q .patternPlace })),
-        ((q .hit, q .interval), q .cleared),
-      ))
-      (tells-both _ _ w (tells-both _ _ q ta (tells-both _ _ p tb tc)) (tells-both _ _ v (tells-both _ _ u td te) tf)))
+  pub made-outcome : (body : List ℕ)
+      → encodeOutcome baseSettings (made-chart n body) (made-memory n spare) ≡ encodeOutcome baseSettings (encodeChart n body) (encodeLent n spare)
+  made-outcome body = λ i. encodeOutcome baseSettings (chart-is body i) (memory-is i)
 
 -- ---- the case
 

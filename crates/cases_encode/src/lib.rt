@@ -2,11 +2,12 @@
 ghost use mathlib.Core.Path.{_≡_};
 ghost use Prim.Native.Nat.{_≤_};
 ghost use Rattle.grouping_chart.specs.Settings.{baseSettings};
-ghost use Rattle.grouping_encode.specs.Encode.{encodeOutcome};
+ghost use Rattle.grouping_chart.specs.Lent.{outcome, chart, lent};
+ghost use Rattle.grouping_encode.specs.Encode.{before, encodeOutcome};
 ghost use Rattle.grouping_encode.specs.declared.Encoding.the-variants as encoding;
 ghost use Rattle.vectors.specs.Case.{pairAt};
 ghost use Rattle.vectors.specs.Held.{Tells};
-ghost use Rattle.cases_encode.specs.Encode.{encodeChart, encodeLent, EncodeStored, EncodeRoom, EncodeHolds};
+ghost use Rattle.cases_encode.specs.Encode.{encodeChart, encodeLent, EncodeStored, EncodeCompared, EncodeRoom, EncodeHolds};
 use grouping_encode::Encoding;
 use vectors::case::Head;
 use vectors::form::ENCODE;
@@ -14,9 +15,9 @@ use vectors::form::formed;
 use vectors::held;
 use vectors::held::both;
 use vectors::lent;
-use vectors::lent::BYTE_MARK;
-use vectors::lent::FLOAT_MARK;
-use vectors::lent::NUMBER_MARK;
+use vectors::lent::BYTE_SENTINEL;
+use vectors::lent::FLOAT_SENTINEL;
+use vectors::lent::NUMBER_SENTINEL;
 
 // Whether the chart is accepted, with as many hit patterns as the body's first number says.
 fn count_holds(body: &[u8], answer: Encoding) -> bool
@@ -28,45 +29,113 @@ fn count_holds(body: &[u8], answer: Encoding) -> bool
     }
 }
 
-// Encode in slices full of marks, held to the body, each of whose columns has so many bytes.
-fn call_holds(size: usize, width: u8, n: usize, body: &[u8], spare: usize) -> bool
-    requires { ⌜ EncodeRoom size n (now body) spare ⌝ }
-    ensures { λ r. ⌜ Tells r (EncodeStored size width n (now (body .entry)) (encodeOutcome baseSettings (encodeChart n (now (body .entry))) (encodeLent n spare))) ⌝ }
+// Whether an answer and slices are those of the body, each of whose columns has so many bytes.
+fn outcome_holds(
+    size: usize,
+    width: u8,
+    n: usize,
+    body: &[u8],
+    answer: Encoding,
+    streak: &[u16],
+    streak_place: &[u16],
+    pattern: &[u16],
+    pattern_place: &[u16],
+    hit: &[u16],
+    interval: &[u8],
+    work: &[u16],
+    scratch: &[f64],
+) -> bool
+    requires { ⌜ EncodeCompared size n (now body) (now interval) ⌝ }
+    ensures { λ r. ⌜ Tells r (EncodeStored size width n (lent body)
+        (outcome answer (before streak «streak_place» pattern «pattern_place» hit interval work scratch))) ⌝ }
 {
-    let room = n + spare;
-    let one = &[1.0; 16384][..n];
-    let streak = &mut [NUMBER_MARK; 16391][..room];
-    let inner = &mut [NUMBER_MARK; 16391][..room];
-    let pattern = &mut [NUMBER_MARK; 16391][..room];
-    let outer = &mut [NUMBER_MARK; 16391][..room];
-    let hit = &mut [NUMBER_MARK; 16391][..room];
-    let interval = &mut [BYTE_MARK; 16391][..room];
-    let work = &mut [NUMBER_MARK; 131079][..8 * n + spare];
-    let scratch = &mut [FLOAT_MARK; 16391][..room];
+    let at = 2 + n;
+    let count = count_holds(body, answer);
+    let streaks = lent::columns_held(body, at, size, width, n, streak, streak_place);
+    let patterns = lent::columns_held(body, at + 2 * size, size, width, n, pattern, pattern_place);
+    let hits = held::column_held(body, at + 4 * size, width, n, NUMBER_SENTINEL, hit);
+    let intervals = held::bytes_held(body, at + 5 * size, n, BYTE_SENTINEL, interval);
+    let cleared = lent::work_cleared(n, work, scratch);
+    let first = both(count, both(streaks, patterns));
+    let rest = both(both(hits, intervals), cleared);
+    both(first, rest)
+}
+
+// Encode in lent slices, held to the body.
+fn lent_holds(
+    size: usize,
+    width: u8,
+    n: usize,
+    body: &[u8],
+    kind: &[u8],
+    one: &[f64],
+    streak: &mut [u16],
+    streak_place: &mut [u16],
+    pattern: &mut [u16],
+    pattern_place: &mut [u16],
+    hit: &mut [u16],
+    interval: &mut [u8],
+    work: &mut [u16],
+    scratch: &mut [f64],
+) -> bool
+    requires { ⌜ EncodeCompared size n (now body) (now interval) ⌝ }
+    ensures { λ r. ⌜ Tells r (EncodeStored size width n (lent body) (encodeOutcome baseSettings (chart kind one one one)
+        (before streak «streak_place» pattern «pattern_place» hit interval work scratch))) ⌝ }
+{
     let answer = grouping_encode::encode(
-        &body[2..2 + n],
+        kind,
         one,
         one,
         one,
         streak,
-        inner,
+        streak_place,
         pattern,
-        outer,
+        pattern_place,
         hit,
         interval,
         work,
         scratch,
     );
-    let at = 2 + n;
-    let count = count_holds(body, answer);
-    let streaks = lent::columns(body, at, size, width, n, streak, inner);
-    let patterns = lent::columns(body, at + 2 * size, size, width, n, pattern, outer);
-    let hits = held::numbers(body, at + 4 * size, width, n, NUMBER_MARK, hit);
-    let intervals = held::row(body, at + 5 * size, n, BYTE_MARK, interval);
-    let cleared = lent::cleared(n, work, scratch);
-    let first = both(count, both(streaks, patterns));
-    let rest = both(both(hits, intervals), cleared);
-    both(first, rest)
+    outcome_holds(
+        size,
+        width,
+        n,
+        body,
+        answer,
+        streak,
+        streak_place,
+        pattern,
+        pattern_place,
+        hit,
+        interval,
+        work,
+        scratch,
+    )
+}
+
+// Encode in slices full of sentinels, held to the body.
+fn call_holds(size: usize, width: u8, n: usize, body: &[u8], spare: usize) -> bool
+    requires { ⌜ EncodeRoom size n (now body) spare ⌝ }
+    ensures { λ r. ⌜ Tells r (EncodeStored size width n (lent body)
+        (encodeOutcome baseSettings (encodeChart n (lent body)) (encodeLent n spare))) ⌝ }
+{
+    let room = n + spare;
+    lent_holds(
+        size,
+        width,
+        n,
+        body,
+        &body[2..2 + n],
+        &[1.0; 16384][..n],
+        &mut [NUMBER_SENTINEL; 16391][..room],
+        &mut [NUMBER_SENTINEL; 16391][..room],
+        &mut [NUMBER_SENTINEL; 16391][..room],
+        &mut [NUMBER_SENTINEL; 16391][..room],
+        &mut [NUMBER_SENTINEL; 16391][..room],
+        &mut [BYTE_SENTINEL; 16391][..room],
+        &mut [NUMBER_SENTINEL; 131079][..8 * n + spare],
+        &mut [FLOAT_SENTINEL; 16391][..room],
+    )
 }
 
 // Whether encode answers as the case has it, in slices with so many places to spare.

@@ -5,8 +5,12 @@ ghost use lib.Ieee as Ieee;
 ghost use lib.Ieee.{binary64};
 ghost use Rattle.vectors.specs.Case.{pairAt, wordAt};
 ghost use Rattle.vectors.specs.Held.{Tells};
-ghost use Rattle.cases_rhythm.specs.Rhythm.{RhythmRoom};
-ghost use Rattle.cases_record.specs.Record.{recordOf, OwnIs, RecordIs, RecordStored, RecordHolds};
+ghost use Rattle.grouping_chart.specs.Lent.{chart, lent};
+ghost use Rattle.evaluator_record.specs.Calls.{before};
+ghost use Rattle.cases_rhythm.specs.Rhythm.{rhythmChart, RhythmRoom};
+ghost use Rattle.cases_record.specs.Record.{recordLent, askedOutcome, OwnIs, PlacesAre, ScoresAre};
+ghost use Rattle.cases_record.specs.Record.{RecordIs, RecordStored, RecordHolds};
+use evaluator_record::GroupRecord;
 use evaluator_record::Recording;
 use grouping_same_rhythm::own::Own;
 use numeric::canonical::bits;
@@ -16,13 +20,13 @@ use vectors::form::RECORD;
 use vectors::form::part_formed;
 use vectors::held::both;
 use vectors::lent;
-use vectors::lent::FLOAT_MARK;
-use vectors::lent::NUMBER_MARK;
+use vectors::lent::FLOAT_SENTINEL;
+use vectors::lent::NUMBER_SENTINEL;
 
 // Whether a float has the bits that stand at a place.
 fn bits_hold(part: &[u8], at: usize, x: f64) -> bool
     requires { ⌜ at + 8 < 2 ^ 32 ⌝ }
-    ensures { λ r. ⌜ Tells r (Ieee.toBits binary64 x ≡ wordAt (now (part .entry)) at) ⌝ }
+    ensures { λ r. ⌜ Tells r (Ieee.toBits binary64 x ≡ wordAt (lent part) at) ⌝ }
 {
     bits(x) == case::word_at(part, at)
 }
@@ -30,78 +34,113 @@ fn bits_hold(part: &[u8], at: usize, x: f64) -> bool
 // Whether a number stands in two bytes at a place.
 fn number_holds(part: &[u8], at: usize, x: usize) -> bool
     requires { ⌜ at < 2 ^ 32 ⌝ }
-    ensures { λ r. ⌜ Tells r (x ≡ pairAt (now (part .entry)) at) ⌝ }
+    ensures { λ r. ⌜ Tells r (x ≡ pairAt (lent part) at) ⌝ }
 {
     x == case::pair_at(part, at) as usize
 }
 
-// Whether the own interval is that of the part, or absent as there.
+// Whether the own interval is that of the part: 1 and its bits, or 0 and 0 where it is absent.
 fn own_holds(part: &[u8], own: Own) -> bool
-    ensures { λ r. ⌜ Tells r (OwnIs (now (part .entry)) own) ⌝ }
+    ensures { λ r. ⌜ Tells r (OwnIs (lent part) own) ⌝ }
 {
     match own {
-        Own::Absent => case::pair_at(part, 8) == 0,
+        Own::Absent => both(case::pair_at(part, 8) == 0, case::word_at(part, 18) == 0),
         Own::Millis(x) => both(case::pair_at(part, 8) == 1, bits_hold(part, 18, x)),
     }
 }
 
+// Whether first note, note count, pattern group and own interval are those of the part.
+fn places_hold(part: &[u8], r: GroupRecord) -> bool
+    ensures { λ told. ⌜ Tells told (PlacesAre (lent part) r) ⌝ }
+{
+    let first = r.first;
+    let own = r.own;
+    let notes = both(
+        number_holds(part, 2, first.0),
+        number_holds(part, 4, r.notes),
+    );
+    both(
+        notes,
+        both(number_holds(part, 6, r.pattern), own_holds(part, own)),
+    )
+}
+
+// Whether ratio, interval, penalty and pattern ratio are those of the part, by their bits.
+fn scores_hold(part: &[u8], r: GroupRecord) -> bool
+    ensures { λ told. ⌜ Tells told (ScoresAre (lent part) r) ⌝ }
+{
+    let ratios = both(
+        bits_hold(part, 26, r.ratio),
+        bits_hold(part, 34, r.interval),
+    );
+    both(
+        ratios,
+        both(
+            bits_hold(part, 42, r.penalty),
+            bits_hold(part, 50, r.patternratio),
+        ),
+    )
+}
+
 // Whether the record is accepted, with every field of the part.
 fn fields_hold(part: &[u8], answer: Recording) -> bool
-    ensures { λ r. ⌜ Tells r (RecordIs (now (part .entry)) answer) ⌝ }
+    ensures { λ r. ⌜ Tells r (RecordIs (lent part) answer) ⌝ }
 {
     match answer {
-        Recording::Done(r) => {
-            let first = r.first;
-            let own = r.own;
-            let places = both(
-                number_holds(part, 2, first.0),
-                number_holds(part, 4, r.notes),
-            );
-            let group = both(number_holds(part, 6, r.pattern), own_holds(part, own));
-            let ratios = both(
-                bits_hold(part, 26, r.ratio),
-                bits_hold(part, 34, r.interval),
-            );
-            let more = both(
-                bits_hold(part, 42, r.penalty),
-                bits_hold(part, 50, r.patternratio),
-            );
-            both(both(places, group), both(ratios, more))
-        }
+        Recording::Done(r) => both(places_hold(part, r), scores_hold(part, r)),
         Recording::Refused(_, _) => false,
     }
 }
 
-// Record in slices full of marks, held to the part.
+// Record in lent slices, held to the part.
+fn lent_holds(
+    n: usize,
+    part: &[u8],
+    kind: &[u8],
+    start: &[f64],
+    delta: &[f64],
+    one: &[f64],
+    work: &mut [u16],
+    scratch: &mut [f64],
+) -> bool
+    requires { ⌜ n ≤ 16384 ⌝ }
+    ensures { λ r. ⌜ Tells r (RecordStored n (lent part)
+        (askedOutcome (lent part) (chart kind start delta one) (before work scratch))) ⌝ }
+{
+    let group = case::pair_at(part, 0) as usize;
+    let window = case::float_of(case::word_at(part, 10));
+    let answer = evaluator_record::record(kind, start, delta, one, group, window, work, scratch);
+    both(
+        fields_hold(part, answer),
+        lent::work_cleared(n, work, scratch),
+    )
+}
+
+// Record in slices full of sentinels, held to the part.
 fn call_holds(n: usize, body: &[u8], part: &[u8], spare: usize) -> bool
     requires { ⌜ RhythmRoom n (now body) spare ⌝ }
-    ensures { λ r. ⌜ Tells r (RecordStored n (now (part .entry)) (recordOf n (now (body .entry)) (now (part .entry)) spare)) ⌝ }
+    ensures { λ r. ⌜ Tells r (RecordStored n (lent part)
+        (askedOutcome (lent part) (rhythmChart n (lent body)) (recordLent n spare))) ⌝ }
 {
-    let one = &[1.0; 16384][..n];
     let mut starts = [0.0; 16384];
     let mut deltas = [0.0; 16384];
     cases_rhythm::read_times(n, body, &mut starts, &mut deltas);
-    let work = &mut [NUMBER_MARK; 131079][..8 * n + spare];
-    let scratch = &mut [FLOAT_MARK; 16391][..n + spare];
-    let answer = evaluator_record::record(
+    lent_holds(
+        n,
+        part,
         &body[4..4 + n],
         &starts[..n],
         &deltas[..n],
-        one,
-        case::pair_at(part, 0) as usize,
-        case::float_of(case::word_at(part, 10)),
-        work,
-        scratch,
-    );
-    let fields = fields_hold(part, answer);
-    let cleared = lent::cleared(n, work, scratch);
-    both(fields, cleared)
+        &[1.0; 16384][..n],
+        &mut [NUMBER_SENTINEL; 131079][..8 * n + spare],
+        &mut [FLOAT_SENTINEL; 16391][..n + spare],
+    )
 }
 
 // Whether the record with this head and these bytes, of the chart of a rhythm case, is answered as they have it.
 pub fn holds(chart: Head, body: &[u8], h: Head, part: &[u8], spare: usize) -> bool
     requires { ⌜ spare ≤ 7 ⌝ }
-    ensures { λ r. ⌜ Tells r (RecordHolds chart (now (body .entry)) h (now (part .entry)) spare) ⌝ }
+    ensures { λ r. ⌜ Tells r (RecordHolds chart (lent body) h (lent part) spare) ⌝ }
 {
     let n = chart.objects;
     if n > 16384 {

@@ -1,4 +1,4 @@
--- What rhythm hands back on the lent slices is what its definition gives on slices full of marks; and each of its parts is held to the case.
+-- What rhythm hands back on the lent slices is what its definition gives on slices full of sentinels; and each of its parts is held to the case.
 use mathlib.Core.Path.{_≡_, ap, _∙_, subst}
 use mathlib.Core.List.{List}
 use mathlib.Core.Bool.{Bool, false, _&&_}
@@ -19,9 +19,9 @@ use Rattle.vectors.specs.Case.{pairAt}
 use Rattle.vectors.specs.Held.{Tells}
 use Rattle.vectors.specs.Table.{entries}
 use Rattle.vectors.specs.declared.case.Head.{Head}
-use Rattle.vectors.specs.Lent.{numberMark, floatMark, one, Columns, Cleared, Few}
+use Rattle.vectors.specs.Lent.{numberSentinel, floatSentinel, one, Columns, Cleared, Few}
 use Rattle.vectors.proofs.TableLaws.{entries-front}
-use Rattle.vectors.proofs.TellsLaws.{denied, tells-as, tells-both, tells-eqb}
+use Rattle.vectors.proofs.TellsLaws.{denied, tells-as, tells-both, tells-of, tells-eqb}
 use Rattle.vectors.proofs.LentLaws.{ones-lent, numbers-lent, work-lent, floats-lent}
 use Rattle.cases_rhythm.specs.Rhythm.{rhythmChart, rhythmLent, TimesRead, RhythmRoom, RhythmStored, RhythmForm, RhythmHolds}
 
@@ -36,45 +36,50 @@ module _ (body : List ℕ) (answer : Grouping) where
   pub counts-refused : (number : ℕ) (place : ObjectIndex) → answer ≡ Refused number place → Tells false (answer ≡ Done (pairAt body 0) (pairAt body 2))
   counts-refused number place e = denied (λ h. let z : _≡_ {A = ℕ} 0 1 = cc in omega arith)
 
+-- ---- answer and slices: each part is compared by itself, and what is told of the parts is put together
+
+pub outcome-told : {n : ℕ} {body : List ℕ} {o : Outcome Grouping Memory} {a b c bc r : Bool}
+    → Tells a (o .answer ≡ Done (pairAt body 0) (pairAt body 2))
+    → Tells b (Columns body (4 + 17 * n) (2 * n) 2 n (o .memory .group) (o .memory .pattern))
+    → Tells c (Cleared n (o .memory .work) (o .memory .scratch))
+    → bc ≡ (b && c) → r ≡ (a && bc) → Tells r (RhythmStored n body o)
+outcome-told ta tb tc p q =
+    tells-as (λ p. record { answer = p .0; numbers = p .1 .0; cleared = p .1 .1 }) (λ q. (q .answer, (q .numbers, q .cleared)))
+    (tells-both _ _ q ta (tells-both _ _ p tb tc))
+
 -- ---- the chart and the slices, as fronts of what the code makes
 
-abbrev pub chart : ℕ → List ℕ → List Float → List Float → Chart
-chart n body starts deltas =
+abbrev pub made-chart : ℕ → List ℕ → List Float → List Float → Chart
+made-chart n body starts deltas =
     record { kinds = take (4 + n - 4) (drop 4 body); starts = take n starts; deltas = take n deltas; ratios = take n (replicate 16384 one) }
+
+abbrev made-memory : ℕ → ℕ → Memory
+made-memory n spare = record {
+  group = take (n + spare) (replicate 16391 numberSentinel);
+  pattern = take (n + spare) (replicate 16391 numberSentinel);
+  work = take (8 * n + spare) (replicate 131079 numberSentinel);
+  scratch = take (n + spare) (replicate 16391 floatSentinel);
+}
 
 abbrev pub zeros : List Float
 zeros = replicate 16384 (ofBits binary64 0)
 
-module _ (n spare : ℕ) (body : List ℕ) (few : Few n spare) {starts deltas : List Float} (x : TimesRead n body zeros starts zeros deltas) where
-  pub chart-is : chart n body starts deltas ≡ rhythmChart n body
+module _ {n spare : ℕ} (few : Few n spare) (body : List ℕ) {starts deltas : List Float} (x : TimesRead n body zeros starts zeros deltas) where
+  pub chart-is : made-chart n body starts deltas ≡ rhythmChart n body
   unfolding rhythmChart
   chart-is =
       let s : take n starts ≡ entries body (4 + n) 0 0 n = ap (take n) (x .starts) ∙ entries-front body (4 + n) 0 0 n zeros in
       let d : take n deltas ≡ entries body (4 + 9 * n) 0 0 n = ap (take n) (x .deltas) ∙ entries-front body (4 + 9 * n) 0 0 n zeros in
       rw (lent-part 4 n body, ones-lent few, s, d)
 
-  abbrev memory : Memory
-  memory = record {
-    group = take (n + spare) (replicate 16391 numberMark);
-    pattern = take (n + spare) (replicate 16391 numberMark);
-    work = take (8 * n + spare) (replicate 131079 numberMark);
-    scratch = take (n + spare) (replicate 16391 floatMark);
-  }
-
-  memory-is : memory ≡ rhythmLent n spare
+  memory-is : made-memory n spare ≡ rhythmLent n spare
   unfolding rhythmLent
   memory-is = rw (numbers-lent few, work-lent few, floats-lent few)
 
-  -- each part is compared by itself, and the answers are put together
-  pub call-told : {o : Outcome Grouping Memory} {a b c bc r : Bool} → o ≡ rhythmOutcome baseSettings (chart n body starts deltas) memory
-      → Tells a (o .answer ≡ Done (pairAt body 0) (pairAt body 2))
-      → Tells b (Columns body (4 + 17 * n) (2 * n) 2 n (o .memory .group) (o .memory .pattern))
-      → Tells c (Cleared n (o .memory .work) (o .memory .scratch))
-      → bc ≡ (b && c) → r ≡ (a && bc) → Tells r (RhythmStored n body (rhythmOutcome baseSettings (rhythmChart n body) (rhythmLent n spare)))
-  call-told {r} is ta tb tc p q =
-      subst (λ (y : Outcome Grouping Memory). Tells r (RhythmStored n body y)) (is ∙ (λ i. rhythmOutcome baseSettings (chart-is i) (memory-is i)))
-      (tells-as (λ p. record { answer = p .0; numbers = p .1 .0; cleared = p .1 .1 }) (λ q. (q .answer, (q .numbers, q .cleared)))
-      (tells-both _ _ q ta (tells-both _ _ p tb tc)))
+  pub made-told : {r : Bool}
+      → Tells r (RhythmStored n body (rhythmOutcome baseSettings (made-chart n body starts deltas) (made-memory n spare)))
+      → Tells r (RhythmStored n body (rhythmOutcome baseSettings (rhythmChart n body) (rhythmLent n spare)))
+  made-told t = tells-of (RhythmStored n body) (λ i. rhythmOutcome baseSettings (chart-is i) (memory-is i)) t
 
 -- ---- the case
 

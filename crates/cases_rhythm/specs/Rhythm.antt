@@ -1,4 +1,5 @@
--- When a stored case of rhythm holds: the definition of the call gives what the original answered, on the chart that the case says and slices that are lent full of marks.
+-- When a stored case of rhythm holds: on the chart that its bytes say and slices full of sentinels the call's definition gives
+-- the original's answer.
 use mathlib.Core.Path.{_≡_}
 use mathlib.Core.List.{List}
 use Prim.Native.Nat.{ℕ, _+_, _*_, _≤_}
@@ -15,7 +16,7 @@ use Rattle.vectors.specs.Case.{pairAt}
 use Rattle.vectors.specs.Table.{entries}
 use Rattle.vectors.specs.declared.case.Head.{Head}
 use Rattle.vectors.specs.Form.{Formed, Holds}
-use Rattle.vectors.specs.Lent.{numberMark, floatMark, one, Columns, Cleared, Few}
+use Rattle.vectors.specs.Lent.{numberSentinel, floatSentinel, one, Columns, Cleared, Few}
 
 -- ---- what is stored
 
@@ -43,10 +44,10 @@ pub record RhythmRoom (n : ℕ) (body : List ℕ) (spare : ℕ) : Type 0 where
 -- so many places to spare in each slice
 unfoldable pub rhythmLent : ℕ → ℕ → Memory
 rhythmLent n spare = record {
-  group = replicate (n + spare) numberMark;
-  pattern = replicate (n + spare) numberMark;
-  work = replicate (8 * n + spare) numberMark;
-  scratch = replicate (n + spare) floatMark;
+  group = replicate (n + spare) numberSentinel;
+  pattern = replicate (n + spare) numberSentinel;
+  work = replicate (8 * n + spare) numberSentinel;
+  scratch = replicate (n + spare) floatSentinel;
 }
 
 -- both counts, the numbers of each object, which have two bytes, and cleared work slices

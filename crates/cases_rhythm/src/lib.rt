@@ -2,11 +2,13 @@
 ghost use mathlib.Core.Path.{_≡_};
 ghost use Prim.Native.Nat.{_≤_};
 ghost use Rattle.grouping_chart.specs.Settings.{baseSettings};
-ghost use Rattle.grouping_rhythm.specs.Rhythm.{rhythmOutcome};
+ghost use Rattle.grouping_chart.specs.Lent.{outcome, chart, lent, left};
+ghost use Rattle.grouping_rhythm.specs.Rhythm.{before, rhythmOutcome};
 ghost use Rattle.grouping_rhythm.specs.declared.Grouping.the-variants as grouping;
 ghost use Rattle.vectors.specs.Case.{pairAt};
 ghost use Rattle.vectors.specs.Held.{Tells};
-ghost use Rattle.cases_rhythm.specs.Rhythm.{rhythmChart, rhythmLent, TimesRoom, TimesRead, RhythmRoom, RhythmStored, RhythmForm, RhythmHolds};
+ghost use Rattle.cases_rhythm.specs.Rhythm.{rhythmChart, rhythmLent, TimesRoom, TimesRead};
+ghost use Rattle.cases_rhythm.specs.Rhythm.{RhythmRoom, RhythmStored, RhythmForm, RhythmHolds};
 use grouping_rhythm::Grouping;
 use vectors::case;
 use vectors::case::Head;
@@ -14,14 +16,14 @@ use vectors::form::RHYTHM;
 use vectors::form::formed;
 use vectors::held::both;
 use vectors::lent;
-use vectors::lent::FLOAT_MARK;
-use vectors::lent::NUMBER_MARK;
+use vectors::lent::FLOAT_SENTINEL;
+use vectors::lent::NUMBER_SENTINEL;
 use vectors::table;
 
 // Reads the starts and the deltas.
 pub fn read_times(n: usize, body: &[u8], start: &mut [f64], delta: &mut [f64])
     requires { ⌜ TimesRoom n (now start) (now delta) ⌝ }
-    ensures { λ r. ⌜ TimesRead n (now (body .entry)) (now (start .entry)) (now (start .exit)) (now (delta .entry)) (now (delta .exit)) ⌝ }
+    ensures { λ r. ⌜ TimesRead n (lent body) (lent start) (left start) (lent delta) (left delta) ⌝ }
 {
     table::read(body, 4 + n, 0, 0, n, start);
     table::read(body, 4 + 9 * n, 0, 0, n, delta);
@@ -29,7 +31,7 @@ pub fn read_times(n: usize, body: &[u8], start: &mut [f64], delta: &mut [f64])
 
 // Whether the chart is accepted, with as many groups and pattern groups as the body's first two numbers say.
 fn counts_hold(body: &[u8], answer: Grouping) -> bool
-    ensures { λ r. ⌜ Tells r (answer ≡ grouping.Done (pairAt (now (body .entry)) 0) (pairAt (now (body .entry)) 2)) ⌝ }
+    ensures { λ r. ⌜ Tells r (answer ≡ grouping.Done (pairAt (lent body) 0) (pairAt (lent body) 2)) ⌝ }
 {
     match answer {
         Grouping::Done(groups, patterns) => both(
@@ -40,34 +42,68 @@ fn counts_hold(body: &[u8], answer: Grouping) -> bool
     }
 }
 
-// Rhythm in slices full of marks, held to the body.
+// Whether an answer and slices are those of the body.
+fn outcome_holds(
+    n: usize,
+    body: &[u8],
+    answer: Grouping,
+    group: &[u16],
+    pattern: &[u16],
+    work: &[u16],
+    scratch: &[f64],
+) -> bool
+    requires { ⌜ n ≤ 16384 ⌝ }
+    ensures { λ r. ⌜ Tells r (RhythmStored n (lent body) (outcome answer (before group pattern work scratch))) ⌝ }
+{
+    let counts = counts_hold(body, answer);
+    let numbers = lent::columns_held(body, 4 + 17 * n, 2 * n, 2, n, group, pattern);
+    let cleared = lent::work_cleared(n, work, scratch);
+    both(counts, both(numbers, cleared))
+}
+
+// Rhythm in lent slices, held to the body.
+fn lent_holds(
+    n: usize,
+    body: &[u8],
+    kind: &[u8],
+    start: &[f64],
+    delta: &[f64],
+    one: &[f64],
+    group: &mut [u16],
+    pattern: &mut [u16],
+    work: &mut [u16],
+    scratch: &mut [f64],
+) -> bool
+    requires { ⌜ n ≤ 16384 ⌝ }
+    ensures { λ r. ⌜ Tells r (RhythmStored n (lent body)
+        (rhythmOutcome baseSettings (chart kind start delta one) (before group pattern work scratch))) ⌝ }
+{
+    let answer = grouping_rhythm::rhythm(kind, start, delta, one, group, pattern, work, scratch);
+    outcome_holds(n, body, answer, group, pattern, work, scratch)
+}
+
+// Rhythm in slices full of sentinels, held to the body.
 fn call_holds(n: usize, body: &[u8], spare: usize) -> bool
     requires { ⌜ RhythmRoom n (now body) spare ⌝ }
-    ensures { λ r. ⌜ Tells r (RhythmStored n (now (body .entry)) (rhythmOutcome baseSettings (rhythmChart n (now (body .entry))) (rhythmLent n spare))) ⌝ }
+    ensures { λ r. ⌜ Tells r (RhythmStored n (lent body)
+        (rhythmOutcome baseSettings (rhythmChart n (lent body)) (rhythmLent n spare))) ⌝ }
 {
     let room = n + spare;
-    let one = &[1.0; 16384][..n];
     let mut starts = [0.0; 16384];
     let mut deltas = [0.0; 16384];
     read_times(n, body, &mut starts, &mut deltas);
-    let group = &mut [NUMBER_MARK; 16391][..room];
-    let pattern = &mut [NUMBER_MARK; 16391][..room];
-    let work = &mut [NUMBER_MARK; 131079][..8 * n + spare];
-    let scratch = &mut [FLOAT_MARK; 16391][..room];
-    let answer = grouping_rhythm::rhythm(
+    lent_holds(
+        n,
+        body,
         &body[4..4 + n],
         &starts[..n],
         &deltas[..n],
-        one,
-        group,
-        pattern,
-        work,
-        scratch,
-    );
-    let counts = counts_hold(body, answer);
-    let numbers = lent::columns(body, 4 + 17 * n, 2 * n, 2, n, group, pattern);
-    let cleared = lent::cleared(n, work, scratch);
-    both(counts, both(numbers, cleared))
+        &[1.0; 16384][..n],
+        &mut [NUMBER_SENTINEL; 16391][..room],
+        &mut [NUMBER_SENTINEL; 16391][..room],
+        &mut [NUMBER_SENTINEL; 131079][..8 * n + spare],
+        &mut [FLOAT_SENTINEL; 16391][..room],
+    )
 }
 
 // Whether the bytes have the form of a rhythm case.

@@ -8,121 +8,110 @@ use native.Mathlib.Omega.{arith}
 use borrow.Author.Count.{below-more}
 use borrow.Author.Tests.{lt-ltb, le-ltb, ltb-true, ltb-false}
 use lib.Dec.{ltb}
-use lib.ListN.{length, take, getD, length-take, length-map, replicate, length-replicate, getD-replicate}
+use lib.ListN.{length, take, getD, length-take, replicate, length-replicate, getD-replicate}
 use lib.Seq.{length-take-le, getD-take, ext-getD}
-use lib.Ieee.{Float, binary64, toBits}
 use Rattle.grouping_marks.specs.Over.{over}
 use Rattle.grouping_marks.specs.Scan.{tabulate}
 use Rattle.grouping_marks.proofs.OverLaws.{front, length-over, put-front, getD-put-after}
-use Rattle.grouping_marks.proofs.FillLaws.{length-tabulate, getD-tabulate, getD-map}
+use Rattle.grouping_marks.proofs.FillLaws.{length-tabulate, getD-tabulate}
 use Rattle.vectors.specs.Case.{pair, pairAt, quadAt, wordAt, numberAt, column, columnWord, words}
-use Rattle.vectors.specs.Held.{Tells, Held, expected, bitsOf}
+use Rattle.vectors.specs.Held.{Tells, Held, expected}
 use Rattle.vectors.proofs.TellsLaws.{denied, granted}
 
 -- ---- what is expected, case by case
 
-module _ (n : ℕ) (want : ℕ → ℕ) (mark i r : ℕ) where
-  pub expected-front : i < n → r ≡ want i → r ≡ expected n want mark i
+module _ (n : ℕ) (want : ℕ → ℕ) (sentinel i r : ℕ) where
+  pub expected-front : i < n → r ≡ want i → r ≡ expected n want sentinel i
   unfolding expected
   expected-front h e = rw (lt-ltb i n h) e
 
-  pub expected-past : n ≤ i → r ≡ mark → r ≡ expected n want mark i
+  pub expected-past : n ≤ i → r ≡ sentinel → r ≡ expected n want sentinel i
   unfolding expected
   expected-past h e = rw (le-ltb i n h) e
 
--- ---- `new` written over marks, place by place
+-- ---- `new` written over sentinels, place by place
 
-module _ (new : List ℕ) (mark room i : ℕ) where
-  marks-front : i < length new → getD (over new (replicate room mark)) i 0 ≡ getD new i 0
-  marks-front h =
-      sym (getD-take (length new) (over new (replicate room mark)) i 0 h)
-      ∙ ap (λ (xs : List ℕ). getD xs i 0) (front new (replicate room mark) (length new) refl)
+module _ (new : List ℕ) (sentinel room i : ℕ) where
+  written-front : i < length new → getD (over new (replicate room sentinel)) i 0 ≡ getD new i 0
+  written-front h =
+      sym (getD-take (length new) (over new (replicate room sentinel)) i 0 h)
+      ∙ ap (λ (xs : List ℕ). getD xs i 0) (front new (replicate room sentinel) (length new) refl)
 
-  marks-past : length new ≤ i → i < room → getD (over new (replicate room mark)) i 0 ≡ mark
-  marks-past l h =
-      let old : length (replicate room mark) ≡ room = length-replicate room mark in
-      ap (λ (xs : List ℕ). getD xs i 0) (sym (put-front new (replicate room mark)))
-      ∙ getD-put-after 0 new (replicate room mark) i 0 (omega arith) (omega arith)
-      ∙ getD-replicate room i mark 0 h
+  written-past : length new ≤ i → i < room → getD (over new (replicate room sentinel)) i 0 ≡ sentinel
+  written-past l h =
+      let old : length (replicate room sentinel) ≡ room = length-replicate room sentinel in
+      ap (λ (xs : List ℕ). getD xs i 0) (sym (put-front new (replicate room sentinel)))
+      ∙ getD-put-after 0 new (replicate room sentinel) i 0 (omega arith) (omega arith)
+      ∙ getD-replicate room i sentinel 0 h
 
-length-marks : (new : List ℕ) (mark room : ℕ) → length new ≤ room → length (over new (replicate room mark)) ≡ room
-length-marks new mark room h =
-    let old : length (replicate room mark) ≡ room = length-replicate room mark in
-    length-over new (replicate room mark) (omega arith) ∙ old
+length-written : (new : List ℕ) (sentinel room : ℕ) → length new ≤ room → length (over new (replicate room sentinel)) ≡ room
+length-written new sentinel room h =
+    let old : length (replicate room sentinel) ≡ room = length-replicate room sentinel in
+    length-over new (replicate room sentinel) (omega arith) ∙ old
 
--- more marks than there is room for may be cut off
-pub marks-cut : (new : List ℕ) (mark room more : ℕ) → length new ≤ room → room ≤ more → take room (over new (replicate more mark)) ≡ over new (replicate room mark)
-marks-cut new mark room more h l =
-    let long : length (over new (replicate more mark)) ≡ more = length-marks new mark more (omega arith) in
-    let cut : length (take room (over new (replicate more mark))) ≡ room = length-take-le room (over new (replicate more mark)) (omega arith) in
-    ext-getD 0 (take room (over new (replicate more mark))) (over new (replicate room mark)) (cut ∙ sym (length-marks new mark room h))
-    (λ i k. getD-take room (over new (replicate more mark)) i 0 (omega arith) ∙ by i (omega arith) (ltb i (length new)) refl)
+-- more sentinels than there is room for may be cut off
+pub written-cut : (new : List ℕ) (sentinel room more : ℕ) → length new ≤ room → room ≤ more → take room (over new (replicate more sentinel)) ≡ over new (replicate room sentinel)
+written-cut new sentinel room more h l =
+    let long : length (over new (replicate more sentinel)) ≡ more = length-written new sentinel more (omega arith) in
+    let cut : length (take room (over new (replicate more sentinel))) ≡ room = length-take-le room (over new (replicate more sentinel)) (omega arith) in
+    ext-getD 0 (take room (over new (replicate more sentinel))) (over new (replicate room sentinel)) (cut ∙ sym (length-written new sentinel room h))
+    (λ i k. getD-take room (over new (replicate more sentinel)) i 0 (omega arith) ∙ by i (omega arith) (ltb i (length new)) refl)
   where
-    by : (i : ℕ) → i < room → (b : Bool) → ltb i (length new) ≡ b → getD (over new (replicate more mark)) i 0 ≡ getD (over new (replicate room mark)) i 0
-    by i k true e = marks-front new mark more i (ltb-true _ _ e) ∙ sym (marks-front new mark room i (ltb-true _ _ e))
-    by i k false e = marks-past new mark more i (ltb-false _ _ e) (omega arith) ∙ sym (marks-past new mark room i (ltb-false _ _ e) k)
+    by : (i : ℕ) → i < room → (b : Bool) → ltb i (length new) ≡ b → getD (over new (replicate more sentinel)) i 0 ≡ getD (over new (replicate room sentinel)) i 0
+    by i k true e = written-front new sentinel more i (ltb-true _ _ e) ∙ sym (written-front new sentinel room i (ltb-true _ _ e))
+    by i k false e = written-past new sentinel more i (ltb-false _ _ e) (omega arith) ∙ sym (written-past new sentinel room i (ltb-false _ _ e) k)
 
 -- n answers
-answers-at : (want : ℕ → ℕ) (n mark room i : ℕ) → i < room → getD (over (tabulate want n) (replicate room mark)) i 0 ≡ expected n want mark i
-answers-at want n mark room i h = by (ltb i n) refl
+answers-at : (want : ℕ → ℕ) (n sentinel room i : ℕ) → i < room → getD (over (tabulate want n) (replicate room sentinel)) i 0 ≡ expected n want sentinel i
+answers-at want n sentinel room i h = by (ltb i n) refl
   where
     new : length (tabulate want n) ≡ n
     new = length-tabulate want n
 
-    by : (b : Bool) → ltb i n ≡ b → getD (over (tabulate want n) (replicate room mark)) i 0 ≡ expected n want mark i
+    by : (b : Bool) → ltb i n ≡ b → getD (over (tabulate want n) (replicate room sentinel)) i 0 ≡ expected n want sentinel i
     by true e =
         let l : i < n = ltb-true i n e in
-        expected-front n want mark i _ l (marks-front (tabulate want n) mark room i (omega (arith, new)) ∙ getD-tabulate want n i 0 l)
-    by false e = let l : n ≤ i = ltb-false i n e in expected-past n want mark i _ l (marks-past (tabulate want n) mark room i (omega (arith, new)) h)
+        expected-front n want sentinel i _ l (written-front (tabulate want n) sentinel room i (omega (arith, new)) ∙ getD-tabulate want n i 0 l)
+    by false e = let l : n ≤ i = ltb-false i n e in expected-past n want sentinel i _ l (written-past (tabulate want n) sentinel room i (omega (arith, new)) h)
 
 -- what is held has room for what was written
-pub held-room : {new got : List ℕ} {mark : ℕ} → Held new mark got → length new ≤ length got
-held-room {new} {got} {mark} p =
-    let e : take (length new) got ≡ new = ap (take (length new)) (p .all) ∙ front new (replicate (length got) mark) (length new) refl in
+pub held-room : {new got : List ℕ} {sentinel : ℕ} → Held new sentinel got → length new ≤ length got
+held-room {new} {got} {sentinel} p =
+    let e : take (length new) got ≡ new = ap (take (length new)) (p .all) ∙ front new (replicate (length got) sentinel) (length new) refl in
     omega (arith, length-take (length new) got, ap length e)
 
 -- ---- a loop over the places: the first i hold what is expected
 
-pub record Passed (n : ℕ) (want : ℕ → ℕ) (mark : ℕ) (got : List ℕ) (i : ℕ) : Type 0 where
-  pub each : (k : ℕ) → k < i → getD got k 0 ≡ expected n want mark k
+pub record Passed (n : ℕ) (want : ℕ → ℕ) (sentinel : ℕ) (got : List ℕ) (i : ℕ) : Type 0 where
+  pub each : (k : ℕ) → k < i → getD got k 0 ≡ expected n want sentinel k
 
-module _ (want : ℕ → ℕ) (n mark : ℕ) (got : List ℕ) where
-  pub too-short : length got < n → Tells false (Held (tabulate want n) mark got)
+module _ (want : ℕ → ℕ) (n sentinel : ℕ) (got : List ℕ) where
+  pub too-short : length got < n → Tells false (Held (tabulate want n) sentinel got)
   too-short h = denied (λ p. omega (arith, held-room p, length-tabulate want n))
 
-  pub differs : (i : ℕ) → i < length got → (getD got i 0 ≡ expected n want mark i → ⊥) → Tells false (Held (tabulate want n) mark got)
-  differs i h f = denied (λ p. f (ap (λ (xs : List ℕ). getD xs i 0) (p .all) ∙ answers-at want n mark (length got) i h))
+  pub differs : (i : ℕ) → i < length got → (getD got i 0 ≡ expected n want sentinel i → ⊥) → Tells false (Held (tabulate want n) sentinel got)
+  differs i h f = denied (λ p. f (ap (λ (xs : List ℕ). getD xs i 0) (p .all) ∙ answers-at want n sentinel (length got) i h))
 
-module _ {n mark : ℕ} {want : ℕ → ℕ} {got : List ℕ} where
-  pub none-passed : Passed n want mark got 0
+module _ {n sentinel : ℕ} {want : ℕ → ℕ} {got : List ℕ} where
+  pub none-passed : Passed n want sentinel got 0
   none-passed = record { each = λ k h. absurd (not-suc-le-zero h) }
 
-  pub one-passed : {i : ℕ} → Passed n want mark got i → getD got i 0 ≡ expected n want mark i → Passed n want mark got (i + 1)
-  one-passed {i} p e = record { each = below-more (λ (k : ℕ). getD got k 0 ≡ expected n want mark k) i (p .each) e }
+  pub one-passed : {i : ℕ} → Passed n want sentinel got i → getD got i 0 ≡ expected n want sentinel i → Passed n want sentinel got (i + 1)
+  one-passed {i} p e = record { each = below-more (λ (k : ℕ). getD got k 0 ≡ expected n want sentinel k) i (p .each) e }
 
-  pub all-passed : {i : ℕ} → Passed n want mark got i → n ≤ length got → length got ≤ i → Tells true (Held (tabulate want n) mark got)
+  pub all-passed : {i : ℕ} → Passed n want sentinel got i → n ≤ length got → length got ≤ i → Tells true (Held (tabulate want n) sentinel got)
   all-passed p r h =
       let new : length (tabulate want n) ≡ n = length-tabulate want n in
       granted
       (record {
-        all = ext-getD 0 got (over (tabulate want n) (replicate (length got) mark)) (sym (length-marks (tabulate want n) mark (length got) (omega arith)))
-            (λ k l. p .each k (omega arith) ∙ sym (answers-at want n mark (length got) k l));
+        all = ext-getD 0 got (over (tabulate want n) (replicate (length got) sentinel)) (sym (length-written (tabulate want n) sentinel (length got) (omega arith)))
+            (λ k l. p .each k (omega arith) ∙ sym (answers-at want n sentinel (length got) k l));
       })
-
--- ---- floats by their bits
-
-pub length-bits : (xs : List Float) → length (bitsOf xs) ≡ length xs
-unfolding bitsOf
-length-bits xs = length-map xs (toBits binary64)
-
-pub bits-at : (xs : List Float) (i : ℕ) (d : Float) → i < length xs → getD (bitsOf xs) i 0 ≡ toBits binary64 (getD xs i d)
-unfolding bitsOf
-bits-at xs i d h = getD-map (toBits binary64) xs i d 0 h
 
 -- ---- no column at all
 
-pub held-as : {new new′ : List ℕ} {mark : ℕ} {got : List ℕ} {r : Bool} → new ≡ new′ → Tells r (Held new mark got) → Tells r (Held new′ mark got)
-held-as {mark} {got} {r} e t = subst (λ (l : List ℕ). Tells r (Held l mark got)) e t
+pub held-as : {new new′ : List ℕ} {sentinel : ℕ} {got : List ℕ} {r : Bool} → new ≡ new′ → Tells r (Held new sentinel got) → Tells r (Held new′ sentinel got)
+held-as {sentinel} {got} {r} e t = subst (λ (l : List ℕ). Tells r (Held l sentinel got)) e t
 
 zeros-agree : (want : ℕ → ℕ) (n : ℕ) → ((i : ℕ) → want i ≡ 0) → tabulate want n ≡ replicate n 0
 zeros-agree want n z =

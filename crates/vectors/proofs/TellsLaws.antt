@@ -1,5 +1,5 @@
 -- Answers that tell whether something holds: of a false one, of a true one, of two put together, and of the same said in other words.
-use mathlib.Core.Path.{_≡_, refl, sym, _∙_}
+use mathlib.Core.Path.{_≡_, refl, sym, _∙_, subst}
 use mathlib.Core.Bool.{Bool, true, false, _&&_}
 use Prim.Native.Nat.{ℕ}
 use native.Mathlib.Omega.{arith}
@@ -20,6 +20,10 @@ tells-both false b e t u = (λ h. absurd (let z : _≡_ {A = ℕ} 0 1 = cc in om
 
 pub tells-as : {P Q : Type 0} {r : Bool} → (P → Q) → (Q → P) → Tells r P → Tells r Q
 tells-as f g t = (λ e. f (t .0 e), λ q. t .1 (g q))
+
+-- the same of another value, which is equal
+pub tells-of : {A : Type 0} (P : A → Type 0) {x y : A} {r : Bool} → x ≡ y → Tells r (P x) → Tells r (P y)
+tells-of {A} P {r} e t = subst (λ (z : A). Tells r (P z)) e t
 
 -- ---- tests of numbers
 

@@ -4,29 +4,39 @@ ghost use Rattle.vectors.specs.Held.{Tells};
 ghost use Rattle.vectors.specs.Lent.{Columns, Cleared};
 use crate::held;
 
-// No answer is as large.
-pub const NUMBER_MARK: u16 = 48879;
+// The sentinels are no answers: a number of a group is below 16,384 or, for none, 65,535.
+pub const NUMBER_SENTINEL: u16 = 48879;
 
-pub const BYTE_MARK: u8 = 190;
+// An interval is at most 17.
+pub const BYTE_SENTINEL: u8 = 190;
 
-pub const FLOAT_MARK: f64 = -1.0e300;
+// A value is at most 83,886,085 in size.
+pub const FLOAT_SENTINEL: f64 = -1.0e300;
 
 // Whether two slices hold two columns of n numbers, the first of which begins at a place and has so many bytes.
-pub fn columns(s: &[u8], at: usize, size: usize, width: u8, n: usize, a: &[u16], b: &[u16]) -> bool
+pub fn columns_held(
+    s: &[u8],
+    at: usize,
+    size: usize,
+    width: u8,
+    n: usize,
+    a: &[u16],
+    b: &[u16],
+) -> bool
     requires { ⌜ at + size + 2 * n < 2 ^ 32 ⌝ }
     ensures { λ r. ⌜ Tells r (Columns (now (s .entry)) at size width n (now (a .entry)) (now (b .entry))) ⌝ }
 {
-    let first = held::numbers(s, at, width, n, NUMBER_MARK, a);
-    let second = held::numbers(s, at + size, width, n, NUMBER_MARK, b);
+    let first = held::column_held(s, at, width, n, NUMBER_SENTINEL, a);
+    let second = held::column_held(s, at + size, width, n, NUMBER_SENTINEL, b);
     held::both(first, second)
 }
 
-// Whether a call on n objects left 8n zeros and n times +0.0, and every place past them as it was marked.
-pub fn cleared(n: usize, work: &[u16], scratch: &[f64]) -> bool
+// Whether a call on n objects left 8n zeros and n times +0.0, and every place past them as it was lent.
+pub fn work_cleared(n: usize, work: &[u16], scratch: &[f64]) -> bool
     requires { ⌜ n ≤ 16384 ⌝ }
     ensures { λ r. ⌜ Tells r (Cleared n (now (work .entry)) (now (scratch .entry))) ⌝ }
 {
-    let numbers = held::zeros(8 * n, NUMBER_MARK, work);
-    let floats = held::zero_floats(n, FLOAT_MARK, scratch);
+    let numbers = held::zeros_held(8 * n, NUMBER_SENTINEL, work);
+    let floats = held::zero_floats_held(n, FLOAT_SENTINEL, scratch);
     held::both(numbers, floats)
 }

@@ -1,4 +1,4 @@
-//! The exports of libnumeric_host.a as safe functions, and the values that the tests try.
+//! Exports of libtest_host.a as safe functions, and the values that the tests try.
 
 pub mod samples;
 #[path = "../../xorshift.rs"]

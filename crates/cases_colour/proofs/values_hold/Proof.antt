@@ -6,7 +6,7 @@ use Rattle.cases_colour.proofs.values_hold.Statement.{statement}
 use Rattle.cases_colour.proofs.values_hold.Tie as tie
 
 returns : tie.Need-returns
-returns c = values-told (tells-both _ _ (c .both .ensures) (c .before .before .floats .ensures) (c .before .cleared .ensures))
+returns c = values-told (tells-both _ _ (c .both .ensures) (c .before .before .floats-held .ensures) (c .before .work-cleared .ensures))
 
 pub values-hold-spec : {M : Type 1} → statement M
 values-hold-spec =

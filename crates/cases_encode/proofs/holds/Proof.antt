@@ -13,7 +13,10 @@ returns c = too-many (c .if1 .taken)
 call-holds-requires : tie.Need-call-holds-requires
 call-holds-requires c κs =
     let f = c .before .formed .ensures .0 (c .if2 .taken) in
-    record { few = record { objects = c .before .before .before .if1 .left; places = c .before .before .before .before .before .pre }; small = c .before .before .column-size .ensures .1; whole = f .whole }
+    record {
+      few = record { objects = c .before .before .before .if1 .left; places = c .before .before .before .before .before .pre };
+      stored = record { small = c .before .before .column-size .ensures .1; whole = f .whole };
+    }
 
 returns-2 : tie.Need-returns-2
 returns-2 c = case-told _ _ _ _ (c .before .before .before .column-size .ensures .0) (c .before .before .before .before .if1 .left) (c .before .before .formed .ensures) (c .before .if2 .taken) (c .call-holds .ensures)

@@ -1,4 +1,4 @@
--- Case by case of the answer, and field by field.
+-- Case by case of the answer.
 use native.Mathlib.Omega.{arith}
 use Rattle.cases_record.proofs.RecordLaws.{fields-told, fields-refused}
 use Rattle.cases_record.proofs.fields_hold.Statement.{statement}
@@ -6,9 +6,8 @@ use Rattle.cases_record.proofs.fields_hold.Tie as tie
 
 returns : tie.Need-returns
 returns c =
-    fields-told _ _ _ (c .before .before .before .before .before .before .before .before .before .before .before .before .before .before .before .before .before .answer .given .1) (c .before .before .before .before .before .before .before .before .before .before .before .before .before .before .number-holds .ensures) (c .before .before .before .before .before .before .before .before .before .before .before .before .before .number-holds2 .ensures) (c .before .before .before .before .before .before .before .before .before .before .before .number-holds3 .ensures) (c .before .before .before .before .before .before .before .before .before .before .own-holds .ensures)
-    (c .before .before .before .before .before .before .before .before .bits-hold .ensures) (c .before .before .before .before .before .before .before .bits-hold2 .ensures) (c .before .before .before .before .before .bits-hold3 .ensures) (c .before .before .before .before .bits-hold4 .ensures)
-    (c .before .before .before .before .before .before .before .before .before .before .before .before .both .ensures) (c .before .before .before .before .before .before .before .before .before .both2 .ensures) (c .before .before .before .before .before .before .both3 .ensures) (c .before .before .before .both4 .ensures) (c .before .before .both5 .ensures) (c .before .both6 .ensures) (c .both7 .ensures)
+    fields-told _ _ _ (c .before .before .before .before .answer .given .1) (c .before .before .places-hold .ensures)
+    (c .before .scores-hold .ensures) (c .both .ensures)
 
 returns-2 : tie.Need-returns-2
 returns-2 c = fields-refused _ _ _ _ (c .enum-told .given .1)
@@ -18,18 +17,6 @@ fields-hold-spec =
     tie.close
     (tie.spec
     (λ c. omega arith)
-    (λ c κs. omega arith)
-    (λ c κs. omega arith)
-    (λ c κs. omega arith)
-    (λ c κs. omega arith)
-    (λ c κs. omega arith)
-    (λ c κs. omega arith)
-    (λ c κs. omega arith)
-    (λ c κs. omega arith)
-    (λ c κs. omega arith)
-    (λ c κs. omega arith)
-    (λ c κs. omega arith)
-    (λ c κs. omega arith)
     (λ c κs. omega arith)
     (λ c κs. omega arith)
     (λ c κs. omega arith)

@@ -1,10 +1,10 @@
--- The bytes are compared with what is to be found there: the row, copied over marks.
+-- The bytes are compared with what is to be found there: the row, copied over sentinels.
 use mathlib.Core.Path.{sym}
 use lib.Seq.{length-take-le}
 use native.Mathlib.Omega.{arith}
 use Rattle.vectors.proofs.RowLaws.{row-fits, row-short, row-same}
-use Rattle.vectors.proofs.held.row.Statement.{statement}
-use Rattle.vectors.proofs.held.row.Tie as tie
+use Rattle.vectors.proofs.held.bytes_held.Statement.{statement}
+use Rattle.vectors.proofs.held.bytes_held.Tie as tie
 
 returns : tie.Need-returns
 returns c = row-short _ _ _ _ _ (c .before .before .before .pre) (c .if1 .taken)
@@ -20,8 +20,8 @@ returns-2 c =
     row-same _ _ _ _ _ (c .before .before .before .before .before .before .before .before .before .pre) _ (c .before .before .before .before .before .before .if1 .left)
     (c .before .before .before .copy .ensures .1) (c .same .ensures)
 
-pub row-spec : {M : Type 1} → statement M
-row-spec =
+pub bytes-held-spec : {M : Type 1} → statement M
+bytes-held-spec =
     tie.close
     (tie.spec
     returns

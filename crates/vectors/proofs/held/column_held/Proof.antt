@@ -5,14 +5,14 @@ use lib.ListN.{length}
 use native.Mathlib.Omega.{arith}
 use Rattle.vectors.specs.Case.{numberAt, column}
 use Rattle.vectors.proofs.HeldLaws.{Passed, none-passed, one-passed, all-passed, too-short, differs}
-use Rattle.vectors.proofs.held.numbers.Statement.{statement}
-use Rattle.vectors.proofs.held.numbers.Tie as tie
+use Rattle.vectors.proofs.held.column_held.Statement.{statement}
+use Rattle.vectors.proofs.held.column_held.Tie as tie
 
 abbrev Inv-loop : tie.InvT-loop
-Inv-loop s at width n mark got i₀ i = Passed n (numberAt s at width) mark got i
+Inv-loop s at width n sentinel got i₀ i = Passed n (numberAt s at width) sentinel got i
 
 abbrev μ-loop : tie.MeasureT-loop
-μ-loop s at width n mark got i₀ i = length got - i
+μ-loop s at width n sentinel got i₀ i = length got - i
 
 returns : tie.Need-returns Inv-loop μ-loop
 unfolding column
@@ -32,8 +32,8 @@ returns-3 : tie.Need-returns-3 Inv-loop μ-loop
 unfolding column
 returns-3 c = all-passed (c .before .loop .inv) (c .before .before .if1 .left) (c .loop-test .left)
 
-pub numbers-spec : {M : Type 1} → statement M
-numbers-spec =
+pub column-held-spec : {M : Type 1} → statement M
+column-held-spec =
     tie.close
     (tie.spec
     Inv-loop

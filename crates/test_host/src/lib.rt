@@ -1,4 +1,4 @@
-// The functions of `numeric` under C names, for the host tests alone.
+// `numeric`, `group_by_interval` and the normaliser under C names, for tests alone.
 ghost use mathlib.Core.Path.{_≡_};
 ghost use lib.Ieee as Ieee;
 ghost use lib.Ieee.{binary64};
@@ -7,6 +7,9 @@ ghost use Rattle.numeric.specs.TotalOrder.{totalOrder};
 ghost use Rattle.numeric.specs.RoundTiesEven.{roundTiesEven};
 ghost use Rattle.numeric.specs.Tenths.{tenthsOf, InTenthsRange};
 ghost use Rattle.numeric.specs.Logistic.{logisticAt};
+ghost use Rattle.grouping_sort.specs.Ordered.{AllFinite};
+ghost use Rattle.grouping_normalizer.specs.Normalizer.{NormalOf};
+ghost use Rattle.grouping_interval.specs.GroupByInterval.{Places, GroupedByInterval};
 
 #[no_mangle]
 pub extern "C" fn numeric_near(a: f64, b: f64, margin: f64) -> bool
@@ -57,4 +60,24 @@ pub extern "C" fn numeric_bits(x: f64) -> u64
     ensures { λ r. ⌜ r ≡ Ieee.toBits binary64 x ⌝ }
 {
     numeric::canonical::bits(x)
+}
+
+#[no_mangle]
+pub extern "C" fn grouping_group_by_interval(
+    values: &[f64],
+    margin: f64,
+    group: &mut [u16],
+) -> usize
+    requires { ⌜ Places (now values) (now group) ⌝ }
+    ensures { λ r. ⌜ GroupedByInterval margin (now (values .entry)) (now (group .entry)) (now (group .exit)) r ⌝ }
+{
+    grouping_interval::group_by_interval(values, margin, group)
+}
+
+#[no_mangle]
+pub extern "C" fn grouping_normal_of(deltas: &mut [f64], margin: f64, x: f64) -> f64
+    requires { ⌜ AllFinite (now deltas) ⌝ }
+    ensures { λ r. ⌜ NormalOf margin (now (deltas .entry)) (now (deltas .exit)) x r ⌝ }
+{
+    grouping_normalizer::normal_of(deltas, margin, x)
 }
