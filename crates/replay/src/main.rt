@@ -1,6 +1,7 @@
 // Replays the original's stored answers: calls encode, colour, stretch, rhythm or record on each case of data/encode,
-// data/colour and data/rhythm, compares all that it hands back, and prints how many cases there are and how many differ
-// (what is counted `replay` promises; of what is printed no promise can speak, and tests/replay sees that it is the count).
+// data/colour and data/rhythm, compares all that it hands back, and prints how many cases there are and how many
+// differ.
+// What is counted `replay` promises. Of what is printed no promise can speak: tests/replay sees that it is the count.
 ghost use Rattle.replay_read.specs.Read.{FileRead};
 use libc::STDOUT_FILENO;
 use replay_cases::count::Replay;
