@@ -56,6 +56,16 @@ pub record Columns : Type 0 where
   pub hits : List ℕ
   pub intervals : List ℕ
 
+-- the five lists as columns
+abbrev pub columnsOf : List ℕ → List ℕ → List ℕ → List ℕ → List ℕ → Columns
+columnsOf kinds streaks patterns hits intervals = record {
+  kinds = kinds;
+  streaks = streaks;
+  patterns = patterns;
+  hits = hits;
+  intervals = intervals;
+}
+
 unfoldable pub objectAt : Columns → ℕ → Object
 objectAt c i = record {
   kind = getD (c .kinds) i 0;
