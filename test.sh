@@ -8,7 +8,7 @@ rt fmt --check
 
 # an archive's own crate is proved once more as it is made, so these are made side by side, and what they use is proved before;
 # few of these crates can be proved at the same time, so all that can are
-RT_JOBS=4 rt check evaluator_calls evaluator_record letters
+RT_JOBS=4 rt check evaluator_calls evaluator_record letters replay
 rt staticlib dresserduck &
 archive=$!
 rt staticlib test_host
@@ -22,5 +22,6 @@ tests/host/run.sh
 tests/examples/run.sh
 tests/original/run.sh compare 7 300000
 tests/letters/run.sh
+tests/replay/run.sh
 
 exec rt ci

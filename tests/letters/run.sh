@@ -25,6 +25,11 @@ expect() {
     count=$((count + 1))
 }
 
+# repeated COUNT TEXT: the text so many times
+repeated() {
+    yes "$2" | head -n "$1" | tr -d '\n'
+}
+
 # N letters in no order, d and k more often than n
 letters() {
     awk -v n="$1" 'BEGIN { x = 1; for (i = 0; i < n; i++) { x = (x * 75 + 74) % 65537; printf "%s", substr("dddkkkn", x % 7 + 1, 1) } }'
@@ -49,9 +54,17 @@ expect '1,025 letters' "${text}d" 'long\n'
 expect '1,025 letters and a line feed' "${text}d\n" 'long\n'
 expect '1,025 bytes, the first no letter' "x$text" 'long\n'
 expect '1,024 letters and two line feeds' "$text\n\n" 'long\n'
+# hit patterns of two letters: the longest output that we know of
+expect '1,024 letters, 2,818 bytes of output' "$(repeated 128 dkddkdkk)" "17 d,k\n17 dd\n2 k,d\n2 kk\n$(repeated 127 '2 d,k\n2 dd\n2 k,d\n2 kk\n')"
 expect 'nothing' '' ''
 expect 'one line feed' '\n' ''
 expect 'two line feeds' '\n\n' 'bad 0\n'
 expect '100,000 letters' "$(letters 100000)" 'long\n'
 
-echo "letters: $count inputs ok"
+# an input that comes piece by piece is read to its end
+if [ "$({ printf dkk; sleep 0.1; printf dd; sleep 0.1; printf 'k\n'; } | "$program")" != "$(printf '17 d\n17 kk,dd\n2 k')" ]; then
+    echo "letters: failed on an input in three pieces" >&2
+    exit 1
+fi
+
+echo "letters: $((count + 1)) inputs ok"

@@ -1,10 +1,11 @@
 -- What is lent to the writing of the lines is what the definition shows, and what each case of a reading has written is the whole output.
--- The program counts on two laws more: the answer lies within what was lent, and 1,026 bytes of the input are enough.
+-- What is read of an input is enough to answer all of it, and the answer lies within what was lent.
 use mathlib.Core.Path.{_≡_, refl, sym, ap, _∙_, subst}
 use mathlib.Core.List.{List}
 use Prim.Native.Nat.{ℕ, _≤_}
 use native.Mathlib.Omega.{arith}
 use lib.ListN.{length, take, length-take}
+use lib.Seq.{take-all}
 use Rattle.grouping_marks.proofs.OverLaws.{front}
 use Rattle.grouping_color.specs.MonoStreak.{streakOf}
 use Rattle.grouping_color.specs.Preprocessor.{alternatingOf, hitOf, intervalOf}
@@ -18,9 +19,9 @@ use Rattle.letters_text.specs.Letters.{trimmed, kindsOf}
 use Rattle.letters_text.specs.Lines.{Columns, lines, badLine, longLine}
 use Rattle.letters_text.specs.Memory.{ReadText, Written, LinesFit}
 use Rattle.letters_text.proofs.LetterLaws.{length-kinds}
-use Rattle.letters_text.proofs.PrintedLaws.{read-long, read-bad, read-letters, read-all, read-kinds, printed-front}
+use Rattle.letters_text.proofs.PrintedLaws.{read-long, read-bad, read-letters, read-all, read-kinds, inputBytes, printed-front}
 use Rattle.letters_text.proofs.WroteLaws.{written-same}
-use Rattle.letters_answer.specs.Output.{columns, lettersOutput, LettersRoom}
+use Rattle.letters_answer.specs.Output.{columns, lettersOutput, LettersRoom, Answered}
 use Rattle.letters_answer.proofs.IntervalLaws.{interval-small}
 
 -- ---- the columns that are lent
@@ -93,15 +94,30 @@ module _ (text : List ℕ) {kinds₀ kinds : List ℕ} {r : Reading} (x : ReadTe
     answer-lines n e y =
         written-same (read-letters x n e (lines (columns (kindsOf (trimmed text)))) ∙ ap (λ (k : List ℕ). lines (columns k)) (kinds-read n e)) y
 
--- ---- what the program counts on
+-- ---- the first bytes of an input
 
--- the answer lies within what was lent
-pub written-within : {text old new : List ℕ} {count : ℕ} → Written text old new count → count ≤ length new
+written-within : {text old new : List ℕ} {count : ℕ} → Written text old new count → count ≤ length new
 written-within {text} {old} {new} x =
     let f : take (length text) new ≡ text = rw (x .memory) (front text old (length text) refl) in
     omega (arith, x .size, ap length f, length-take (length text) new)
 
--- 1,026 bytes of the input are enough
-pub output-front : (n : ℕ) (text : List ℕ) → 1026 ≤ n → lettersOutput (take n text) ≡ lettersOutput text
+-- so many bytes of the input are enough
+output-front : (n : ℕ) (text : List ℕ) → inputBytes ≤ n → lettersOutput (take n text) ≡ lettersOutput text
 unfolding lettersOutput
 output-front n text h = printed-front (λ (t : List ℕ). lines (columns (kindsOf t))) n text h
+
+module _ {input old new : List ℕ} {count : ℕ} where
+  -- so that what is printed for the bytes read is what is printed for all of the input
+  pub front-answered : (n : ℕ) → n ≤ length input → inputBytes ≤ length input → Written (lettersOutput (take n input)) old new count
+      → Answered input old new count
+  front-answered n h e y = record {
+    read = n;
+    within = h;
+    output = λ text f. written-same (sym (output-front (length input) text e) ∙ ap lettersOutput f) y;
+  }
+
+  -- the answer lies within what was lent
+  pub answered-within : Answered input old new count → count ≤ length new
+  answered-within x =
+      let t : List ℕ = take (x .read) input in
+      written-within (x .output t (take-all (length input) t (omega (arith, length-take (x .read) input))))

@@ -1,12 +1,15 @@
--- The letters program. Document 01: "Reads d, k, n (kinds 0, 1, 2) from standard input, one line feed at the end ignored, at most 1,024 letters.
--- One line a hit pattern: interval, space, patterns parted by `|`, streaks by `,`. `dkkddk` prints `17 d`, `17 kk,dd`, `2 k`."
+-- The letters program, by document 01's paragraph of that name: for each hit pattern of the letters d, k and n (the
+-- kinds 0, 1 and 2) a line with its interval and its letters. `dkkddk` gives `17 d`, `17 kk,dd`, `2 k`.
+use mathlib.Core.Path.{_≡_}
 use Prim.Native.Nat.{ℕ, _≤_}
 use mathlib.Core.List.{List}
+use lib.ListN.{length, take}
 use Rattle.grouping_color.specs.MonoStreak.{streakOf}
 use Rattle.grouping_color.specs.Preprocessor.{alternatingOf, hitOf, intervalOf}
 use Rattle.grouping_chart.specs.Settings.{baseSettings}
 use Rattle.letters_text.specs.Letters.{trimmed, kindsOf, reading}
 use Rattle.letters_text.specs.Lines.{Columns, lines, printed}
+use Rattle.letters_text.specs.Memory.{Written}
 
 -- the numbers of encode that the lines show
 unfoldable pub columns : List ℕ → Columns
@@ -26,3 +29,10 @@ lettersOutput text = printed (reading (trimmed text)) (lines (columns (kindsOf (
 pub record LettersRoom (n room : ℕ) : Type 0 where
   pub few : n ≤ 1024
   pub enough : 5120 ≤ room
+
+-- so many bytes were read to the front of `input`; of every text that begins with these, and has no more of them unless
+-- `input` is full, the whole output stands at the front of the lent memory
+pub record Answered (input old new : List ℕ) (count : ℕ) : Type 0 where
+  pub read : ℕ
+  pub within : read ≤ length input
+  pub output : (text : List ℕ) → take (length input) text ≡ take read input → Written (lettersOutput text) old new count

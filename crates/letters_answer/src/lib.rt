@@ -1,9 +1,15 @@
-// Everything that the letters program does but reading its input and writing its output.
+// Everything that the letters program does but writing its output.
 ghost use lib.ListN.{length};
 ghost use Rattle.letters_text.specs.Lines.{lines};
 ghost use Rattle.letters_text.specs.Memory.{Written};
-ghost use Rattle.letters_answer.specs.Output.{columns, lettersOutput, LettersRoom};
+ghost use Rattle.letters_answer.specs.Output.{columns, lettersOutput, LettersRoom, Answered};
 use letters_text::Reading;
+
+// 1,024 letters, a line feed, and a byte more that tells a longer input.
+pub const INPUT_BYTES: usize = 1026;
+
+// Five bytes a letter.
+pub const OUTPUT_BYTES: usize = 5120;
 
 // The lines of a text of letters, by the kinds of its letters.
 fn answer_letters(kinds: &[u8], out: &mut [u8]) -> usize
@@ -39,8 +45,8 @@ fn answer_letters(kinds: &[u8], out: &mut [u8]) -> usize
     )
 }
 
-// The text to print for the text read stands in the first places of `out`. The result is its length.
-pub fn answer(text: &[u8], out: &mut [u8; 5120]) -> usize
+// The text to print for a whole text stands in the first places of `out`. The result is its length.
+fn answer(text: &[u8], out: &mut [u8; OUTPUT_BYTES]) -> usize
     ensures { λ r. ⌜ Written (lettersOutput (now (text .entry))) (now (out .entry)) (now (out .exit)) r ⌝ }
 {
     let mut kinds = [0u8; 1024];
@@ -49,4 +55,14 @@ pub fn answer(text: &[u8], out: &mut [u8; 5120]) -> usize
         Reading::Bad(place) => letters_text::write_bad(place, out),
         Reading::Letters(n) => answer_letters(&kinds[..n], out),
     }
+}
+
+// Reads the input, as much of it as tells all, and answers it as `answer` does.
+// How many bytes there were to read no promise can say: tests/letters sees that none was passed over.
+pub fn answer_input(fd: i32, input: &mut [u8; INPUT_BYTES], out: &mut [u8; OUTPUT_BYTES]) -> usize
+    ensures { λ r. ⌜ Answered (now (input .exit)) (now (out .entry)) (now (out .exit)) r ⌝ }
+{
+    let n = io::read_full(fd, input);
+    let text: &[u8] = input;
+    answer(&text[..n], out)
 }

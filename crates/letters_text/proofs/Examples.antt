@@ -7,7 +7,8 @@ use Rattle.grouping_marks.specs.Scan.{tabulate}
 use Rattle.letters_text.specs.declared.Reading.the-variants.{Letters}
 use Rattle.letters_text.specs.Letters.{trimmed, isLetter, kindOf, letterOf, kindsOf, firstBad, reading}
 use Rattle.letters_text.specs.Decimal.{digitAt, decimal}
-use Rattle.letters_text.specs.Lines.{lineHead, parting, firstLetter, nextLetter, linesAfter, linesOf, objectAt, objects, lines, badLine, longLine, printed}
+use Rattle.letters_text.specs.Lines.{lineHead, parting, firstLetter, nextLetter, linesAfter, linesOf}
+use Rattle.letters_text.specs.Lines.{objectAt, objects, lines, badLine, longLine, printed}
 
 -- an input, the numbers that encode gives for it, and the output
 record Example : Type 0 where
@@ -69,7 +70,8 @@ examples =
     ∷ []
 
 computed-right : map computed examples ≡ map (λ (e : Example). e .output) examples
-unfolding bare computed examples tabulate trimmed isLetter kindOf letterOf kindsOf firstBad reading digitAt decimal lineHead parting firstLetter nextLetter linesAfter linesOf objectAt objects lines badLine longLine printed
+unfolding bare computed examples tabulate trimmed isLetter kindOf letterOf kindsOf firstBad reading digitAt decimal
+    lineHead parting firstLetter nextLetter linesAfter linesOf objectAt objects lines badLine longLine printed
 computed-right = refl
 
 -- 1,024 letters are read, with a line feed or without

@@ -162,7 +162,8 @@ module _ (t : List ℕ) where
       let r : reading t ≡ Bad (firstBad t) = reading-bad h (omega arith) in
       record { answer = ap Bad e ∙ sym r; memory = rw r }
 
-  pub text-letters : (old new : List ℕ) (p : ℕ) → length t ≤ 1024 → p ≡ firstBad t → length t ≤ p → new ≡ over (kindsOf t) old → ReadText t old new (Letters (length t))
+  pub text-letters : (old new : List ℕ) (p : ℕ) → length t ≤ 1024 → p ≡ firstBad t → length t ≤ p → new ≡ over (kindsOf t) old
+      → ReadText t old new (Letters (length t))
   unfolding kindsAfter
   text-letters old new p h e k q =
       let r : reading t ≡ Letters (length t) = reading-letters h (omega arith) in
@@ -185,24 +186,34 @@ pub record BadAt (t : List ℕ) (p : ℕ) : Type 0 where
   pub within : p < length t
   pub few : p < 1024
 
-pub letters-told : (t : List ℕ) (n : ℕ) → reading t ≡ Letters n → AllLetters t n
+-- the three cases of a reading
+data ReadingOf (t : List ℕ) : Reading → Type 0 where
+  long : ReadingOf t Long
+  bad : length t ≤ 1024 → firstBad t < length t → ReadingOf t (Bad (firstBad t))
+  letters : length t ≤ 1024 → length t ≤ firstBad t → ReadingOf t (Letters (length t))
+
+reading-of : (t : List ℕ) → ReadingOf t (reading t)
 unfolding reading
-letters-told t n e = go (ltb 1024 (length t)) (ltb (firstBad t) (length t)) refl refl e
+reading-of t = go (ltb 1024 (length t)) (ltb (firstBad t) (length t)) refl refl
   where
-    go : (a b : Bool) → ltb 1024 (length t) ≡ a → ltb (firstBad t) (length t) ≡ b → cond a Long (cond b (Bad (firstBad t)) (Letters (length t))) ≡ Letters n → AllLetters t n
-    go true b x y e = absurd (let z : _≡_ {A = ℕ} 0 1 = cc in omega arith)
-    go false true x y e = absurd (let z : _≡_ {A = ℕ} 0 1 = cc in omega arith)
-    go false false x y e =
-        let l : length t ≡ n = cc in
-        record { count = sym l; few = omega (arith, ltb-false 1024 (length t) x); letters = omega (arith, ltb-false (firstBad t) (length t) y, bad-le t) }
+    go : (a b : Bool) → ltb 1024 (length t) ≡ a → ltb (firstBad t) (length t) ≡ b
+        → ReadingOf t (cond a Long (cond b (Bad (firstBad t)) (Letters (length t))))
+    go true b x y = long
+    go false true x y = bad (ltb-false _ _ x) (ltb-true _ _ y)
+    go false false x y = letters (ltb-false _ _ x) (ltb-false _ _ y)
+
+pub letters-told : (t : List ℕ) (n : ℕ) → reading t ≡ Letters n → AllLetters t n
+letters-told t n e = go (reading-of t) e
+  where
+    go : {r : Reading} → ReadingOf t r → r ≡ Letters n → AllLetters t n
+    go long e = absurd (let z : _≡_ {A = ℕ} 0 1 = cc in omega arith)
+    go (bad h k) e = absurd (let z : _≡_ {A = ℕ} 0 1 = cc in omega arith)
+    go (letters h k) e = let l : length t ≡ n = cc in record { count = sym l; few = omega arith; letters = omega (arith, bad-le t) }
 
 pub bad-told : (t : List ℕ) (p : ℕ) → reading t ≡ Bad p → BadAt t p
-unfolding reading
-bad-told t p e = go (ltb 1024 (length t)) (ltb (firstBad t) (length t)) refl refl e
+bad-told t p e = go (reading-of t) e
   where
-    go : (a b : Bool) → ltb 1024 (length t) ≡ a → ltb (firstBad t) (length t) ≡ b → cond a Long (cond b (Bad (firstBad t)) (Letters (length t))) ≡ Bad p → BadAt t p
-    go true b x y e = absurd (let z : _≡_ {A = ℕ} 0 1 = cc in omega arith)
-    go false false x y e = absurd (let z : _≡_ {A = ℕ} 0 1 = cc in omega arith)
-    go false true x y e =
-        let l : firstBad t ≡ p = cc in
-        record { first = sym l; within = omega (arith, ltb-true (firstBad t) (length t) y); few = omega (arith, ltb-false 1024 (length t) x, ltb-true (firstBad t) (length t) y) }
+    go : {r : Reading} → ReadingOf t r → r ≡ Bad p → BadAt t p
+    go long e = absurd (let z : _≡_ {A = ℕ} 0 1 = cc in omega arith)
+    go (bad h k) e = let l : firstBad t ≡ p = cc in record { first = sym l; within = omega arith; few = omega arith }
+    go (letters h k) e = absurd (let z : _≡_ {A = ℕ} 0 1 = cc in omega arith)

@@ -16,7 +16,8 @@ use Rattle.letters_text.specs.Decimal.{decimal}
 use Rattle.letters_text.specs.Lines.{Columns, objectAt, objects, lineHead, parting, firstLetter, nextLetter, linesAfter, linesOf, lines}
 use Rattle.letters_text.specs.Memory.{Wrote, Written, LinesFit}
 use Rattle.letters_text.proofs.DecimalLaws.{decimal-two}
-use Rattle.letters_text.proofs.WroteLaws.{wrote-nothing, wrote-same, wrote-more, wrote-length, written, Progress, progress-start, progress-room, progress-turn, progress-end}
+use Rattle.letters_text.proofs.WroteLaws.{wrote-nothing, wrote-same, wrote-more, wrote-length, written}
+use Rattle.letters_text.proofs.WroteLaws.{Progress, progress-start, progress-room, progress-turn, progress-end}
 
 -- ---- what parts two objects
 

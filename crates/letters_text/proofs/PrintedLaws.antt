@@ -39,8 +39,12 @@ module _ {t old new : List ℕ} {r : Reading} (x : ReadText t old new r) where
   unfolding kindsAfter
   read-kinds n e = x .memory ∙ rw (sym (x .answer) ∙ e)
 
--- a program that reads only the first 1,026 bytes, or more, prints what it would print of the whole input
-pub printed-front : (lines : List ℕ → List ℕ) (n : ℕ) (s : List ℕ) → 1026 ≤ n
+-- 1,024 letters, a line feed, and a byte more that tells a longer input
+abbrev pub inputBytes : ℕ
+inputBytes = 1026
+
+-- a program that reads only so many bytes of an input, or more, prints what it would print of the whole
+pub printed-front : (lines : List ℕ → List ℕ) (n : ℕ) (s : List ℕ) → inputBytes ≤ n
     → printed (reading (trimmed (take n s))) (lines (trimmed (take n s))) ≡ printed (reading (trimmed s)) (lines (trimmed s))
 unfolding printed
 printed-front lines n s h = go (ltb n (length s)) refl

@@ -1,5 +1,6 @@
--- What the letters program reads. Document 01: "Reads d, k, n (kinds 0, 1, 2) from standard input, one line feed at the end ignored, at most 1,024 letters."
--- "`bad P` (P counted from 0, the first byte that isn't a letter) or `long` (over 1,024 bytes, the ignored line feed not counted), which is tested first."
+-- What the letters program reads, by document 01's paragraph on it: letters, of which there are at most 1,024, and
+-- after them one line feed that counts for nothing. A text that is too long is told as that, whatever its bytes are;
+-- else its first byte that is no letter is told.
 -- A text is a list of bytes.
 use Prim.Native.Nat.{ℕ, suc, _-_}
 use mathlib.Core.Bool.{Bool, true, cond}

@@ -1,5 +1,6 @@
--- What the letters program prints. Document 01: "One line a hit pattern: interval, space, patterns parted by `|`, streaks by `,`. `dkkddk` prints `17 d`, `17 kk,dd`, `2 k`.
--- Every printed line ends in a line feed. Else it prints only `bad P` .. or `long` .. Empty input prints nothing."
+-- What the letters program prints, by document 01's paragraph on it: a line for each hit pattern, with its interval
+-- and its letters, among which `|` parts alternating patterns and `,` streaks; or one line on what is wrong with the
+-- text. No letters, no line.
 use Prim.Native.Nat.{ℕ}
 use mathlib.Core.Bool.{cond}
 use mathlib.Core.List.{List, [], _∷_, _++_}
@@ -17,8 +18,8 @@ unfoldable pub lineHead : Object → List ℕ
 unfolding decimal
 lineHead o = decimal (o .interval) ++ 32 ∷ []
 
--- what stands between the letters of p and of o, the next object: where o opens a hit pattern a line feed and the next line's head,
--- else where it opens an alternating pattern `|`, else where it opens a streak `,`
+-- what stands between the letters of p and of o, the next object: where o opens a hit pattern a line feed and the next
+-- line's head, else where it opens an alternating pattern `|`, else where it opens a streak `,`
 unfoldable pub parting : Object → Object → List ℕ
 unfolding lineHead
 parting p o =
@@ -54,6 +55,16 @@ pub record Columns : Type 0 where
   pub patterns : List ℕ
   pub hits : List ℕ
   pub intervals : List ℕ
+
+-- the five lists as columns
+abbrev pub columnsOf : List ℕ → List ℕ → List ℕ → List ℕ → List ℕ → Columns
+columnsOf kinds streaks patterns hits intervals = record {
+  kinds = kinds;
+  streaks = streaks;
+  patterns = patterns;
+  hits = hits;
+  intervals = intervals;
+}
 
 unfoldable pub objectAt : Columns → ℕ → Object
 objectAt c i = record {

@@ -6,7 +6,8 @@ ghost use lib.ListN.{length};
 ghost use Rattle.grouping_marks.specs.Over.{over};
 ghost use Rattle.letters_text.specs.Letters.{trimmed, isLetter, kindOf, letterOf, kindsOf, firstBad};
 ghost use Rattle.letters_text.specs.Decimal.{digitAt, decimal};
-ghost use Rattle.letters_text.specs.Lines.{objectAt, lineHead, parting, firstLetter, nextLetter, lines, badLine, longLine};
+ghost use Rattle.letters_text.specs.Lines.{columnsOf, objectAt, lineHead, parting, firstLetter, nextLetter};
+ghost use Rattle.letters_text.specs.Lines.{lines, badLine, longLine};
 ghost use Rattle.letters_text.specs.Memory.{Front, ReadText, Wrote, Written, OneLength, LinesFit};
 
 // What a text is: over 1,024 bytes, a byte that is no letter at a place, or so many letters.
@@ -219,8 +220,10 @@ fn object_at(
     interval: &[u8],
     i: usize,
 ) -> Object
-    requires { ⌜ (i < length (now kinds)) × OneLength (record { kinds = now kinds; streaks = now streak; patterns = now pattern; hits = now hit; intervals = now interval }) ⌝ }
-    ensures { λ r. ⌜ r ≡ objectAt (record { kinds = now (kinds .entry); streaks = now (streak .entry); patterns = now (pattern .entry); hits = now (hit .entry); intervals = now (interval .entry) }) i ⌝ }
+    requires { ⌜ (i < length (now kinds))
+        × OneLength (columnsOf (now kinds) (now streak) (now pattern) (now hit) (now interval)) ⌝ }
+    ensures { λ r. ⌜ r ≡ objectAt (columnsOf (now (kinds .entry)) (now (streak .entry)) (now (pattern .entry))
+        (now (hit .entry)) (now (interval .entry))) i ⌝ }
 {
     Object {
         kind: kinds[i],
@@ -240,8 +243,10 @@ pub fn write_lines(
     interval: &[u8],
     out: &mut [u8],
 ) -> usize
-    requires { ⌜ LinesFit (record { kinds = now kinds; streaks = now streak; patterns = now pattern; hits = now hit; intervals = now interval }) (length (now out)) ⌝ }
-    ensures { λ r. ⌜ Written (lines (record { kinds = now (kinds .entry); streaks = now (streak .entry); patterns = now (pattern .entry); hits = now (hit .entry); intervals = now (interval .entry) })) (now (out .entry)) (now (out .exit)) r ⌝ }
+    requires { ⌜ LinesFit (columnsOf (now kinds) (now streak) (now pattern) (now hit) (now interval))
+        (length (now out)) ⌝ }
+    ensures { λ r. ⌜ Written (lines (columnsOf (now (kinds .entry)) (now (streak .entry)) (now (pattern .entry))
+        (now (hit .entry)) (now (interval .entry)))) (now (out .entry)) (now (out .exit)) r ⌝ }
 {
     let n = kinds.len();
     if n == 0 {

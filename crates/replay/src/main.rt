@@ -1,101 +1,24 @@
-// Replays the original's stored answers: calls encode, colour, stretch, rhythm or record on each case of data/encode, data/colour and data/rhythm, and compares all that it hands back.
-// What a case must hold, and what is counted, is promised in replay_cases; the functions here read and write, of which no promise can speak.
-ghost use Prim.Native.Nat.{_≤_};
+// Replays the original's stored answers: calls encode, colour, stretch, rhythm or record on each case of data/encode,
+// data/colour and data/rhythm, compares all that it hands back, and prints how many cases there are and how many
+// differ.
+// What is counted `replay` promises. Of what is printed no promise can speak: tests/replay sees that it is the count.
+ghost use Rattle.replay_read.specs.Read.{FileRead};
 use libc::STDOUT_FILENO;
-use replay_cases::Next;
-use replay_cases::count;
 use replay_cases::count::Replay;
-use replay_cases::count::Replayed;
 use replay_cases::tally::Tally;
-use vectors::case::Head;
 use vectors::form::COLOUR;
 use vectors::form::ENCODE;
 use vectors::form::RHYTHM;
 
-enum ReadHead {
-    Good(Head),
-    Bad,
-    End,
-}
-
-fn read_head(fd: i32) -> ReadHead {
-    let mut bytes = [0u8; 8];
-    let got = io::read_full(fd, &mut bytes);
-    if got == 0 {
-        return ReadHead::End;
-    }
-    if got != 8 {
-        return ReadHead::Bad;
-    }
-    ReadHead::Good(vectors::case::read_head(&bytes))
-}
-
-// Reads the body of a case with a chart of its own, and replays it.
-fn chart_case(fd: i32, spare: usize, h: Head, body: &mut [u8]) -> Replayed
-    requires { ⌜ spare ≤ 7 ⌝ }
+// Replays the file of this call's charts. One that can't be opened has no cases.
+fn replay(path: &[u8], call: u8) -> Replay
+    ensures { λ r. ⌜ FileRead call r ⌝ }
 {
-    let size = h.size;
-    if body.len() < size {
-        return Replayed::Broken;
-    }
-    if io::read_full(fd, &mut body[..size]) != size {
-        return Replayed::Broken;
-    }
-    Replayed::Chart(h, replay_cases::chart_holds(h, &body[..size], spare))
-}
-
-// Reads a case on the chart at hand, and replays it.
-fn part_case(fd: i32, spare: usize, chart: Head, body: &[u8], h: Head) -> Replayed
-    requires { ⌜ spare ≤ 7 ⌝ }
-{
-    let size = h.size;
-    let whole = chart.size;
-    if body.len() < whole {
-        return Replayed::Broken;
-    }
-    if 58 < size {
-        return Replayed::Broken;
-    }
-    let part = &mut [0u8; 58][..size];
-    if io::read_full(fd, part) != size {
-        return Replayed::Broken;
-    }
-    Replayed::Part(replay_cases::part_holds(chart, &body[..whole], h, part, spare))
-}
-
-// Reads and replays the next case of the file of this call's charts.
-fn next_case(fd: i32, call: u8, r: Replay, body: &mut [u8]) -> Replayed {
-    let spare = count::spare(r);
-    let chart = r.chart;
-    match read_head(fd) {
-        ReadHead::End => Replayed::End,
-        ReadHead::Bad => Replayed::Broken,
-        ReadHead::Good(h) => match replay_cases::follows(call, h) {
-            Next::Body => chart_case(fd, spare, h, body),
-            Next::Part => part_case(fd, spare, chart, body, h),
-            Next::Nothing => Replayed::Broken,
-        },
-    }
-}
-
-// Replays the cases up to the file's end.
-fn replay_all(fd: i32, call: u8) -> Replay {
-    let mut body = [0u8; 344068];
-    let mut r = count::start();
-    while r.left > 0 {
-        let c = next_case(fd, call, r, &mut body);
-        r = count::after(r, c);
-    }
-    r
-}
-
-fn replay(path: &[u8], call: u8) -> Replay {
     let fd = os::open_read(path);
     if fd < 0 {
         os::fail(path);
-        return count::start();
     }
-    let r = replay_all(fd, call);
+    let r = replay_read::replay_all(fd, call);
     libc::close(fd);
     r
 }

@@ -10,15 +10,15 @@ put-head-requires : tie.Need-put-head-requires
 put-head-requires c κs = omega (arith, first-length (c .before .before .args .o))
 
 put-byte-requires : tie.Need-put-byte-requires
-put-byte-requires c κs = omega (arith, first-length (c .before .before .before .before .before .before .before .args .o))
+put-byte-requires c κs =
+    let start = c .before .before .before .before .before .before .before in
+    omega (arith, first-length (start .args .o))
 
 returns : tie.Need-returns
 unfolding firstLetter
 returns c =
-    wrote-then
-    (c .before .before .before .before .before .before .before .put-head .ensures)
-    (c .before .before .before .letter-of .ensures)
-    (c .before .before .put-byte .ensures)
+    let letter = c .before .before .before in
+    wrote-then (letter .before .before .before .before .put-head .ensures) (letter .letter-of .ensures) (c .before .before .put-byte .ensures)
 
 pub put-first-spec : {M : Type 1} → statement M
 put-first-spec =

@@ -10,7 +10,9 @@ put-number-requires : tie.Need-put-number-requires
 put-number-requires c κs = omega (arith, head-length (c .before .before .before .args .o))
 
 put-byte-requires : tie.Need-put-byte-requires
-put-byte-requires c κs = omega (arith, head-length (c .before .before .before .before .before .before .before .args .o))
+put-byte-requires c κs =
+    let start = c .before .before .before .before .before .before .before in
+    omega (arith, head-length (start .args .o))
 
 returns : tie.Need-returns
 unfolding lineHead

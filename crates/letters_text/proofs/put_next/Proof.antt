@@ -11,16 +11,14 @@ put-parting-requires c κs = omega (arith, next-length (c .before .before .args 
 
 put-byte-requires : tie.Need-put-byte-requires
 put-byte-requires c κs =
-    omega
-    (arith, next-length (c .before .before .before .before .before .before .before .args .p) (c .before .before .before .before .before .before .before .args .o))
+    let start = c .before .before .before .before .before .before .before in
+    omega (arith, next-length (start .args .p) (start .args .o))
 
 returns : tie.Need-returns
 unfolding nextLetter
 returns c =
-    wrote-then
-    (c .before .before .before .before .before .before .before .put-parting .ensures)
-    (c .before .before .before .letter-of .ensures)
-    (c .before .before .put-byte .ensures)
+    let letter = c .before .before .before in
+    wrote-then (letter .before .before .before .before .put-parting .ensures) (letter .letter-of .ensures) (c .before .before .put-byte .ensures)
 
 pub put-next-spec : {M : Type 1} → statement M
 put-next-spec =

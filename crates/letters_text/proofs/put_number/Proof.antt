@@ -13,21 +13,23 @@ put-digit-requires-2 : tie.Need-put-digit-requires-2
 put-digit-requires-2 c κs = omega (arith, decimal-length (c .before .before .before .before .before .before .args .n))
 
 put-digit-requires-3 : tie.Need-put-digit-requires-3
-put-digit-requires-3 c κs = omega (arith, decimal-length (c .before .before .before .before .before .before .before .before .before .before .args .n))
+put-digit-requires-3 c κs =
+    let start = c .before .before .before .before .before .before .before .before .before .before in
+    omega (arith, decimal-length (start .args .n))
 
 put-byte-requires : tie.Need-put-byte-requires
 put-byte-requires c κs =
-    omega
-    (arith, decimal-length (c .before .before .before .before .before .before .before .before .before .before .before .before .before .before .args .n))
+    let start = c .before .before .before .before .before .before .before .before .before .before .before .before .before .before in
+    omega (arith, decimal-length (start .args .n))
 
 returns : tie.Need-returns
 unfolding decimal
 returns c =
-    wrote-more
-    (c .before .before .before .before .before .before .before .before .before .before .before .before .before .before .put-digit .ensures)
-    (wrote-more
-    (c .before .before .before .before .before .before .before .before .before .before .put-digit2 .ensures)
-    (wrote-more (c .before .before .before .before .before .before .put-digit3 .ensures) (c .before .before .put-byte .ensures)))
+    let tens = c .before .before .before .before .before .before in
+    let hundreds = tens .before .before .before .before in
+    let thousands = hundreds .before .before .before .before in
+    wrote-more (thousands .put-digit .ensures)
+    (wrote-more (hundreds .put-digit2 .ensures) (wrote-more (tens .put-digit3 .ensures) (c .before .before .put-byte .ensures)))
 
 pub put-number-spec : {M : Type 1} → statement M
 put-number-spec =

@@ -14,44 +14,47 @@ put-byte-requires c κs =
 
 put-head-requires : tie.Need-put-head-requires
 put-head-requires c κs =
-    let a = c .before .before .before .before .before .before .before .before .before .args in
-    omega (arith, ap length (parting-line (a .p) (a .o) (c .before .before .before .before .before .if1 .taken)))
+    let line = c .before .before .before .before .before in
+    let a = line .before .before .before .before .args in
+    omega (arith, ap length (parting-line (a .p) (a .o) (line .if1 .taken)))
 
 returns : tie.Need-returns
 returns c =
-    wrote-same
-    (parting-line _ _ (c .before .before .before .before .before .before .before .before .if1 .taken))
-    (wrote-more (c .before .before .before .before .before .before .put-byte .ensures) (c .before .before .put-head .ensures))
+    let feed = c .before .before .before .before .before .before in
+    wrote-same (parting-line _ _ (feed .before .before .if1 .taken)) (wrote-more (feed .put-byte .ensures) (c .before .before .put-head .ensures))
 
 put-byte-requires-2 : tie.Need-put-byte-requires-2
 put-byte-requires-2 c κs =
-    let a = c .before .before .before .before .before .before .before .before .args in
-    omega (arith, ap length (parting-bar (a .p) (a .o) (c .before .before .before .before .if1 .left) (c .before .if2 .taken)))
+    let second = c .before in
+    let first = second .before .before .before in
+    let a = first .before .before .before .before .args in
+    omega (arith, ap length (parting-bar (a .p) (a .o) (first .if1 .left) (second .if2 .taken)))
 
 returns-2 : tie.Need-returns-2
 returns-2 c =
-    wrote-same
-    (parting-bar _ _ (c .before .before .before .before .before .before .before .if1 .left) (c .before .before .before .before .if2 .taken))
-    (c .before .before .put-byte2 .ensures)
+    let second = c .before .before .before .before in
+    let first = second .before .before .before in
+    wrote-same (parting-bar _ _ (first .if1 .left) (second .if2 .taken)) (c .before .before .put-byte2 .ensures)
 
 put-byte-requires-3 : tie.Need-put-byte-requires-3
 put-byte-requires-3 c κs =
-    let a = c .before .before .before .before .before .before .before .before .before .before .before .args in
-    omega (arith, ap length (parting-comma (a .p) (a .o) (c .before .before .before .before .before .before .before .if1 .left) (c .before .before .before .before .if2 .left) (c .before .if3 .taken)))
+    let second = c .before .before .before .before in
+    let first = second .before .before .before in
+    let a = first .before .before .before .before .args in
+    omega (arith, ap length (parting-comma (a .p) (a .o) (first .if1 .left) (second .if2 .left) (c .before .if3 .taken)))
 
 returns-3 : tie.Need-returns-3
 returns-3 c =
-    wrote-same
-    (parting-comma _ _
-    (c .before .before .before .before .before .before .before .before .before .before .if1 .left)
-    (c .before .before .before .before .before .before .before .if2 .left)
-    (c .before .before .before .before .if3 .taken))
-    (c .before .before .put-byte3 .ensures)
+    let third = c .before .before .before .before in
+    let second = third .before .before .before in
+    let first = second .before .before .before in
+    wrote-same (parting-comma _ _ (first .if1 .left) (second .if2 .left) (third .if3 .taken)) (c .before .before .put-byte3 .ensures)
 
 returns-4 : tie.Need-returns-4
 returns-4 c =
-    wrote-same
-    (parting-none _ _ (c .before .before .before .before .before .before .if1 .left) (c .before .before .before .if2 .left) (c .if3 .left)) (wrote-nothing _ _)
+    let second = c .before .before .before in
+    let first = second .before .before .before in
+    wrote-same (parting-none _ _ (first .if1 .left) (second .if2 .left) (c .if3 .left)) (wrote-nothing _ _)
 
 pub put-parting-spec : {M : Type 1} → statement M
 put-parting-spec =

@@ -7,20 +7,21 @@ use Rattle.letters_text.proofs.write_bad.Statement.{statement}
 use Rattle.letters_text.proofs.write_bad.Tie as tie
 
 put-number-requires : tie.Need-put-number-requires
-put-number-requires c κs = omega (arith, decimal-four (c .before .before .before .before .before .before .before .args .place))
+put-number-requires c κs =
+    let start = c .before .before .before .before .before .before .before in
+    omega (arith, decimal-four (start .args .place))
 
 put-byte-requires : tie.Need-put-byte-requires
 put-byte-requires c κs =
-    omega
-    (arith, decimal-four (c .before .before .before .before .before .before .before .before .before .before .before .args .place))
+    let start = c .before .before .before .before .before .before .before .before .before .before .before in
+    omega (arith, decimal-four (start .args .place))
 
 returns : tie.Need-returns
 unfolding badLine
 returns c =
-    written
-    (wrote-more
-    (c .before .before .before .before .before .before .before .before .before .before .put-word .ensures)
-    (wrote-more (c .before .before .before .before .before .before .put-number .ensures) (c .before .before .put-byte .ensures)))
+    let number = c .before .before .before .before .before .before in
+    let word = number .before .before .before .before in
+    written (wrote-more (word .put-word .ensures) (wrote-more (number .put-number .ensures) (c .before .before .put-byte .ensures)))
 
 pub write-bad-spec : {M : Type 1} → statement M
 write-bad-spec =

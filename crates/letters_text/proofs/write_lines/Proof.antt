@@ -2,14 +2,14 @@
 use Prim.Native.Nat.{_-_}
 use native.Mathlib.Omega.{arith}
 use lib.ListN.{length}
+use Rattle.letters_text.specs.Lines.{columnsOf}
 use Rattle.letters_text.proofs.LinesLaws.{LinesWalk, lines-none, first-room, lines-start, lines-room, lines-turn, last-room, lines-end}
 use Rattle.letters_text.proofs.write_lines.Statement.{statement}
 use Rattle.letters_text.proofs.write_lines.Tie as tie
 
 abbrev Inv-loop : tie.InvT-loop
 Inv-loop kinds streak pattern hit interval out₀ n last₀ to₀ i₀ out last to i =
-    LinesWalk
-    (record { kinds = kinds; streaks = streak; patterns = pattern; hits = hit; intervals = interval }) last₀ to₀ out₀ out last to i
+    LinesWalk (columnsOf kinds streak pattern hit interval) last₀ to₀ out₀ out last to i
 
 abbrev μ-loop : tie.MeasureT-loop
 μ-loop kinds streak pattern hit interval out₀ n last₀ to₀ i₀ out last to i = length kinds - i
@@ -18,32 +18,34 @@ returns : tie.Need-returns Inv-loop μ-loop
 returns c = lines-none _ _ (c .if1 .taken)
 
 object-at-requires : tie.Need-object-at-requires Inv-loop μ-loop
-object-at-requires c κs = (omega arith, c .before .before .before .before .before .before .before .pre .even)
+object-at-requires c κs =
+    let start = c .before .before .before .before .before .before .before in
+    (omega arith, start .pre .even)
 
 put-first-requires : tie.Need-put-first-requires Inv-loop μ-loop
 put-first-requires c κs =
-    first-room _ (omega arith)
-    (c .before .object-at .ensures)
+    first-room _ (omega arith) (c .before .object-at .ensures)
     (c .before .before .before .before .before .before .before .before .before .pre)
 
 loop-holds : tie.Need-loop-holds Inv-loop μ-loop
 loop-holds c =
-    lines-start _ (omega arith)
-    (c .before .before .before .before .object-at .ensures)
-    (c .before .before .before .before .before .before .before .before .before .before .before .before .pre)
-    (c .before .before .put-first .ensures)
+    let first = c .before .before .before .before in
+    let start = first .before .before .before .before .before .before .before .before in
+    lines-start _ (omega arith) (first .object-at .ensures) (start .pre) (c .before .before .put-first .ensures)
 
 object-at-requires-2 : tie.Need-object-at-requires-2 Inv-loop μ-loop
 object-at-requires-2 c κs =
-    (c .loop-test .taken, c .before .before .before .before .before .before .before .before .before .before .before .before .before .before .pre .even)
+    let start = c .before .before .before .before .before .before .before .before .before .before .before .before .before .before in
+    (c .loop-test .taken, start .pre .even)
 
 put-next-requires : tie.Need-put-next-requires Inv-loop μ-loop
 put-next-requires c κs = lines-room (c .before .before .before .loop .inv) (c .before .before .loop-test .taken) (c .before .object-at2 .ensures)
 
 add-i : tie.Need-add-i Inv-loop μ-loop
 add-i c =
-    omega
-    (arith, c .before .before .before .before .before .before .before .before .before .before .before .before .before .before .before .before .before .before .before .good .0)
+    let loop = c .before .before .before .before .before .before in
+    let start = loop .before .before .before .before .before .before .before .before .before .before .before .before .before in
+    omega (arith, start .good .0)
 
 loop-again : tie.Need-loop-again Inv-loop μ-loop
 loop-again c =
@@ -58,11 +60,12 @@ put-byte-requires c κs = last-room (c .before .before .loop .inv) (c .before .l
 
 returns-2 : tie.Need-returns-2 Inv-loop μ-loop
 returns-2 c =
-    lines-end
-    (c .before .before .before .before .before .loop .inv)
+    let loop = c .before .before .before .before .before in
+    let first = loop .before .before .before in
+    lines-end (loop .loop .inv)
     (c .before .before .before .before .loop-test .left) (omega arith)
-    (c .before .before .before .before .before .before .before .before .before .before .object-at .ensures)
-    (c .before .before .before .before .before .before .before .before .put-first .ensures)
+    (first .before .before .object-at .ensures)
+    (first .put-first .ensures)
     (c .before .before .put-byte .ensures)
 
 pub write-lines-spec : {M : Type 1} → statement M

@@ -1,0 +1,2 @@
+-- What is counted, by the bytes that were read.
+pub mod Read
