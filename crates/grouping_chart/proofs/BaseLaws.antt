@@ -4,7 +4,7 @@ use mathlib.Core.Bool.{false}
 use native.Mathlib.Omega.{arith}
 use lib.IntN.{pos}
 use lib.Ieee.{fin, binary64, ofBits, round, le}
-use Rattle.grouping_chart.specs.Refusal.{within}
+use Rattle.numeric.proofs.range.Laws.{ends-within}
 use Rattle.grouping_chart.specs.Settings.{Settings, Permitted, baseSettings}
 
 pub base-is : _≡_ {A = Settings} baseSettings (record {
@@ -17,8 +17,14 @@ unfolding ofBits round
 base-is = refl
 
 pub base-permitted : Permitted baseSettings
-unfolding within le ofBits
-base-permitted = record { margin = tt; least = omega arith; most = omega arith; threshold = tt; tolerance = tt }
+unfolding le ofBits
+base-permitted = record {
+  margin = ends-within _ _ _ tt tt;
+  least = omega arith;
+  most = omega arith;
+  threshold = ends-within _ _ _ tt tt;
+  tolerance = ends-within _ _ _ tt tt;
+}
 
 -- as `base` gives it
 pub is-permitted : {s : Settings} → s ≡ baseSettings → Permitted s

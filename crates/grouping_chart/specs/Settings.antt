@@ -5,7 +5,8 @@ use Prim.Native.Nat.{_≤_}
 use lib.Dec.{T}
 use lib.IntN.{pos}
 use lib.Ieee.{Float, fin, binary64, ofBits}
-use Rattle.grouping_chart.specs.Refusal.{within}
+use Rattle.numeric.specs.Constants.{zero64, one64}
+use Rattle.numeric.specs.Range.{within}
 use Rattle.grouping_chart.specs.declared.settings.Settings as declared
 
 -- margin, what is near, in milliseconds; limit, the search limit M of intervals: from 1 to M − 1 are searched, and M
@@ -23,20 +24,14 @@ baseSettings = record {
   tolerance = ofBits binary64 0x3f84_7ae1_47ae_147b;
 }
 
-abbrev zero : Float
-zero = fin false 0 (pos 0)
-
-abbrev one : Float
-one = fin false 1 (pos 0)
-
 abbrev fifty : Float
 fifty = fin false 25 (pos 1)
 
 -- a set that a call may be given: a limit from 2 to 64, whose intervals are bytes, and three numbers in their ranges,
 -- in none of which a NaN is
 pub record Permitted (s : Settings) : Type 0 where
-  pub margin : T (within zero fifty (s .margin))
+  pub margin : T (within zero64 fifty (s .margin))
   pub least : 2 ≤ s .limit
   pub most : s .limit ≤ 64
-  pub threshold : T (within zero one (s .threshold))
-  pub tolerance : T (within zero one (s .tolerance))
+  pub threshold : T (within zero64 one64 (s .threshold))
+  pub tolerance : T (within zero64 one64 (s .tolerance))
