@@ -29,14 +29,19 @@ plus : (i : ℕ) (b : Bool) → i + cond b 1 0 ≡ cond b (i + 1) i
 plus i true = refl
 plus i false = omega arith
 
-module _ (margin : Float) (v : List Float) (i : ℕ) where
-  -- at i the values are v(i), v(i + 1) and on
-  two : i + 1 < length v → drop i v ≡ getD v i nan ∷ getD v (i + 1) nan ∷ drop (suc (i + 1)) v
-  two h =
+module _ (v : List Float) (i : ℕ) where
+  -- two values or more from i on
+  pub two-left : i + 1 < length v → drop i v ≡ getD v i nan ∷ getD v (i + 1) nan ∷ drop (suc (i + 1)) v
+  two-left h =
       drop-cons v i nan (omega arith)
       ∙ ap (λ (n : ℕ). getD v i nan ∷ drop n v) (sym (add-one i))
       ∙ ap (λ (l : List Float). getD v i nan ∷ l) (drop-cons v (i + 1) nan h)
 
+  -- the last value alone
+  pub one-left : i < length v → length v ≤ i + 1 → drop i v ≡ getD v i nan ∷ []
+  one-left h k = drop-cons v i nan h ∙ ap (λ (l : List Float). getD v i nan ∷ l) (drop-of-length-le v {i = suc i} (omega arith))
+
+module _ (margin : Float) (v : List Float) (i : ℕ) where
   -- the value is near the next one: the group goes on
   pub end-near : i + 1 < length v → isNear margin (getD v i nan) (getD v (i + 1) nan) ≡ true → endAfter margin v i ≡ endAfter margin v (i + 1)
   unfolding endAfter
@@ -44,7 +49,7 @@ module _ (margin : Float) (v : List Float) (i : ℕ) where
       let many : Bool = ltb 2 (length v) in
       let x : Float = getD v i nan in
       let g : grow margin many (getD v (i - 1) nan) (drop i v) ≡ suc (grow margin many x (drop (i + 1) v)) =
-      ap (grow margin many (getD v (i - 1) nan)) (two h)
+      ap (grow margin many (getD v (i - 1) nan)) (two-left v i h)
       ∙ grow-near margin many (getD v (i - 1) nan) x (getD v (i + 1) nan) (drop (suc (i + 1)) v) e
       ∙ ap (λ (l : List Float). suc (grow margin many x l)) (sym (drop-cons v (i + 1) nan h)) in
       let b : i + 1 - 1 ≡ i = omega arith in
@@ -59,7 +64,7 @@ module _ (margin : Float) (v : List Float) (i : ℕ) where
   end-turn r h e f =
       let many : Bool = ltb 2 (length v) in
       let last : Float = getD v (i - 1) nan in
-      ap (λ (l : List Float). i + grow margin many last l) (two h)
+      ap (λ (l : List Float). i + grow margin many last l) (two-left v i h)
       ∙ ap (λ (k : ℕ). i + k) (grow-turn margin many last (getD v i nan) (getD v (i + 1) nan) (drop (suc (i + 1)) v) r e f)
       ∙ plus i r
 
@@ -68,19 +73,16 @@ module _ (margin : Float) (v : List Float) (i : ℕ) where
   unfolding endAfter grow
   end-none h = rw (drop-of-length-le v h) (omega arith)
 
-  one : i < length v → length v ≤ i + 1 → drop i v ≡ getD v i nan ∷ []
-  one h k = drop-cons v i nan h ∙ ap (λ (l : List Float). getD v i nan ∷ l) (drop-of-length-le v {i = suc i} (omega arith))
-
   -- the last value, of at most two
   pub end-few : i < length v → length v ≤ i + 1 → length v ≤ 2 → endAfter margin v i ≡ i
   unfolding endAfter grow
-  end-few h k f = rw (one h k, le-ltb _ _ f) (omega arith)
+  end-few h k f = rw (one-left v i h k, le-ltb _ _ f) (omega arith)
 
   -- the last value, of more
   pub end-last : (b : Bool) → i < length v → length v ≤ i + 1 → 2 < length v → isNear margin (getD v i nan) (getD v (i - 1) nan) ≡ b
       → endAfter margin v i ≡ cond b (i + 1) i
   unfolding endAfter grow
-  end-last b h k f e = rw (one h k, lt-ltb _ _ f, e) (plus i b)
+  end-last b h k f e = rw (one-left v i h k, lt-ltb _ _ f, e) (plus i b)
 
 -- ---- the marks
 

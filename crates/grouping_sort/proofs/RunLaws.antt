@@ -1,5 +1,5 @@
--- The linear steps of `sort`. The loops of `rises` and `falls` test what the values from i on say; a rising list is ordered; to turn a list round is to
--- exchange.
+-- The linear steps of `sort`. The loops of `is_rising` and `is_falling` test what the values from i on say; a rising list is ordered; what is turned round is
+-- exchanged.
 use mathlib.Core.Path.{_≡_, refl, sym, ap, _∙_, subst}
 use mathlib.Core.Bool.{Bool, true, false, _&&_}
 use mathlib.Core.List.{List, [], _∷_}
@@ -18,7 +18,7 @@ use Rattle.grouping_sort.specs.passes.Sort.{neighbours, rising}
 use Rattle.grouping_sort.proofs.InsertLaws.{rank-le, insert-here, Numbers, none, also}
 use Rattle.grouping_sort.proofs.ShuffleLaws.{length-shuffled, numbers-shuffled, ordered-shuffled}
 
--- ---- the loops of `rises` and `falls`
+-- ---- the loops of `is_rising` and `is_falling`
 
 module _ (test : Float → Float → Bool) where
   neighbours-few : (values : List Float) → length values ≤ 1 → neighbours test values ≡ true

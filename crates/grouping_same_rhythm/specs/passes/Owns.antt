@@ -11,7 +11,7 @@ use Rattle.grouping_marks.specs.Parted.{parted}
 use Rattle.grouping_sort.specs.Ordered.{ordered, AllFinite}
 use Rattle.grouping_normalizer.specs.Normalizer.{distinct}
 use Rattle.grouping_interval.specs.IntervalGrouping.{intervalMarks}
-use Rattle.grouping_same_rhythm.specs.Own.{modalDelta, ownsOf}
+use Rattle.grouping_same_rhythm.specs.Own.{modalDelta, ownsOf, recentOf}
 use Rattle.grouping_same_rhythm.specs.declared.own.Own.{Own}
 use Rattle.grouping_same_rhythm.specs.declared.owns.Recent.{Recent}
 use Rattle.grouping_same_rhythm.specs.declared.owns.Reached.{Reached}
