@@ -3,14 +3,14 @@
 use mathlib.Core.Path.{_≡_, refl, _∙_}
 use mathlib.Core.Logic.{_⊎_}
 use mathlib.Core.List.{List}
-use Prim.Native.Nat.{ℕ, zero, suc, _+_, _-_, _≤_, _<_}
+use Prim.Native.Nat.{ℕ, _+_, _-_, _≤_, _<_}
 use native.Mathlib.Omega.{arith}
 use lib.ListN.{length, getD}
 use Rattle.grouping_marks.specs.Scan.{gathered}
 use Rattle.grouping_marks.specs.Marks.{groupCount, groupNumbers, groupPlaces}
-use Rattle.grouping_marks.proofs.FillLaws.{getD-tabulate, length-gathered, getD-gathered}
+use Rattle.grouping_marks.proofs.FillLaws.{length-gathered, getD-gathered}
 use Rattle.grouping_marks.proofs.MarksLaws.{length-numbers, numbers-below, length-sizes, length-firsts}
-use Rattle.grouping_hits.proofs.LengthLaws.{length-hitMarks, length-intervals}
+use Rattle.grouping_hits.proofs.LengthLaws.{length-hitMarks}
 use Rattle.grouping_hits.proofs.RangeLaws.{interval-range, interval-byte}
 use Rattle.grouping_color.specs.MonoStreak.{streakMarks, streakOf, streakLengths}
 use Rattle.grouping_color.specs.Preprocessor.{patternsOpen, firstLengths, streakCounts, patternTypes, coupledPatterns, hitsOpen}

@@ -1,7 +1,7 @@
 -- Streaks: behind a cut, which objects open a streak hangs on the objects before it only up to their last note.
-use mathlib.Core.Path.{_≡_, sym, ap, _∙_}
+use mathlib.Core.Path.{_≡_, ap, _∙_}
 use mathlib.Core.List.{List, _++_}
-use mathlib.Core.Bool.{true, cond}
+use mathlib.Core.Bool.{true}
 use Prim.Native.Nat.{ℕ, _<_}
 use lib.ListN.{length, getD}
 use Rattle.grouping_marks.specs.Scan.{scan, after}
@@ -9,16 +9,16 @@ use Rattle.grouping_marks.specs.Marks.{groupSizes, groupFirsts}
 use Rattle.grouping_marks.proofs.ScanLaws.{length-scan, scan-append, after-append}
 use Rattle.grouping_marks.proofs.WalkLaws.{after-hides, scan-alike}
 use Rattle.grouping_marks.proofs.CutLaws.{Opening, sizes-cut, firsts-cut}
-use Rattle.grouping_chart.specs.Object.{isNote, Previous}
+use Rattle.grouping_chart.specs.Object.{isNote}
 use Rattle.grouping_chart.proofs.ObjectLaws.{Seen, seen₀, seenNext}
 use Rattle.grouping_chart.proofs.SeenLaws.{Alike, previous-alike, next-alike, note-alike}
-use Rattle.grouping_color.specs.MonoStreak.{continues, streakMarks, streakLengths, streakTypes}
+use Rattle.grouping_color.specs.MonoStreak.{streakMarks, streakLengths, streakTypes}
 use Rattle.grouping_color.proofs.StreakLaws.{opensSeen, streak-marks-scan}
 use Rattle.grouping_color.proofs.LengthLaws.{length-streakMarks}
 
 opens-alike : (s t : Seen) (k : ℕ) → Alike s t → opensSeen s k ≡ opensSeen t k
 unfolding opensSeen
-opens-alike s t k a = ap (λ (p : Previous). cond (continues p k) 0 1) (previous-alike s t k a)
+opens-alike s t k a = rw (previous-alike s t k a)
 
 pub record HasNote (kinds : List ℕ) : Type 0 where
   pub place : ℕ
@@ -36,8 +36,7 @@ length-marksAfter front back = length-scan seenNext opensSeen (after seenNext se
 pub streakMarks-cut : (front back : List ℕ) → streakMarks (front ++ back) ≡ streakMarks front ++ streakMarksAfter front back
 unfolding streakMarksAfter
 streakMarks-cut front back =
-    streak-marks-scan (front ++ back) ∙ scan-append seenNext opensSeen seen₀ front back
-    ∙ ap (λ (l : List ℕ). l ++ scan seenNext opensSeen (after seenNext seen₀ front) back) (sym (streak-marks-scan front))
+    rw (streak-marks-scan (front ++ back), streak-marks-scan front) (scan-append seenNext opensSeen seen₀ front back)
 
 -- with a note just before the cut in both charts, the marks behind it are the same
 pub streakMarks-agree : (before before′ shared back : List ℕ) → HasNote shared

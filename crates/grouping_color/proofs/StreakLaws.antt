@@ -26,7 +26,7 @@ after-seen s [] = after-none seenNext s ∙ sym (seenAfter-none s)
 after-seen s (k ∷ ks) = after-first seenNext s k ks ∙ after-seen (seenNext s k) ks ∙ sym (seenAfter-first s k ks)
 
 getD-seen : (s : Seen) (ks : List ℕ) (i : ℕ) → i < length ks → getD (scan seenNext opensSeen s ks) i 0 ≡ opensSeen (seenAfter s (take i ks)) (getD ks i 0)
-getD-seen s ks i h = getD-scan seenNext opensSeen s ks i 0 0 h ∙ ap (λ (t : Seen). opensSeen t (getD ks i 0)) (after-seen s (take i ks))
+getD-seen s ks i h = rw (getD-scan seenNext opensSeen s ks i 0 0 h, after-seen s (take i ks))
 
 opens-seen : (kinds : List ℕ) (i : ℕ) → opensStreak kinds i ≡ opensSeen (seenAfter seen₀ (take i kinds)) (getD kinds i 0)
 unfolding opensStreak opensSeen
@@ -44,7 +44,7 @@ streak-marks-scan kinds =
 
 -- the marks that the walk stored
 pub marks-stored : (to : ℕ) (kinds w₀ w : List ℕ) → w ≡ put to (scan seenNext opensSeen seen₀ kinds) w₀ → w ≡ put to (streakMarks kinds) w₀
-marks-stored to kinds w₀ w e = e ∙ ap (λ (l : List ℕ). put to l w₀) (sym (streak-marks-scan kinds))
+marks-stored to kinds w₀ w e = rw (streak-marks-scan kinds) e
 
 -- ---- a step of the walk, as the code takes it: by the note's number, the last note's kind, and the two as they are after the object
 

@@ -1,14 +1,14 @@
 -- Hit patterns: behind two neighbouring uncoupled patterns the grouping begins anew.
-use mathlib.Core.Path.{_≡_, refl, sym, ap, _∙_}
+use mathlib.Core.Path.{_≡_, refl}
 use mathlib.Core.List.{List, [], _∷_, _++_, append-assoc}
 use mathlib.Core.Bool.{Bool, true, false, cond}
 use Prim.Native.Nat.{ℕ, _+_}
 use native.Mathlib.Omega.{arith}
 use lib.Dec.{eqb}
-use lib.ListN.{length, getD}
-use Rattle.grouping_marks.specs.Scan.{scan, after, tabulate}
+use lib.ListN.{length}
+use Rattle.grouping_marks.specs.Scan.{after, tabulate}
 use Rattle.grouping_marks.proofs.ScanLaws.{scan-append, after-append}
-use Rattle.grouping_marks.proofs.WalkLaws.{after-none, after-first, getD-scan}
+use Rattle.grouping_marks.proofs.WalkLaws.{after-none, after-first}
 use Rattle.grouping_marks.proofs.CutLaws.{Opening, nothing-left, opens}
 use Rattle.grouping_marks.proofs.TableLaws.{getD-past, ltb-past, tabulate-cut}
 use Rattle.grouping_hits.specs.RepeatingHitPatterns.{hitMarksAfter, hitMarks, secondAt, secondLengths}
@@ -36,8 +36,7 @@ after-two flags =
 pub hitMarks-cut : (flags back : List ℕ) → hitMarks (flags ++ (0 ∷ 0 ∷ back)) ≡ hitMarks (flags ++ (0 ∷ 0 ∷ [])) ++ hitMarks back
 hitMarks-cut flags back =
     rw (← hitMarks-scan (flags ++ (0 ∷ 0 ∷ back)), ← hitMarks-scan (flags ++ (0 ∷ 0 ∷ [])), ← hitMarks-scan back, ← append-assoc flags (0 ∷ 0 ∷ []) back)
-    (scan-append stageAfter opensHit 0 (flags ++ (0 ∷ 0 ∷ [])) back
-    ∙ ap (λ (s : ℕ). scan stageAfter opensHit 0 (flags ++ (0 ∷ 0 ∷ [])) ++ scan stageAfter opensHit s back) (after-two flags))
+    (rw (scan-append stageAfter opensHit 0 (flags ++ (0 ∷ 0 ∷ [])) back, after-two flags))
 
 pub hitMarks-opening : (back : List ℕ) → Opening (hitMarks back)
 unfolding hitMarks hitMarksAfter

@@ -88,7 +88,7 @@ module _ (limit : ℕ) (s f t : List ℕ) where
 
   none-at-limit : (h : ℕ) → from limit h ≡ limit + 1
   unfolding nearestMatch
-  none-at-limit h = let e : limit - limit ≡ 0 = omega arith in ap (λ (n : ℕ). nearestMatch s f t (limit + 1) h n limit) e
+  none-at-limit h = let e : limit - limit ≡ 0 = omega arith in rw e
 
   -- one more k looked at
   one-nearer : (k h : ℕ) → k < limit → cond (leb k h && matches s f t (h - k) h) k (from (k + 1) h) ≡ from k h

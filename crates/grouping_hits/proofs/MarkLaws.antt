@@ -1,7 +1,7 @@
 -- The pass over the coupled flags makes the marks of the definition. At stage 0 the open hit pattern takes no more patterns,
 -- at stage 1 the coupled ones ahead and two more, at stage 2 one.
-use mathlib.Core.Path.{_≡_, refl, ap}
-use mathlib.Core.Bool.{Bool, true, false, cond}
+use mathlib.Core.Path.{_≡_, refl}
+use mathlib.Core.Bool.{Bool, true, false}
 use mathlib.Core.List.{List, [], _∷_, _++_, map}
 use Prim.Native.Nat.{ℕ, zero, suc, _+_, _-_}
 use native.Mathlib.Omega.{arith}
@@ -36,14 +36,14 @@ from-stages (c ∷ cs) = by (from-stages cs) (eqb c 0) refl
 
     by : FromStages cs → (b : Bool) → eqb c 0 ≡ b → FromStages (c ∷ cs)
     by f true e = record {
-      none = rw (scan-first, e) (ap (λ (l : List ℕ). 1 ∷ l) (f .none));
-      run = rw (scan-first, e) (ap (λ (l : List ℕ). 0 ∷ l) (f .last));
-      last = rw scan-first (ap (λ (l : List ℕ). 0 ∷ l) (f .none));
+      none = rw (scan-first, e, f .none);
+      run = rw (scan-first, e, f .last);
+      last = rw (scan-first, f .none);
     }
     by f false e = record {
-      none = rw (scan-first, e, ne-eqb (suc (coupledRun cs)) 0 (λ z. omega arith), run-left) (ap (λ (l : List ℕ). 1 ∷ l) (f .run));
-      run = rw (scan-first, e, one-more) (ap (λ (l : List ℕ). 0 ∷ l) (f .run));
-      last = rw scan-first (ap (λ (l : List ℕ). 0 ∷ l) (f .none));
+      none = rw (scan-first, e, ne-eqb (suc (coupledRun cs)) 0 (λ z. omega arith), run-left, f .run);
+      run = rw (scan-first, e, one-more, f .run);
+      last = rw (scan-first, f .none);
     }
 
 pub hitMarks-scan : (flags : List ℕ) → scan stageAfter opensHit 0 flags ≡ hitMarks flags
@@ -56,9 +56,9 @@ marks-after : (more : ℕ) (flags : List ℕ) → hitMarksAfter more flags ≡ m
 unfolding hitMarksAfter hitMarks
 marks-after zero flags = refl
 marks-after (suc more) [] = refl
-marks-after (suc more) (c ∷ cs) = ap (λ (l : List ℕ). 0 ∷ l) (marks-after more cs)
+marks-after (suc more) (c ∷ cs) = rw (marks-after more cs)
 
 pub hitMarks-front : (c : ℕ) (cs : List ℕ)
     → hitMarks (c ∷ cs) ≡ 1 ∷ map (λ (c : ℕ). 0) (take (hitSize (c ∷ cs) - 1) cs) ++ hitMarks (drop (hitSize (c ∷ cs) - 1) cs)
 unfolding hitMarksAfter hitMarks
-hitMarks-front c cs = ap (λ (l : List ℕ). 1 ∷ l) (marks-after (hitSize (c ∷ cs) - 1) cs)
+hitMarks-front c cs = rw (marks-after (hitSize (c ∷ cs) - 1) cs)

@@ -22,7 +22,7 @@ module _ {A : Type 0} where
   put-append (suc a) s t [] =
       let h : length s ≤ suc a + length s = omega arith in
       simp (drop-nil, append-nil, take-all (suc a + length s) s h, drop-of-length-le s h)
-  put-append (suc a) s t (x ∷ w) = rw suc-add (ap (λ (l : List A). x ∷ l) (put-append a s t w))
+  put-append (suc a) s t (x ∷ w) = rw (suc-add, put-append a s t w)
 
   -- one element stored
   pub put-one : (at : ℕ) (b : A) (w : List A) → at < length w → set w at b ≡ put at (b ∷ []) w

@@ -8,7 +8,8 @@ use lib.Dec.{eqb}
 use lib.ListN.{length, getD}
 use borrow.Author.Tests.{eq-eqb, ne-eqb, eqb-true}
 use Rattle.grouping_marks.specs.Scan.{scan, after}
-use Rattle.grouping_marks.specs.Marks.{opened, placeByMark, groupCount, groupNumbers, groupPlaces, sizesFrom, groupSizes, firstsFrom, groupFirsts}
+use Rattle.grouping_marks.specs.Marks.{opened, numberByMark, placeByMark, groupCount, groupNumbers, groupPlaces}
+use Rattle.grouping_marks.specs.Marks.{sizesFrom, groupSizes, firstsFrom, groupFirsts}
 use Rattle.grouping_marks.proofs.MarksLaws.{opened-bounds}
 use Rattle.grouping_marks.proofs.ScanLaws.{scan-append, after-append}
 
@@ -37,7 +38,7 @@ sizes-from p (f ∷ fs) m ms z = by (eqb f 0) (sizes-from (p + 1) fs m ms z) (si
     by : (b : Bool) → sizesFrom (p + 1) (fs ++ m ∷ ms) ≡ sizesFrom (p + 1) fs ++ sizesFrom 1 ms → sizesFrom 1 (fs ++ m ∷ ms) ≡ sizesFrom 1 fs ++ sizesFrom 1 ms
         → cond b (sizesFrom (p + 1) (fs ++ m ∷ ms)) (p ∷ sizesFrom 1 (fs ++ m ∷ ms)) ≡ cond b (sizesFrom (p + 1) fs) (p ∷ sizesFrom 1 fs) ++ sizesFrom 1 ms
     by true u v = u
-    by false u v = ap (λ (l : List ℕ). p ∷ l) v
+    by false u v = rw v
 
 pub sizes-cut : (fs bs : List ℕ) → Opening bs → groupSizes (fs ++ bs) ≡ groupSizes fs ++ groupSizes bs
 unfolding groupSizes
@@ -59,14 +60,14 @@ firsts-from (f ∷ fs) (x ∷ xs) m ms y ys z e = by (eqb f 0) (firsts-from fs x
         → cond b (firstsFrom (fs ++ m ∷ ms) (xs ++ y ∷ ys)) (x ∷ firstsFrom (fs ++ m ∷ ms) (xs ++ y ∷ ys))
         ≡ cond b (firstsFrom fs xs) (x ∷ firstsFrom fs xs) ++ y ∷ firstsFrom ms ys
     by true u = u
-    by false u = ap (λ (l : List ℕ). x ∷ l) u
+    by false u = rw u
 
 -- values past the last mark are not looked at
 firsts-from-end : (fs xs ys : List ℕ) → length fs ≡ length xs → firstsFrom fs (xs ++ ys) ≡ firstsFrom fs xs
 unfolding firstsFrom
 firsts-from-end [] xs ys e = refl
 firsts-from-end (f ∷ fs) [] ys e = absurd (omega arith)
-firsts-from-end (f ∷ fs) (x ∷ xs) ys e = ap (λ (l : List ℕ). cond (eqb f 0) l (x ∷ l)) (firsts-from-end fs xs ys (omega arith))
+firsts-from-end (f ∷ fs) (x ∷ xs) ys e = rw (firsts-from-end fs xs ys (omega arith))
 
 -- as many values stand before the cut as marks, and as many behind it
 pub firsts-cut : (fs bs xs ys : List ℕ) → Opening bs → length fs ≡ length xs → length bs ≡ length ys
@@ -76,9 +77,9 @@ firsts-cut [] bs [] ys o e g = refl
 firsts-cut [] bs (x ∷ xs) ys o e g = absurd (omega arith)
 firsts-cut (f ∷ fs) bs [] ys o e g = absurd (omega arith)
 firsts-cut (f ∷ fs) [] (x ∷ xs) ys o e g =
-    rw (append-nil fs, append-nil (firstsFrom fs xs)) (ap (λ (l : List ℕ). x ∷ l) (firsts-from-end fs xs ys (omega arith)))
+    rw (append-nil fs, append-nil (firstsFrom fs xs), firsts-from-end fs xs ys (omega arith))
 firsts-cut (f ∷ fs) (m ∷ ms) (x ∷ xs) [] o e g = absurd (omega arith)
-firsts-cut (f ∷ fs) (m ∷ ms) (x ∷ xs) (y ∷ ys) (opens z) e g = ap (λ (l : List ℕ). x ∷ l) (firsts-from fs xs m ms y ys z (omega arith))
+firsts-cut (f ∷ fs) (m ∷ ms) (x ∷ xs) (y ∷ ys) (opens z) e g = rw (firsts-from fs xs m ms y ys z (omega arith))
 
 -- ---- the count and the numbers
 
@@ -103,42 +104,36 @@ opened-shift c k m h = by (eqb m 0) (eqb (c + k) 0) (eqb k 0) refl refl
     by true false false e g = refl
     by false u v e g = omega arith
 
-abbrev numberAt : ℕ → ℕ → ℕ
-numberAt c m = opened c m - 1
-
 after-shift : (c k : ℕ) (ms : List ℕ) → 1 ≤ k → after opened (c + k) ms ≡ c + after opened k ms
 unfolding after
 after-shift c k [] h = refl
-after-shift c k (m ∷ ms) h = ap (λ (j : ℕ). after opened j ms) (opened-shift c k m h) ∙ after-shift c (opened k m) ms (opened-bounds k m .1 .0)
+after-shift c k (m ∷ ms) h = rw (opened-shift c k m h) (after-shift c (opened k m) ms (opened-bounds k m .1 .0))
 
-numbers-shift : (c k : ℕ) (ms : List ℕ) → 1 ≤ k → scan opened numberAt (c + k) ms ≡ map (λ (j : ℕ). c + j) (scan opened numberAt k ms)
+numbers-moved : (c k : ℕ) (ms : List ℕ) → 1 ≤ k → scan opened numberByMark (c + k) ms ≡ map (λ (j : ℕ). c + j) (scan opened numberByMark k ms)
 unfolding scan
-numbers-shift c k [] h = refl
-numbers-shift c k (m ∷ ms) h =
+numbers-moved c k [] h = refl
+numbers-moved c k (m ∷ ms) h =
     let e : opened (c + k) m ≡ c + opened k m = opened-shift c k m h in
     let d : opened (c + k) m - 1 ≡ c + (opened k m - 1) = omega (arith, e, opened-bounds k m .1 .0) in
-    (λ i. d i ∷ scan opened numberAt (e i) ms) ∙ ap (λ (l : List ℕ). (c + (opened k m - 1)) ∷ l) (numbers-shift c (opened k m) ms (opened-bounds k m .1 .0))
+    rw (d, e, numbers-moved c (opened k m) ms (opened-bounds k m .1 .0))
 
 pub count-cut : (fs bs : List ℕ) → Opening bs → groupCount (fs ++ bs) ≡ groupCount fs + groupCount bs
 unfolding groupCount after
 count-cut fs [] o = rw (append-nil fs) (omega arith)
 count-cut fs (m ∷ ms) (opens z) =
-    after-append opened 0 fs (m ∷ ms)
-    ∙ ap (λ (j : ℕ). after opened j ms) (opened-new (after opened 0 fs) m z)
-    ∙ after-shift (after opened 0 fs) 1 ms (omega arith)
-    ∙ ap (λ (j : ℕ). after opened 0 fs + after opened j ms) (sym (opened-new 0 m z))
+    rw (after-append opened 0 fs (m ∷ ms), opened-new (after opened 0 fs) m z, opened-new 0 m z) (after-shift (after opened 0 fs) 1 ms (omega arith))
 
 -- the back's numbers go on where the front's end
 pub numbers-cut : (fs bs : List ℕ) → Opening bs → groupNumbers (fs ++ bs) ≡ groupNumbers fs ++ map (λ (j : ℕ). groupCount fs + j) (groupNumbers bs)
 unfolding groupNumbers groupCount scan
-numbers-cut fs [] o = rw (append-nil fs, append-nil (scan opened numberAt 0 fs))
+numbers-cut fs [] o = rw (append-nil fs, append-nil (scan opened numberByMark 0 fs))
 numbers-cut fs (m ∷ ms) (opens z) =
     let c : ℕ = after opened 0 fs in
-    scan-append opened numberAt 0 fs (m ∷ ms)
-    ∙ ap (λ (l : List ℕ). scan opened numberAt 0 fs ++ l)
-    (ap (λ (k : ℕ). (k - 1) ∷ scan opened numberAt k ms) (opened-new c m z)
-    ∙ (λ i. head c i ∷ numbers-shift c 1 ms (omega arith) i)
-    ∙ ap (λ (k : ℕ). (c + (k - 1)) ∷ map (λ (j : ℕ). c + j) (scan opened numberAt k ms)) (sym (opened-new 0 m z)))
+    scan-append opened numberByMark 0 fs (m ∷ ms)
+    ∙ ap (λ (l : List ℕ). scan opened numberByMark 0 fs ++ l)
+    (ap (λ (k : ℕ). (k - 1) ∷ scan opened numberByMark k ms) (opened-new c m z)
+    ∙ (λ i. head c i ∷ numbers-moved c 1 ms (omega arith) i)
+    ∙ ap (λ (k : ℕ). (c + (k - 1)) ∷ map (λ (j : ℕ). c + j) (scan opened numberByMark k ms)) (sym (opened-new 0 m z)))
   where
     head : (c : ℕ) → c + 1 - 1 ≡ c + (1 - 1)
     head c = omega arith
@@ -150,4 +145,4 @@ unfolding groupPlaces scan
 places-cut fs [] o = rw (append-nil fs, append-nil (scan (λ p m. placeByMark p m + 1) placeByMark 0 fs))
 places-cut fs (m ∷ ms) (opens z) =
     scan-append (λ p m. placeByMark p m + 1) placeByMark 0 fs (m ∷ ms)
-    ∙ ap (λ (l : List ℕ). scan (λ p m. placeByMark p m + 1) placeByMark 0 fs ++ l) (rw (ne-eqb m 0 z))
+    ∙ rw (ne-eqb m 0 z)

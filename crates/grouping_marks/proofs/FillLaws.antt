@@ -58,7 +58,7 @@ module _ {A : Type 0} where
 
   -- what is not written yet is as it was
   pub fill-unread : {g : List A} {n to : ℕ} {w₀ w : List A} {i : ℕ} (j : ℕ) (d : A) → Fill g n to w₀ w i → (j < to) ⊎ (to + i ≤ j) → getD w j d ≡ getD w₀ j d
-  fill-unread {g} {n} {to} {w₀} {w} {i} j d x h = ap (λ (l : List A). getD l j d) (x .written) ∙ unread to g w₀ i j d (omega arith) (omega arith) h
+  fill-unread {g} {n} {to} {w₀} {w} {i} j d x h = rw (x .written) (unread to g w₀ i j d (omega arith) (omega arith) h)
 
   -- a loop that has stored j elements and reads element i of m places of the same slice, as `Room` allows
   pub fill-read : {g : List A} {n to : ℕ} {w₀ w : List A} {j : ℕ} (from m i : ℕ) (d : A) → Fill g n to w₀ w j → (from + m ≤ to) ⊎ (to ≤ from) → j ≤ i → i < m
@@ -84,7 +84,7 @@ module _ {B : Type 0} (f : ℕ → B) where
   pub length-tabulate : (n : ℕ) → length (tabulate f n) ≡ n
   unfolding tabulate
   length-tabulate zero = refl
-  length-tabulate (suc n) = length-append (tabulate f n) (f n ∷ []) ∙ ap (λ (k : ℕ). k + 1) (length-tabulate n) ∙ add-one n
+  length-tabulate (suc n) = rw (length-append (tabulate f n) (f n ∷ []), length-tabulate n) (add-one n)
 
   pub getD-tabulate : (n i : ℕ) (d : B) → i < n → getD (tabulate f n) i d ≡ f i
   unfolding tabulate

@@ -9,12 +9,13 @@ use lib.Dec.{eqb}
 use lib.ListN.{length, getD}
 use borrow.Author.Tests.{eqb-true, eqb-false}
 use Rattle.grouping_marks.specs.Scan.{scan, after}
-use Rattle.grouping_marks.specs.Marks.{opened, placeByMark, groupCount, groupNumbers, groupPlaces, sizesFrom, groupSizes, firstsFrom, groupFirsts}
+use Rattle.grouping_marks.specs.Marks.{opened, numberByMark, placeByMark, groupCount, groupNumbers, groupPlaces}
+use Rattle.grouping_marks.specs.Marks.{sizesFrom, groupSizes, firstsFrom, groupFirsts}
 use Rattle.grouping_marks.proofs.ScanLaws.{length-scan}
 
 pub length-numbers : (marks : List ℕ) → length (groupNumbers marks) ≡ length marks
 unfolding groupNumbers
-length-numbers marks = length-scan opened (λ c m. opened c m - 1) 0 marks
+length-numbers marks = length-scan opened numberByMark 0 marks
 
 pub numbers-of-none : groupNumbers [] ≡ []
 unfolding groupNumbers scan
@@ -75,7 +76,7 @@ count-le marks = omega (arith, after-bounds 0 marks)
 pub count-none : (marks : List ℕ) → length marks ≡ 0 → groupCount marks ≡ 0
 count-none marks h = omega (arith, count-le marks)
 
-number-below : (c : ℕ) (marks : List ℕ) (i : ℕ) → i < length marks → getD (scan opened (λ c m. opened c m - 1) c marks) i 0 < after opened c marks
+number-below : (c : ℕ) (marks : List ℕ) (i : ℕ) → i < length marks → getD (scan opened numberByMark c marks) i 0 < after opened c marks
 unfolding scan after
 number-below c [] i h = absurd (not-suc-le-zero h)
 number-below c (m ∷ ms) zero h = omega (arith, opened-bounds c m, after-bounds (opened c m) ms)

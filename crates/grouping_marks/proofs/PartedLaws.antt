@@ -49,10 +49,10 @@ after-open group (m ∷ ms) (x ∷ xs) o = rw (o, partedAfter)
 after-zeros : {A : Type 0} (group : List A) (k : ℕ) (marks : List ℕ) (xs : List A) → k ≤ length xs → getD marks 0 1 ≡ 1
     → partedAfter group (replicate k 0 ++ marks) xs ≡ (group ++ take k xs) ∷ parted marks (drop k xs)
 unfolding partedAfter
-after-zeros group zero marks xs h o = after-open group marks xs o ∙ ap (λ (g : List _). g ∷ parted marks xs) (sym (append-nil group))
+after-zeros group zero marks xs h o = rw (append-nil group) (after-open group marks xs o)
 after-zeros group (suc k) marks [] h o = absurd (not-suc-le-zero h)
 after-zeros group (suc k) marks (x ∷ xs) h o =
-    after-zeros (group ++ (x ∷ [])) k marks xs (le-of-suc-le-suc h) o ∙ ap (λ (g : List _). g ∷ parted marks (drop k xs)) (append-snoc group x (take k xs))
+    rw (after-zeros (group ++ (x ∷ [])) k marks xs (le-of-suc-le-suc h) o, append-snoc group x (take k xs))
 
 -- a mark and k zeros are a group of suc k items, if the next mark is 1 or there is none
 pub parted-first : {A : Type 0} (m k : ℕ) (marks : List ℕ) (x : A) (xs : List A) → k ≤ length xs → getD marks 0 1 ≡ 1
@@ -69,12 +69,12 @@ parted-none xs = refl
 pub count-first : (m k : ℕ) (marks : List ℕ) → getD marks 0 1 ≡ 1 → groupCount (m ∷ (replicate k 0 ++ marks)) ≡ 1 + groupCount marks
 count-first m k marks o =
     let rest : List ℕ = replicate k 0 ++ marks in
-    let l : length rest ≡ k + length marks = length-append (replicate k 0) marks ∙ ap (λ (n : ℕ). n + length marks) (length-replicate k 0) in
+    let l : length rest ≡ k + length marks = rw (length-append (replicate k 0) marks, length-replicate {A = ℕ} k 0) in
     let d : drop k rest ≡ marks = drop-at (replicate k 0) marks k (length-replicate k 0) in
     let whole : length (parted (m ∷ rest) (m ∷ rest)) ≡ groupCount (m ∷ rest) = length-parted (m ∷ rest) (m ∷ rest) (le-refl _) in
     let first : length (parted (m ∷ rest) (m ∷ rest)) ≡ suc (length (parted marks (drop k rest))) = ap length (parted-first m k marks m rest (omega arith) o) in
     let others : length (parted marks (drop k rest)) ≡ groupCount marks =
-    ap (λ (l : List ℕ). length (parted marks l)) d ∙ length-parted marks marks (le-refl _) in
+    rw d (length-parted marks marks (le-refl _)) in
     omega arith
 
 -- ---- what holds of all items
@@ -161,7 +161,7 @@ heads-after x group (m ∷ ms) (y ∷ ys) = by (heads-after x (group ++ (y ∷ [
         → (b : Bool) → eqb m 0 ≡ b
         → heads (partedAfter (x ∷ group) (m ∷ ms) (y ∷ ys)) ≡ x ∷ firstsFrom (m ∷ ms) (y ∷ ys)
     by p q true e = rw e p
-    by p q false e = rw e (ap (λ (l : List ℕ). x ∷ l) q)
+    by p q false e = rw (e, q)
 
 pub firsts-heads : (marks xs : List ℕ) → groupFirsts marks xs ≡ heads (parted marks xs)
 unfolding parted groupFirsts

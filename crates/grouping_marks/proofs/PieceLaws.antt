@@ -11,7 +11,7 @@ module _ {A : Type 0} where
   -- what was written, and what stood behind it
   pub over-pieces : (new old : List A) (n : ℕ) → length new ≡ n → new ++ drop n old ≡ over new old
   unfolding over
-  over-pieces new old n e = ap (λ (k : ℕ). new ++ drop k old) (sym e)
+  over-pieces new old n e = rw e
 
   -- what was written is read back
   pub getD-over : (new old : List A) (i : ℕ) (d : A) → i < length new → getD (over new old) i d ≡ getD new i d
@@ -25,8 +25,7 @@ module _ {A : Type 0} where
   put-back a k new w region l e =
       let none : drop (length new) (take k (drop a w)) ≡ [] =
       drop-of-length-le (take k (drop a w)) {i = length new} (omega (arith, length-take k (drop a w))) in
-      ap (λ (r : List A). take a w ++ (r ++ drop k (drop a w))) (e ∙ ap (λ (r : List A). new ++ r) none ∙ append-nil new)
-      ∙ ap (λ (n : ℕ). take a w ++ (new ++ drop n (drop a w))) (sym l)
+      rw (e, none, append-nil new, l)
 
   pub part-pieces : (a n : ℕ) (w : List A) → take n (drop a w) ≡ part a n w
   unfolding part

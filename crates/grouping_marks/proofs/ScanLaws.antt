@@ -26,7 +26,7 @@ module _ {S A B : Type 0} (next : S → A → S) (emit : S → A → B) where
   pub scan-append : (s : S) (xs ys : List A) → scan next emit s (xs ++ ys) ≡ scan next emit s xs ++ scan next emit (after next s xs) ys
   unfolding scan after
   scan-append s [] ys = refl
-  scan-append s (x ∷ xs) ys = ap (λ (l : List B). emit s x ∷ l) (scan-append (next s x) xs ys)
+  scan-append s (x ∷ xs) ys = rw (scan-append (next s x) xs ys)
 
   -- the walk began in the state s₀; i elements are passed, and s is the present state
   pub record Walk (s₀ : S) (xs : List A) (m to : ℕ) (w₀ w : List B) (s : S) (i : ℕ) : Type 0 where

@@ -13,7 +13,7 @@ use Rattle.grouping_marks.proofs.FillLaws.{Fill, fill-start, fill-turn,
 
 -- place j of the slice is place i of the part
 pub read-at : (a m : ℕ) (w : List ℕ) (i j : ℕ) → i < m → j ≡ a + i → getD (part a m w) i 0 ≡ getD w j 0
-read-at a m w i j h e = getD-part a m w i 0 h ∙ ap (λ (k : ℕ). getD w k 0) (sym e)
+read-at a m w i j h e = rw e (getD-part a m w i 0 h)
 
 -- a part that lies apart from what is written
 pub fill-apart : {g : List ℕ} {n to : ℕ} {w₀ w : List ℕ} {i : ℕ} (from m : ℕ) → Fill g n to w₀ w i

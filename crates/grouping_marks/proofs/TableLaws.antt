@@ -32,7 +32,7 @@ pub tabulate-cut₂ : {A B : Type 0} (f e g : ℕ → B) (xs ys : List A) → ((
     → ((i : ℕ) → i < length ys → f (length xs + i) ≡ g i)
     → tabulate f (length (xs ++ ys)) ≡ tabulate e (length xs) ++ tabulate g (length ys)
 tabulate-cut₂ {B} f e g xs ys h k =
-    tabulate-cut f g xs ys k ∙ ap (λ (l : List B). l ++ tabulate g (length ys)) (tabulate-agree f e (length xs) h)
+    rw (tabulate-cut f g xs ys k, tabulate-agree f e (length xs) h)
 
 -- ---- past the cut
 
@@ -52,7 +52,7 @@ ltb-past front back i k = by (ltb (i + k) (length back)) refl
 pub gathered-append : (table idx idx′ : List ℕ) → gathered table (idx ++ idx′) ≡ gathered table idx ++ gathered table idx′
 unfolding gathered
 gathered-append table [] idx′ = refl
-gathered-append table (j ∷ idx) idx′ = ap (λ (l : List ℕ). getD table j 0 ∷ l) (gathered-append table idx idx′)
+gathered-append table (j ∷ idx) idx′ = rw (gathered-append table idx idx′)
 
 -- numbers moved on by the length of the table's front look up the table's back
 pub gathered-back : (front back idx : List ℕ) (n : ℕ) → length front ≡ n → gathered (front ++ back) (map (λ (j : ℕ). n + j) idx) ≡ gathered back idx

@@ -14,10 +14,13 @@ opened c m = cond (eqb m 0) (cond (eqb c 0) 1 c) (c + 1)
 unfoldable pub groupCount : List ℕ → ℕ
 groupCount marks = after opened 0 marks
 
--- each item's group: the groups count from 0
+-- an item's group, by its mark m, where c groups were opened before it: the groups count from 0
+abbrev pub numberByMark : ℕ → ℕ → ℕ
+numberByMark c m = opened c m - 1
+
+-- each item's group
 unfoldable pub groupNumbers : List ℕ → List ℕ
-unfolding opened
-groupNumbers marks = scan opened (λ c m. opened c m - 1) 0 marks
+groupNumbers marks = scan opened numberByMark 0 marks
 
 -- an item's place in its group, by its mark m, where p items of the open group went before
 unfoldable pub placeByMark : ℕ → ℕ → ℕ

@@ -7,9 +7,11 @@ use Rattle.grouping_preprocessor.proofs.find_hits.Tie as tie
 
 repetition-intervals-requires : tie.Need-repetition-intervals-requires
 repetition-intervals-requires c κs =
-    let first = c .before .before .before .before .before .before .before in
+    let second = c .before .before .before in
+    let first = second .before .before .before .before in
     let sized = first .before .before .before .before in
-    let start = sized .before .before .before .before .before .before .before in
+    let marked = sized .before .before .before .before in
+    let start = marked .before .before .before in
     let few = groups-few _ _ _ _ (sized .group-sizes .ensures .0) (omega arith) in (
       record {
         first = apart-before (omega arith) (omega arith);
@@ -21,10 +23,13 @@ repetition-intervals-requires c κs =
 
 group-places-requires : tie.Need-group-places-requires
 group-places-requires c κs =
-    let searched = c .before .before .before .before .before .before .before in
+    let numbered = c .before .before .before in
+    let searched = numbered .before .before .before .before in
     let second = searched .before .before .before .before in
-    let sized = second .before .before .before .before .before .before .before .before in
-    let r = sized .before .before .before .before .before .before .before .pre in
+    let first = second .before .before .before .before in
+    let sized = first .before .before .before .before in
+    let marked = sized .before .before .before .before in
+    let r = marked .before .before .before .pre in
     room-behind (omega (arith, r)) (omega (arith, r)) (omega (arith, r))
 
 returns : tie.Need-returns
