@@ -1,4 +1,4 @@
-// The four numbers of document 01 that the calls on a chart pass on.
+// The four numbers that the calls on a chart pass on.
 ghost use mathlib.Core.Path.{_≡_};
 ghost use Rattle.grouping_chart.specs.Settings.{baseSettings};
 

@@ -30,14 +30,14 @@ withScratch m scratch =
 -- ---- each case leaves its outcome
 
 module _ (s : Settings) (c : Chart) (m : Memory) where
-  pub done-outcome : (count : ℕ) (new : Memory) → judged c m ≡ Accepted → count ≡ hitCount (c .kinds) → new ≡ filled s (c .kinds) m
+  pub done-outcome : (count : ℕ) (new : Memory) → judged c m ≡ Accepted → count ≡ hitCount (c .kinds) → new ≡ filled s c m
       → outcome (answer.Done count) new ≡ encodeOutcome s c m
   unfolding encodeOutcome
   done-outcome count new h e f = answered-done _ answer.Refused m h (λ t. outcome (answer.Done (e t)) (f t))
 
   -- the memory that the passes leave is the definition's
   pub filled-is : {count : ℕ} {new : Memory} {scratch : List Float} → Encoded (s .limit) (c .kinds) count (withoutScratch m) new
-      → scratch ≡ over (replicate (size c) (ofBits binary64 0)) (m .scratch) → withScratch new scratch ≡ filled s (c .kinds) m
+      → scratch ≡ over (replicate (size c) (ofBits binary64 0)) (m .scratch) → withScratch new scratch ≡ filled s c m
   unfolding filled
   filled-is e f t = record {
     streak = e .streaks t;
@@ -72,8 +72,8 @@ module _ (s : Settings) (c : Chart) (m : Memory) where
 
 -- ---- what an accepted call writes, place by place
 module _ (s : Settings) (c : Chart) (lent : Memory) (accepted : judged c lent ≡ Accepted) where
-  left : encodeOutcome s c lent .memory ≡ filled s (c .kinds) lent
-  left = sym (ap (λ (o : Outcome _ Memory). o .memory) (done-outcome s c lent _ (filled s (c .kinds) lent) accepted refl refl))
+  left : encodeOutcome s c lent .memory ≡ filled s c lent
+  left = sym (ap (λ (o : Outcome _ Memory). o .memory) (done-outcome s c lent _ (filled s c lent) accepted refl refl))
 
   pub hit-written : (i : ℕ) → i < size c → getD (encodeOutcome s c lent .memory .hit) i 0 ≡ getD (hitOf (c .kinds)) i 0
   unfolding filled

@@ -66,18 +66,17 @@ judged c m = verdict c (beside (size c) (places m) (length (m .work)) (length (m
 
 -- the memory after an accepted call: the answers in the first n places, 0 and +0.0 in the first 8 n and n places of the
 -- work slices, old contents elsewhere
-unfoldable pub filled : Settings → List ℕ → Memory → Memory
-filled s kinds m = record {
-  streak = over (streakOf kinds) (m .streak);
-  streakPlace = over (streakPlaceOf kinds) (m .streakPlace);
-  pattern = over (alternatingOf kinds) (m .pattern);
-  patternPlace = over (patternPlaceOf kinds) (m .patternPlace);
-  hit = over (hitOf kinds) (m .hit);
-  interval = over (intervalOf (s .limit) kinds) (m .interval);
-  work = over (replicate (8 * length kinds) 0) (m .work);
-  scratch = over (replicate (length kinds) (ofBits binary64 0)) (m .scratch);
+unfoldable pub filled : Settings → Chart → Memory → Memory
+filled s c m = record {
+  streak = over (streakOf (c .kinds)) (m .streak);
+  streakPlace = over (streakPlaceOf (c .kinds)) (m .streakPlace);
+  pattern = over (alternatingOf (c .kinds)) (m .pattern);
+  patternPlace = over (patternPlaceOf (c .kinds)) (m .patternPlace);
+  hit = over (hitOf (c .kinds)) (m .hit);
+  interval = over (intervalOf (s .limit) (c .kinds)) (m .interval);
+  work = over (replicate (8 * size c) 0) (m .work);
+  scratch = over (replicate (size c) (ofBits binary64 0)) (m .scratch);
 }
 
 unfoldable pub encodeOutcome : Settings → Chart → Memory → Outcome Encoding Memory
-encodeOutcome s c m =
-    answered (judged c m) (outcome (Done (hitCount (c .kinds))) (filled s (c .kinds) m)) answer.Refused m
+encodeOutcome s c m = answered (judged c m) (outcome (Done (hitCount (c .kinds))) (filled s c m)) answer.Refused m

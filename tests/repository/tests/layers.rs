@@ -53,15 +53,30 @@ fn named_of_others(text: &str) -> BTreeMap<String, String> {
 /// The definitions of other crates that a file opens.
 fn opened(text: &str) -> Vec<String> {
     let others = named_of_others(text);
-    let lines = text
-        .lines()
-        .filter_map(|line| line.trim().strip_prefix("unfolding "));
-    let words = lines.flat_map(|line| line.split_whitespace());
     let of_another = |word: &&str| {
         let first = word.split('.').next().unwrap_or(word);
         others.contains_key(*word) || (word.contains('.') && others.contains_key(first))
     };
+    let words = unfolded(text).into_iter();
     words.filter(of_another).map(str::to_string).collect()
+}
+
+/// The words behind `unfolding`, also those on the lines below it that are indented further.
+fn unfolded(text: &str) -> Vec<&str> {
+    let indent = |line: &str| line.len() - line.trim_start().len();
+    let mut words = Vec::new();
+    let mut within = None;
+    for line in text.lines() {
+        if let Some(names) = line.trim().strip_prefix("unfolding ") {
+            within = Some(indent(line));
+            words.extend(names.split_whitespace());
+        } else if within.is_some_and(|start| indent(line) > start) {
+            words.extend(line.split_whitespace());
+        } else {
+            within = None;
+        }
+    }
+    words
 }
 
 fn is_computed(path: &Path) -> bool {
@@ -90,7 +105,7 @@ fn no_proof_opens_a_definition_of_another_crate() {
 #[test]
 fn an_opened_definition_is_seen() {
     let text = "use Rattle.numeric.specs.Near.{absOf, isNear}\nuse Rattle.numeric.specs.Tenths as tenths\n\
-                use Rattle.own.specs.Own.{mine}\n  unfolding mine isNear tenths.ceiling";
+                use Rattle.own.specs.Own.{mine}\n  unfolding mine isNear\n    tenths.ceiling\n  x = absOf";
     assert_eq!(opened(text), ["isNear", "tenths.ceiling"]);
 }
 
