@@ -67,8 +67,8 @@ module _ (s : Settings) (c : Chart) (m : Memory) where
         bytes = omega (arith, p .most);
       }
 
-  pub scratch-room : judged c m ≡ Accepted → size c ≤ length (m .scratch)
-  scratch-room h = accommodated c (places m) _ _ h .floats
+pub scratch-room : (c : Chart) (m : Memory) → judged c m ≡ Accepted → size c ≤ length (m .scratch)
+scratch-room c m h = accommodated c (places m) _ _ h .floats
 
 -- ---- what an accepted call writes, place by place
 module _ (s : Settings) (c : Chart) (lent : Memory) (accepted : judged c lent ≡ Accepted) where

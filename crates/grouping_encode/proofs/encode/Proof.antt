@@ -57,9 +57,8 @@ encode-kinds-requires c κs =
 
 clear-floats-requires : tie.Need-clear-floats-requires
 clear-floats-requires c κs =
-    let b = set (given c) in
-    let j = b .before .before .before in
-    scratch-room (b .base .result) (chartOf j) (memoryOf j) (accepted (b .before))
+    let t = set (given c) .before in
+    scratch-room (chartOf (t .before .before)) (memoryOf (t .before .before)) (accepted t)
 
 returns : tie.Need-returns
 unfolding encodeOutcome
