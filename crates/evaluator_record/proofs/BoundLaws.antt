@@ -1,5 +1,5 @@
--- Of an accepted record the penalty is finite and no NaN: the group's objects are the chart's, whose starts are at most 2 ^ 24 in size, so its duration is at most
--- 2 ^ 25 in size, and the window is at least 1.0.
+-- Of an accepted record the penalty is finite and no NaN: the group's objects are the chart's, whose starts are at most 2 ^ 24 in size, so its duration is
+-- at most 2 ^ 25 in size, and the window is at least 1.0.
 use mathlib.Core.Path.{_≡_, sym, ap, subst}
 use mathlib.Core.Bool.{true, false, not}
 use mathlib.Core.List.{List}
@@ -36,7 +36,8 @@ module _ (s : Settings) (c : Chart) (beside g : ℕ) (accepted : verdict c besid
   -- group g is one of the groups
   group-there : g < length (groupObjects (s .margin) (c .kinds) (c .deltas))
   group-there =
-      omega (arith, length-first-objects (s .margin) (c .kinds) (c .deltas) (good .lengths .delta), length-firsts (groupObjects (s .margin) (c .kinds) (c .deltas)))
+      let l = length-first-objects (s .margin) (c .kinds) (c .deltas) (good .lengths .delta) in
+      omega (arith, l, length-firsts (groupObjects (s .margin) (c .kinds) (c .deltas)))
 
   objects : List ℕ
   objects = objectsIn (s .margin) (c .kinds) (c .deltas) g

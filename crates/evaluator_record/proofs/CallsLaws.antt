@@ -20,9 +20,10 @@ use Rattle.grouping_chart.specs.declared.object.ObjectIndex.{ObjectIndex}
 use Rattle.grouping_chart.specs.declared.chart.Verdict.{Verdict}
 use Rattle.grouping_chart.specs.declared.chart.Verdict.the-variants.{Accepted, Refused}
 use Rattle.grouping_chart.proofs.AcceptedLaws.{accepted-good}
+use Rattle.grouping_chart.proofs.CallLaws.{call-room}
 use Rattle.grouping_chart.proofs.RangeLaws.{time-range}
 use Rattle.grouping_chart.proofs.LentLaws.{judged-is, answered-refused, answered-done}
-use Rattle.grouping_chart.proofs.RoomLaws.{roomy, none-asked}
+use Rattle.grouping_chart.proofs.RoomLaws.{none-asked}
 use Rattle.evaluator_record.specs.declared.GroupRecord.{GroupRecord}
 use Rattle.evaluator_record.specs.declared.Recording.the-variants.{Done}
 use Rattle.evaluator_record.specs.declared.Recording.the-variants as answer
@@ -49,10 +50,10 @@ module _ (s : Settings) (c : Chart) (m : Memory) where
   pub group-room : (g : ℕ) → judged c m ≡ Accepted → g < groupsOf s c
       → GroupRoom (s .margin) (c .kinds) (c .starts) (c .deltas) g (m .work) (m .scratch)
   group-room g h there =
-      let good = accepted-good c _ h in
-      let e = roomy _ (size c) _ _ (good .room) in
+      let r = call-room c [] _ _ h in
+      let good = r .good in
       record {
-        tables = record { few = good .few; started = good .lengths .start; whole = good .lengths .delta; regions = e .regions; floats = e .floats };
+        tables = record { few = good .few; started = good .lengths .start; whole = good .lengths .delta; regions = r .regions; floats = r .floats };
         numbers = λ i k. finite-time (getD (c .deltas) i nan) (good .objects i nan (omega (arith, good .lengths .delta)) .delta);
         there = there;
       }

@@ -1,5 +1,5 @@
--- All of a group, over the promises of the passes that find it: the intervals are made from the first objects that lie in region 1 and cover the front of the scratch
--- slice; then both slices are cleared, and what is past the regions is as it was.
+-- All of a group, over the promises of the passes that find it: the intervals are made from the first objects that lie in region 1 and cover the front of
+-- the scratch slice; then both slices are cleared, and what is past the regions is as it was.
 use mathlib.Core.Path.{_≡_, sym, ap, _∙_}
 use mathlib.Core.List.{List, [], _∷_}
 use Prim.Native.Nat.{ℕ, _+_, _-_, _*_, _≤_, _<_}
@@ -29,8 +29,8 @@ use Rattle.evaluator_record.specs.declared.found.LocatedGroup.{LocatedGr
 use Rattle.evaluator_record.specs.declared.found.FoundGroup.{FoundGroup}
 
 -- ---- the notes are located: what `locate` asks and promises, and the length of the slice, which it can't change
-pub record Placed (margin : Float) (kinds : List ℕ) (starts deltas : List Float) (g : ℕ) (work₀ work : List ℕ) (scratch₀ scratch : List Float) (r : LocatedGroup)
-    : Type 0 where
+pub record LocatedIs (margin : Float) (kinds : List ℕ) (starts deltas : List Float) (g : ℕ) (work₀ work : List ℕ) (scratch₀ scratch : List Float)
+    (r : LocatedGroup) : Type 0 where
   pub room : GroupRoom margin kinds starts deltas g work₀ scratch₀
   pub at : r ≡ locatedAt margin kinds starts deltas g
   pub noted : work ≡ written (notesWrites margin kinds deltas) work₀
@@ -39,7 +39,7 @@ pub record Placed (margin : Float) (kinds : List ℕ) (starts deltas : List Floa
   pub same : length scratch ≡ length scratch₀
 
 module _ {margin : Float} {kinds : List ℕ} {starts deltas : List Float} {g : ℕ} {work₀ work : List ℕ} {scratch₀ scratch₁ : List Float} {r : LocatedGroup}
-    (x : Placed margin kinds starts deltas g work₀ work scratch₀ scratch₁ r) where
+    (x : LocatedIs margin kinds starts deltas g work₀ work scratch₀ scratch₁ r) where
   tables : TablesRoom kinds starts deltas work₀ scratch₀
   tables = x .room .tables
 
@@ -72,7 +72,8 @@ module _ {margin : Float} {kinds : List ℕ} {starts deltas : List Float} {g : �
 
   -- ---- and the groups' intervals are filled
   module _ {scratch : List Float}
-      (filled : scratch ≡ over (intervalsOf margin (startsOf starts (take (length kinds + r .groups - length kinds) (drop (length kinds) work)))) scratch₁) where
+      (filled : scratch
+      ≡ over (intervalsOf margin (startsOf starts (take (length kinds + r .groups - length kinds) (drop (length kinds) work)))) scratch₁) where
     abbrev intervals : List Float
     intervals = groupIntervals margin kinds starts deltas
 
@@ -96,12 +97,20 @@ module _ {margin : Float} {kinds : List ℕ} {starts deltas : List Float} {g : �
     intervals-counted = sym long ∙ ap length (sym intervals-front)
 
     pub found : (p : Pattern) → p ≡ patternOf margin (take (r .groups) scratch) g
-        → _≡_ {A = FoundGroup} (record { first = r .first; notes = r .notes; owns = r .owns; duration = r .duration; interval = getD scratch g nan; pattern = p })
+        → _≡_ {A = FoundGroup}
+        (record { first = r .first; notes = r .notes; owns = r .owns; duration = r .duration; interval = getD scratch g nan; pattern = p })
         (foundAt margin kinds starts deltas g)
     found p e =
         let interval = sym (getD-take (r .groups) scratch g nan group-below) ∙ ap (λ (l : List Float). getD l g nan) intervals-front in
         let pattern = e ∙ ap (λ (l : List Float). patternOf margin l g) intervals-front in
-        λ t. record { first = x .at t .first; notes = x .at t .notes; owns = x .at t .owns; duration = x .at t .duration; interval = interval t; pattern = pattern t }
+        λ t. record {
+          first = x .at t .first;
+          notes = x .at t .notes;
+          owns = x .at t .owns;
+          duration = x .at t .duration;
+          interval = interval t;
+          pattern = pattern t;
+        }
 
     pub scratch-found : scratch ≡ written (findWrites margin kinds starts deltas g) scratch₀
     unfolding findWrites
@@ -115,7 +124,8 @@ module _ {margin : Float} {kinds : List ℕ} {starts deltas : List Float} {g : �
     past-found = ap (drop (length kinds)) filled-is ∙ drop-over intervals scratch₁ (length kinds) (omega (arith, long, few)) ∙ x .past
 
 -- ---- the group is found, and scored
-pub recorded : (s : Settings) (kinds : List ℕ) (starts deltas : List Float) (g : ℕ) (window : Float) {f : FoundGroup} {ratio ratio′ penalty patternratio : Float}
+pub recorded : (s : Settings) (kinds : List ℕ) (starts deltas : List Float) (g : ℕ) (window : Float) {f : FoundGroup}
+    {ratio ratio′ penalty patternratio : Float}
     → f ≡ foundAt (s .margin) kinds starts deltas g
     → ratio ≡ ratioOf (f .owns .newest) (f .owns .second)
     → ratio′ ≡ ratio

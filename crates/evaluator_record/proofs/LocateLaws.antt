@@ -1,5 +1,5 @@
--- A group's notes, over the promises of the passes that locate them: the notes' deltas lie in front of the scratch slice, their objects in front of the work slice, so
--- what is read at the group's ends is what the definition has there.
+-- A group's notes, over the promises of the passes that locate them: the notes' deltas lie in front of the scratch slice, their objects in front of the
+-- work slice, so what is read at the group's ends is what the definition has there.
 use mathlib.Core.Path.{_≡_, sym, ap, _∙_}
 use mathlib.Core.List.{List, [], _++_}
 use Prim.Native.Nat.{ℕ, suc, _+_, _-_, _≤_, _<_}

@@ -44,8 +44,8 @@ foundAt margin kinds starts deltas g = record {
   pattern = patternOf margin (groupIntervals margin kinds starts deltas) g;
 }
 
--- what is written of the scratch slice: the notes' deltas, then these as they stand when those of the groups up to g are
--- in order,
+-- what is written of the scratch slice: the notes' deltas, then these as they stand when those of the groups up to g
+-- are in order,
 unfoldable pub locateWrites : Float → List ℕ → List Float → ℕ → List (Write Float)
 locateWrites margin kinds deltas g =
     write 0 (noteDeltas kinds deltas) ∷ write 0 (settledUpTo (suc g) (groupDeltas margin kinds deltas)) ∷ []

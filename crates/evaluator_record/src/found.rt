@@ -24,8 +24,8 @@ pub struct LocatedGroup {
     pub groups: usize,
 }
 
-// The group's first object, how many notes it has, the own intervals there, its last start minus its first, its interval
-// and its pattern.
+// The group's first object, how many notes it has, the own intervals there, its last start minus its first, its
+// interval and its pattern.
 pub struct FoundGroup {
     pub first: ObjectIndex,
     pub notes: usize,
@@ -84,7 +84,8 @@ pub fn find(
     requires { ⌜ GroupRoom margin (now kind) (now start) (now delta) g (now work) (now scratch) ⌝ }
     ensures { λ r. ⌜ r ≡ foundAt margin (lent kind) (lent start) (lent delta) g ⌝ }
     ensures { λ r. ⌜ left work ≡ written (notesWrites margin (lent kind) (lent delta)) (lent work) ⌝ }
-    ensures { λ r. ⌜ left scratch ≡ written (findWrites margin (lent kind) (lent start) (lent delta) g) (lent scratch) ⌝ }
+    ensures { λ r. ⌜ left scratch
+        ≡ written (findWrites margin (lent kind) (lent start) (lent delta) g) (lent scratch) ⌝ }
     ensures { λ r. ⌜ drop (length (lent kind)) (left scratch) ≡ drop (length (lent kind)) (lent scratch) ⌝ }
 {
     let n = kind.len();

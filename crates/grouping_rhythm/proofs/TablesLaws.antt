@@ -1,5 +1,5 @@
--- The three passes over a chart's notes and groups, one after the other: each leaves the regions of those before it, so that at the end each note's group and each
--- group's pattern are there.
+-- The three passes over a chart's notes and groups, one after the other: each leaves the regions of those before it, so that at the end each note's group
+-- and each group's pattern are there.
 use mathlib.Core.Path.{_≡_, refl, sym, ap, _∙_}
 use mathlib.Core.List.{List, [], _∷_}
 use Prim.Native.Nat.{ℕ, _*_, _≤_, _<_}
@@ -53,7 +53,8 @@ module _ (margin : Float) (kinds : List ℕ) (deltas : List Float) (e : length d
       ∙ length-firsts (parted (rhythmMarks margin kinds deltas) (noteObjects kinds))
       ∙ length-parted (rhythmMarks margin kinds deltas) (noteObjects kinds) (omega (arith, length-rhythm-marks, length-note-objects kinds))
 
-  pub first-object-below : (k : ℕ) → k < length (firstsOf (groupObjects margin kinds deltas)) → getD (firstsOf (groupObjects margin kinds deltas)) k 0 < length kinds
+  pub first-object-below : (k : ℕ) → k < length (firstsOf (groupObjects margin kinds deltas))
+      → getD (firstsOf (groupObjects margin kinds deltas)) k 0 < length kinds
   first-object-below =
       rw (groupObjects-made margin kinds deltas)
       (firsts-inside (length kinds) (rhythmMarks margin kinds deltas) (noteObjects kinds) (object-below kinds))
@@ -120,7 +121,10 @@ module _ {kinds : List ℕ} {starts deltas : List Float} {work₀ : List ℕ} {s
             ∙ take-put m n firsts work₁ (omega arith) (omega arith)
             ∙ ap (take m) (put-front (noteObjects kinds) work₀)
             ∙ front (noteObjects kinds) work₀ m lo;
-        firsts = ap (part n groups) w ∙ part-put-before n groups (2 * n) numbers work₂ (omega arith) (omega arith) ∙ part-put-same n groups firsts work₁ lf (omega arith);
+        firsts =
+            ap (part n groups) w
+            ∙ part-put-before n groups (2 * n) numbers work₂ (omega arith) (omega arith)
+            ∙ part-put-same n groups firsts work₁ lf (omega arith);
         note-groups = ap (part (2 * n) m) w ∙ part-put-same (2 * n) m numbers work₂ ln (omega arith);
         regions = ap length w ∙ length-written (8 * n) (notesWrites margin kinds deltas) inside work₀ room;
         past = ap (drop (8 * n)) w ∙ drop-written (8 * n) (notesWrites margin kinds deltas) inside work₀;
@@ -229,13 +233,14 @@ module _ {kinds : List ℕ} {starts deltas : List Float} {work₀ : List ℕ} {s
       regions = omega (arith, notes-left r (a .memory) .regions, r .regions);
       floats = omega (arith, a .floats, r .floats);
       inside = λ k h.
-          rw firsts-are
-          (omega (arith, first-object-below margin kinds deltas (r .whole) k (omega (arith, length-first-objects margin kinds deltas (r .whole), a .grouped)), r .started));
+          let l = length-first-objects margin kinds deltas (r .whole) in
+          rw firsts-are (omega (arith, first-object-below margin kinds deltas (r .whole) k (omega (arith, l, a .grouped)), r .started));
     }
 
     -- by the intervals that start at the firsts
     module _ {work : List ℕ} {scratch : List Float} {patterns : ℕ}
-        (b : GroupsNumbered margin (intervalsOf margin (startsOf starts (part (length kinds) groups work₁))) (length kinds) work₁ work scratch₁ scratch patterns) where
+        (b : GroupsNumbered margin (intervalsOf margin (startsOf starts (part (length kinds) groups work₁))) (length kinds)
+        work₁ work scratch₁ scratch patterns) where
       intervals-are : intervalsOf margin (startsOf starts (part (length kinds) groups work₁)) ≡ groupIntervals margin kinds starts deltas
       intervals-are = ap (λ (xs : List ℕ). intervalsOf margin (startsOf starts xs)) firsts-are ∙ sym (groupIntervals-made margin kinds deltas starts)
 

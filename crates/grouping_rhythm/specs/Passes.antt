@@ -76,7 +76,7 @@ scratchWrites margin kinds starts deltas =
 -- ---- the answers
 
 -- room for the tables, and for n objects in each answer slice too
-pub record RhythmRoom (kinds : List ℕ) (starts deltas : List Float) (m : Memory) : Type 0 where
+pub record GroupsRoom (kinds : List ℕ) (starts deltas : List Float) (m : Memory) : Type 0 where
   pub tables : TablesRoom kinds starts deltas (m .work) (m .scratch)
   pub group-room : length kinds ≤ length (m .group)
   pub pattern-room : length kinds ≤ length (m .pattern)

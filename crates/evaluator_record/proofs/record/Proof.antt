@@ -58,12 +58,11 @@ counted c =
     c .count-groups .ensures ∙ sym (groups-counted _ _ _ (lengths-same baseSettings (chartOf (entered t)) (memoryOf (entered t)) (accepted t)))
 
 -- what is said under the settings that were made is said under the base's
-based : (c : tie.After-base) {o : Outcome Recording Memory}
-    → o ≡ recordOutcome (c .base .result) (chartOf (entered (told c))) (entered (told c) .args .g) (entered (told c) .args .window) (memoryOf (entered (told c)))
-    → o ≡ recordOutcome baseSettings (chartOf (entered (told c))) (entered (told c) .args .g) (entered (told c) .args .window) (memoryOf (entered (told c)))
-based c e =
-    let s = entered (told c) in
-    e ∙ ap (λ (set : Settings). recordOutcome set (chartOf s) (s .args .g) (s .args .window) (memoryOf s)) (c .base .ensures)
+abbrev outcomeOf : tie.Start → Settings → Outcome Recording Memory
+outcomeOf s set = recordOutcome set (chartOf s) (s .args .g) (s .args .window) (memoryOf s)
+
+based : (c : tie.After-base) {o : Outcome Recording Memory} → o ≡ outcomeOf (entered (told c)) (c .base .result) → o ≡ outcomeOf (entered (told c)) baseSettings
+based c e = e ∙ ap (outcomeOf (entered (told c))) (c .base .ensures)
 
 returns : tie.Need-returns
 returns c =
