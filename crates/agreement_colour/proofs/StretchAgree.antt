@@ -8,7 +8,7 @@ use lib.Ieee.{Float}
 use Rattle.grouping_color.specs.Preprocessor.{hitOf}
 use Rattle.evaluator_values.specs.Colour.{colourAt}
 use Rattle.evaluator_calls.specs.Stretch.{GoodStretch, meanOf, meanTenths}
-use Rattle.evaluator_calls.proofs.StretchCases.{Lies, good-lies, lies-good}
+use Rattle.evaluator_calls.proofs.StretchCases.{StretchLies, good-lies, lies-good}
 use Rattle.evaluator_calls.proofs.AlikeLaws.{mean-alike, tenths-alike}
 use Rattle.agreement.specs.CommonTail.{Counterparts, CommonTail}
 use Rattle.agreement.specs.Agreement.{Agree}
@@ -34,7 +34,7 @@ module _ {limit : ℕ} {kinds : List ℕ} {a g : ℕ} {kinds′ : List ℕ} {b h
     -- ---- the stretch from s to e, whose first object is of the M-th hit pattern or a later one
     module _ (s e s′ e′ : ℕ) (after : a ≤ s) (x : GoodStretch kinds s e) (from : Counterparts kinds kinds′ s s′) (to : Counterparts kinds kinds′ e e′)
         (settled : g + limit ≤ getD (hitOf kinds) s 0 + 1) where
-      lies : Lies kinds s e
+      lies : StretchLies kinds s e
       lies = good-lies kinds s e x
 
       pub stretch-agree : GoodStretch kinds′ s′ e′

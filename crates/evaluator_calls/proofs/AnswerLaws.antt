@@ -26,4 +26,5 @@ module _ (s : Settings) (c : Chart) (lent : Memory) (accepted : judged c lent �
 
   pub stretch-answered : (a b : ℕ) → GoodStretch (c .kinds) a b → stretchOutcome s c a b lent .answer ≡ Done (chartMean s c a b) (chartTenths s c a b)
   stretch-answered a b x =
-      sym (ap (λ (o : Outcome Stretching Memory). o .answer) (stretch-done s c lent a b _ _ (filled s (c .kinds) (c .ratios) lent) (stretch-accepted _ (c .kinds) a b accepted x) refl refl refl))
+      sym (ap (λ (o : Outcome Stretching Memory). o .answer)
+      (stretch-done s c lent a b _ _ (filled s (c .kinds) (c .ratios) lent) (stretch-accepted _ (c .kinds) a b accepted x) refl refl refl))

@@ -72,8 +72,9 @@ module _ (s : Settings) (c : Chart) (beside : ℕ) (accepted : verdict c beside 
   made-bounded i h =
       let l : i < b - a = omega (arith, length-made) in
       let k : a + i < size c = omega (arith, good-lies (c .kinds) a b x) in
-      subst (λ (x : Float). Bounded x largestColour)
-      (value-of (s .limit) (s .tolerance) (c .kinds) (c .ratios) (a + i) k ∙ sym (stretch-value (s .limit) (s .tolerance) (c .kinds) (c .ratios) a b x i l)) (value-bounded s c beside accepted (a + i) k)
+      let v = value-of (s .limit) (s .tolerance) (c .kinds) (c .ratios) (a + i) k in
+      let e = v ∙ sym (stretch-value (s .limit) (s .tolerance) (c .kinds) (c .ratios) a b x i l) in
+      subst (λ (x : Float). Bounded x largestColour) e (value-bounded s c beside accepted (a + i) k)
 
   pub mean-bounded : Bounded (chartMean s c a b) largestColour
   unfolding meanOf

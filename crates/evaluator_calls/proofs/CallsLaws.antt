@@ -15,9 +15,9 @@ use Rattle.grouping_chart.specs.Room.{shortRefusal}
 use Rattle.grouping_chart.specs.Lent.{outcome}
 use Rattle.grouping_chart.specs.declared.chart.Verdict.{Verdict}
 use Rattle.grouping_chart.specs.declared.chart.Verdict.the-variants.{Accepted, Refused}
-use Rattle.grouping_chart.proofs.AcceptedLaws.{accepted-good}
 use Rattle.grouping_chart.proofs.LentLaws.{judged-is, answered-done}
-use Rattle.grouping_chart.proofs.RoomLaws.{roomy, long-enough, short-last}
+use Rattle.grouping_chart.proofs.CallLaws.{call-room}
+use Rattle.grouping_chart.proofs.RoomLaws.{short-last}
 use Rattle.grouping_chart.specs.Settings.{Settings, Permitted}
 use Rattle.evaluator_calls.specs.declared.Colouring.the-variants as colouring
 use Rattle.evaluator_calls.specs.declared.Stretching.the-variants as stretching
@@ -26,7 +26,8 @@ use Rattle.evaluator_calls.specs.Calls.{Memory, judged, filled, colourOu
 use Rattle.evaluator_calls.specs.Passes.{ChartRoom}
 
 -- ---- the verdict on a stretch, by the number of what is refused of it
-pub stretch-refusal : (v : Verdict) (kinds : List ℕ) (a b n : ℕ) → v ≡ Accepted → n ≡ stretchRefusal kinds a b → cond (eqb n 0) Accepted (refused n) ≡ stretchVerdict v kinds a b
+pub stretch-refusal : (v : Verdict) (kinds : List ℕ) (a b n : ℕ) → v ≡ Accepted → n ≡ stretchRefusal kinds a b
+    → cond (eqb n 0) Accepted (refused n) ≡ stretchVerdict v kinds a b
 unfolding stretchVerdict
 stretch-refusal v kinds a b n e f = ap (λ (k : ℕ). cond (eqb k 0) Accepted (refused k)) f ∙ sym (ap (λ (x : Verdict). stretchVerdict x kinds a b) e)
 
@@ -50,16 +51,20 @@ within-bounds (Refused number at) kinds a b e = absurd (let z : _≡_ {A = ℕ} 
 -- ---- what the tests that were run say of the definition's verdict
 module _ (s : Settings) (c : Chart) (m : Memory) where
   -- the verdict on the chart, from what `short_refusal` and `check` answered
-  pub chart-judged : {b : ℕ} {v u : Verdict} → b ≡ shortRefusal (ltb (length (m .value)) (size c)) (size c) (length (m .work)) (length (m .scratch)) → v ≡ verdict c b → v ≡ u
-      → judged c m ≡ u
+  pub chart-judged : {b : ℕ} {v u : Verdict} → b ≡ shortRefusal (ltb (length (m .value)) (size c)) (size c) (length (m .work)) (length (m .scratch))
+      → v ≡ verdict c b → v ≡ u → judged c m ≡ u
   chart-judged e f g = judged-is c _ _ _ (short-last (size c) (length (m .value))) e f g
 
   pub chart-room : Permitted s → judged c m ≡ Accepted → ChartRoom s (c .kinds) (c .ratios) m
   chart-room p h =
-      let g = accepted-good c _ h in
-      let r = roomy _ (size c) _ _ (g .room) in
-      let v = long-enough (size c) _ _ (r .answered) in
-      record { permitted = p; ratio = g .lengths .ratio; values = v .0; regions = record { few = g .few; room = r .regions }; floats = r .floats }
+      let r = call-room c _ _ _ h in
+      record {
+        permitted = p;
+        ratio = r .good .lengths .ratio;
+        values = r .answered .0;
+        regions = record { few = r .good .few; room = r .regions };
+        floats = r .floats;
+      }
 
   pub colour-done : (new : Memory) → judged c m ≡ Accepted → new ≡ filled s (c .kinds) (c .ratios) m → outcome colouring.Done new ≡ colourOutcome s c m
   unfolding colourOutcome
@@ -67,11 +72,11 @@ module _ (s : Settings) (c : Chart) (m : Memory) where
 
   module _ (a b : ℕ) where
     -- the same, with what `stretch_verdict` answered
-    pub stretch-is : {n : ℕ} {u v w : Verdict} → n ≡ shortRefusal (ltb (length (m .value)) (size c)) (size c) (length (m .work)) (length (m .scratch)) → u ≡ verdict c n
-        → v ≡ stretchVerdict u (c .kinds) a b → v ≡ w → stretchVerdict (judged c m) (c .kinds) a b ≡ w
+    pub stretch-is : {n : ℕ} {u v w : Verdict} → n ≡ shortRefusal (ltb (length (m .value)) (size c)) (size c) (length (m .work)) (length (m .scratch))
+        → u ≡ verdict c n → v ≡ stretchVerdict u (c .kinds) a b → v ≡ w → stretchVerdict (judged c m) (c .kinds) a b ≡ w
     stretch-is e f g h = ap (λ (x : Verdict). stretchVerdict x (c .kinds) a b) (chart-judged e f refl) ∙ sym g ∙ h
 
-    pub stretch-done : (mean : Float) (tenths : ℤ) (new : Memory) → stretchVerdict (judged c m) (c .kinds) a b ≡ Accepted → mean ≡ chartMean s c a b → tenths ≡ chartTenths s c a b
-        → new ≡ filled s (c .kinds) (c .ratios) m → outcome (stretching.Done mean tenths) new ≡ stretchOutcome s c a b m
+    pub stretch-done : (mean : Float) (tenths : ℤ) (new : Memory) → stretchVerdict (judged c m) (c .kinds) a b ≡ Accepted → mean ≡ chartMean s c a b
+        → tenths ≡ chartTenths s c a b → new ≡ filled s (c .kinds) (c .ratios) m → outcome (stretching.Done mean tenths) new ≡ stretchOutcome s c a b m
     unfolding stretchOutcome
     stretch-done mean tenths new h e f g = answered-done _ stretching.Refused m h (λ t. outcome (stretching.Done (e t) (f t)) (g t))

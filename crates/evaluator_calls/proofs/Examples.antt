@@ -23,7 +23,8 @@ use Rattle.grouping_chart.specs.Refusal.{timeGood, ratioGood, objectRefusal, fi
 use Rattle.grouping_hits.specs.RepeatingHitPatterns.{coupledRun, hitSize, hitMarksAfter, hitMarks, secondAt, secondLengths, matches, nearestMatch, intervalAt, intervals}
 use Rattle.grouping_color.specs.MonoStreak.{continues, opensStreak, streakMarks, streakOf, streakLengths, streakTypes}
 use Rattle.grouping_color.specs.AlternatingMonoPattern.{opensPattern, patternMarks, coupledAt, coupled}
-use Rattle.grouping_color.specs.Preprocessor.{patternsOpen, firstLengths, streakCounts, patternTypes, coupledPatterns, hitsOpen, hitCount, hitSizes, hitFirsts, hitSeconds, hitIntervals, streakPlaceOf, alternatingOf, patternPlaceOf, hitOf, intervalOf}
+use Rattle.grouping_color.specs.Preprocessor.{patternsOpen, firstLengths, streakCounts, patternTypes, coupledPatterns, hitsOpen, hitCount, hitSizes}
+use Rattle.grouping_color.specs.Preprocessor.{hitFirsts, hitSeconds, hitIntervals, streakPlaceOf, alternatingOf, patternPlaceOf, hitOf, intervalOf}
 use Rattle.evaluator_color.specs.Color.{hitValue, altValue, monoValue, addIf, objectSum}
 use Rattle.evaluator_color.specs.RatioPenalty.{lowered, ratioPenalty}
 use Rattle.evaluator_values.specs.Colour.{isFirst, standingAt, colourAt, colourValues}
@@ -85,7 +86,12 @@ stretches =
       kinds = 0 ∷ [];
       a = 0;
       b = 1;
-      outcome = record { answer = stretching.Done (ofBits binary64 0x4013_ee42_c838_4268) (pos 49); value = 0x4013_ee42_c838_4268 ∷ []; work = replicate 8 0; scratch = 0 ∷ [] };
+      outcome = record {
+        answer = stretching.Done (ofBits binary64 0x4013_ee42_c838_4268) (pos 49);
+        value = 0x4013_ee42_c838_4268 ∷ [];
+        work = replicate 8 0;
+        scratch = 0 ∷ [];
+      };
     }
     -- d, b = n + 1, and a = b: refused, and all as lent
     ∷ record { kinds = 0 ∷ []; a = 0; b = 2; outcome = untouched }
@@ -93,10 +99,28 @@ stretches =
     ∷ []
   where
     untouched : Shown Stretching
-    untouched = record { answer = stretching.Refused 9 (record { 0 = 0 }); value = 0x7ff0_0000_0000_0000 ∷ []; work = replicate 8 7; scratch = 0x3ff0_0000_0000_0000 ∷ [] }
+    untouched = record {
+      answer = stretching.Refused 9 (record { 0 = 0 });
+      value = 0x7ff0_0000_0000_0000 ∷ [];
+      work = replicate 8 7;
+      scratch = 0x3ff0_0000_0000_0000 ∷ [];
+    }
+
+unfoldable pub coloured : Example → Shown Colouring
+coloured e = shown (colourOutcome baseSettings (chart (e .kinds)) (lent (length (e .kinds))))
+
+unfoldable pub stretched : StretchExample → Shown Stretching
+stretched e = shown (stretchOutcome baseSettings (chart (e .kinds)) (e .a) (e .b) (lent (length (e .kinds))))
 
 -- every one of the two lists comes out as it says
-pub examples-right : (map (λ (e : Example). shown (colourOutcome baseSettings (chart (e .kinds)) (lent (length (e .kinds))))) examples ≡ map (λ (e : Example). e .outcome) examples)
-    × (map (λ (e : StretchExample). shown (stretchOutcome baseSettings (chart (e .kinds)) (e .a) (e .b) (lent (length (e .kinds))))) stretches ≡ map (λ (e : StretchExample). e .outcome) stretches)
-unfolding examples stretches chart lent shown answered colourOutcome stretchOutcome stretchVerdict stretchRefusal meanTenths tenthsOf meanOf averageOf stretchValues sumFrom part ofInt anyShort shortRefusal verdict equallyLong firstRefused objectRefusal timeGood ratioGood within filled colourValues colourAt standingAt isFirst over tabulate scan after gathered opened groupCount groupNumbers placeByMark groupPlaces sizesFrom groupSizes firstsFrom groupFirsts isNote notes noteIdx noteBefore previousNote continues opensStreak streakMarks streakOf streakLengths streakTypes opensPattern patternMarks coupledAt coupled coupledRun hitSize hitMarksAfter hitMarks secondAt secondLengths matches nearestMatch intervalAt intervals patternsOpen firstLengths streakCounts patternTypes coupledPatterns hitsOpen hitCount hitSizes hitFirsts hitSeconds hitIntervals streakPlaceOf alternatingOf patternPlaceOf hitOf intervalOf objectSum hitValue altValue monoValue addIf ratioPenalty lowered eightTenths logisticAt tableBits isNear round add sub mul div le ofBits toBits
+pub examples-right : (map coloured examples ≡ map (λ (e : Example). e .outcome) examples)
+    × (map stretched stretches ≡ map (λ (e : StretchExample). e .outcome) stretches)
+unfolding examples stretches coloured stretched chart lent shown answered colourOutcome stretchOutcome stretchVerdict stretchRefusal meanTenths tenthsOf
+    meanOf averageOf stretchValues sumFrom part ofInt anyShort shortRefusal verdict equallyLong firstRefused objectRefusal timeGood ratioGood within filled
+    colourValues colourAt standingAt isFirst over tabulate scan after gathered opened groupCount groupNumbers placeByMark groupPlaces sizesFrom groupSizes
+    firstsFrom groupFirsts isNote notes noteIdx noteBefore previousNote continues opensStreak streakMarks streakOf streakLengths streakTypes opensPattern
+    patternMarks coupledAt coupled coupledRun hitSize hitMarksAfter hitMarks secondAt secondLengths matches nearestMatch intervalAt intervals patternsOpen firstLengths
+    streakCounts patternTypes coupledPatterns hitsOpen hitCount hitSizes hitFirsts hitSeconds hitIntervals streakPlaceOf alternatingOf patternPlaceOf hitOf
+    intervalOf objectSum hitValue altValue monoValue addIf ratioPenalty lowered eightTenths logisticAt tableBits isNear round add sub mul div le ofBits
+    toBits
 examples-right = (refl, refl)

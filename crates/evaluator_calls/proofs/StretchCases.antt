@@ -11,7 +11,7 @@ use Rattle.grouping_chart.proofs.RoomLaws.{either-false}
 use Rattle.evaluator_calls.specs.Stretch.{stretchRefusal, GoodStretch}
 
 -- a stretch has an object, and all of them are the chart's
-pub record Lies (kinds : List ℕ) (a b : ℕ) : Type 0 where
+pub record StretchLies (kinds : List ℕ) (a b : ℕ) : Type 0 where
   pub some : a < b
   pub inside : b ≤ length kinds
 
@@ -28,12 +28,12 @@ module _ (kinds : List ℕ) (a b : ℕ) where
   zero-of true e = absurd (omega arith)
   zero-of false e = refl
 
-  pub good-lies : GoodStretch kinds a b → Lies kinds a b
+  pub good-lies : GoodStretch kinds a b → StretchLies kinds a b
   unfolding stretchRefusal
   good-lies e =
       let t = either-false _ _ (zero-of (leb b a || ltb (length kinds) b) e) in
       record { some = leb-false _ _ (t .0); inside = ltb-false _ _ (t .1) }
 
-  pub lies-good : Lies kinds a b → GoodStretch kinds a b
+  pub lies-good : StretchLies kinds a b → GoodStretch kinds a b
   unfolding stretchRefusal
   lies-good x = rw (lt-leb b a (x .some), le-ltb (length kinds) b (x .inside))

@@ -18,7 +18,7 @@ use Rattle.evaluator_calls.specs.Stretch.{stretchValues, averageOf, mean
 use Rattle.evaluator_calls.specs.Calls.{Memory, judged, filled, chartMean}
 use Rattle.evaluator_calls.specs.Passes.{StretchRoom}
 use Rattle.evaluator_calls.proofs.CallsLaws.{Within, chart-room}
-use Rattle.evaluator_calls.proofs.StretchCases.{Lies, good-lies}
+use Rattle.evaluator_calls.proofs.StretchCases.{StretchLies, good-lies}
 use Rattle.evaluator_calls.proofs.BoundLaws.{mean-tenths}
 
 -- a part that lies in what was written
@@ -37,7 +37,7 @@ module _ (s : Settings) (p : Permitted s) (c : Chart) (m : Memory) (a b : ℕ) (
   long : length values ≡ size c
   long = length-values (s .limit) (s .tolerance) (c .kinds) (c .ratios)
 
-  lies : Lies (c .kinds) a b
+  lies : StretchLies (c .kinds) a b
   lies = good-lies (c .kinds) a b (w .stretch)
 
   room : length values ≤ length (m .value)

@@ -1,5 +1,5 @@
 -- The mean of a stretch, which has object a and not object b ("Stretch" of document 01): its colour values added from
--- left to right and divided by how many they are; the whole tenths of it, rounded down; and which stretches are refused.
+-- left to right and divided by how many they are; its whole tenths, rounded down; and which stretches are refused.
 use mathlib.Core.Path.{_≡_}
 use Prim.Native.Nat.{ℕ, _-_}
 use mathlib.Core.Bool.{_||_, cond}

@@ -1,7 +1,7 @@
 -- The outcomes of record, case by case, over plain lists: a refusal leaves all as lent, and an accepted call has room in both slices and finite deltas.
 use mathlib.Core.Path.{_≡_, refl, ap, _∙_}
 use mathlib.Core.Bool.{Bool, true, false, cond}
-use mathlib.Core.List.{List, []}
+use mathlib.Core.List.{[]}
 use Prim.Native.Nat.{ℕ, _≤_, _<_}
 use native.Mathlib.Omega.{arith}
 use borrow.Author.Tests.{lt-ltb, le-ltb}
@@ -20,15 +20,16 @@ use Rattle.grouping_chart.specs.declared.object.ObjectIndex.{ObjectIndex}
 use Rattle.grouping_chart.specs.declared.chart.Verdict.{Verdict}
 use Rattle.grouping_chart.specs.declared.chart.Verdict.the-variants.{Accepted, Refused}
 use Rattle.grouping_chart.proofs.AcceptedLaws.{accepted-good}
+use Rattle.grouping_chart.proofs.CallLaws.{call-room}
 use Rattle.grouping_chart.proofs.RangeLaws.{time-range}
 use Rattle.grouping_chart.proofs.LentLaws.{judged-is, answered-refused, answered-done}
-use Rattle.grouping_chart.proofs.RoomLaws.{roomy, none-asked}
-use Rattle.grouping_rhythm.specs.Rhythm.{groupsIn}
+use Rattle.grouping_chart.proofs.RoomLaws.{none-asked}
 use Rattle.evaluator_record.specs.declared.GroupRecord.{GroupRecord}
 use Rattle.evaluator_record.specs.declared.Recording.the-variants.{Done}
 use Rattle.evaluator_record.specs.declared.Recording.the-variants as answer
-use Rattle.evaluator_record.specs.Calls.{Memory, judged, windowGood, recordVerdict, cleared, recordOutcome}
-use Rattle.evaluator_record.specs.Passes.{GroupRoom, Recorded}
+use Rattle.evaluator_record.specs.Record.{recordAt}
+use Rattle.evaluator_record.specs.Calls.{Memory, judged, windowGood, recordVerdict, cleared, groupsOf, recordOutcome}
+use Rattle.evaluator_record.specs.Passes.{GroupRoom}
 
 -- ---- a time in range is finite
 finite-time : (x : Float) → T (timeGood x) → T (finite x)
@@ -36,14 +37,11 @@ finite-time x t =
     let b = time-range x t in
     finite-between earliest x latest tt tt (b .0) (b .1)
 
--- how many groups a chart has
-abbrev pub groupsOf : Settings → Chart → ℕ
-groupsOf s c = groupsIn (s .margin) (c .kinds) (c .deltas)
-
 -- ---- what the tests that were run say of the definition's verdict
 module _ (s : Settings) (c : Chart) (m : Memory) where
   -- from what `short_refusal` and `check` answered
-  pub chart-judged : {b : ℕ} {v u : Verdict} → b ≡ shortRefusal false (size c) (length (m .work)) (length (m .scratch)) → v ≡ verdict c b → v ≡ u → judged c m ≡ u
+  pub chart-judged : {b : ℕ} {v u : Verdict} → b ≡ shortRefusal false (size c) (length (m .work)) (length (m .scratch)) → v ≡ verdict c b → v ≡ u
+      → judged c m ≡ u
   chart-judged e f g = judged-is c [] _ _ (none-asked (size c)) e f g
 
   pub lengths-same : judged c m ≡ Accepted → length (c .deltas) ≡ length (c .kinds)
@@ -52,16 +50,12 @@ module _ (s : Settings) (c : Chart) (m : Memory) where
   pub group-room : (g : ℕ) → judged c m ≡ Accepted → g < groupsOf s c
       → GroupRoom (s .margin) (c .kinds) (c .starts) (c .deltas) g (m .work) (m .scratch)
   group-room g h there =
-      let good = accepted-good c _ h in
-      let e = roomy _ (size c) _ _ (good .room) in
+      let r = call-room c [] _ _ h in
+      let good = r .good in
       record {
-        few = good .few;
-        started = good .lengths .start;
-        whole = good .lengths .delta;
+        tables = record { few = good .few; started = good .lengths .start; whole = good .lengths .delta; regions = r .regions; floats = r .floats };
         numbers = λ i k. finite-time (getD (c .deltas) i nan) (good .objects i nan (omega (arith, good .lengths .delta)) .delta);
         there = there;
-        regions = e .regions;
-        floats = e .floats;
       }
 
   -- ---- each case leaves its outcome
@@ -79,7 +73,8 @@ module _ (s : Settings) (c : Chart) (m : Memory) where
 
     -- the chart is accepted, and the window and the group number are tested
     module _ (accepted : judged c m ≡ Accepted) where
-      tested : (a b : Bool) → windowGood window ≡ a → ltb g (groupsOf s c) ≡ b → recordVerdict (judged c m) window g (groupsOf s c) ≡ cond a (cond b Accepted (refused 9)) (refused 8)
+      tested : (a b : Bool) → windowGood window ≡ a → ltb g (groupsOf s c) ≡ b
+          → recordVerdict (judged c m) window g (groupsOf s c) ≡ cond a (cond b Accepted (refused 9)) (refused 8)
       unfolding recordVerdict
       tested a b p q =
           ap (λ (v : Verdict). recordVerdict v window g (groupsOf s c)) accepted ∙ (λ t. cond (p t) (cond (q t) Accepted (refused 9)) (refused 8))
@@ -91,9 +86,7 @@ module _ (s : Settings) (c : Chart) (m : Memory) where
           → outcome (answer.Refused 9 (record { 0 = 0 })) m ≡ recordOutcome s c g window m
       group-refused h k = refused-by 9 (record { 0 = 0 }) (tested true false h (le-ltb _ _ k))
 
-      pub record-done : windowGood window ≡ true → g < groupsOf s c → (r : GroupRecord) (work : List ℕ) (scratch : List Float)
-          → Recorded (s .margin) (s .threshold) (c .kinds) (c .starts) (c .deltas) g window (m .work) work (m .scratch) scratch r
-          → outcome (Done r) (record { work = work; scratch = scratch }) ≡ recordOutcome s c g window m
-      unfolding recordOutcome cleared
-      record-done h k r work scratch x =
-          answered-done _ answer.Refused m (tested true true h (lt-ltb _ _ k)) (λ t. outcome (Done (x .answer t)) (record { work = x .work-cleared t; scratch = x .scratch-cleared t }))
+      pub record-done : windowGood window ≡ true → g < groupsOf s c → (r : GroupRecord) (new : Memory)
+          → r ≡ recordAt s (c .kinds) (c .starts) (c .deltas) g window → new ≡ cleared (size c) m → outcome (Done r) new ≡ recordOutcome s c g window m
+      unfolding recordOutcome
+      record-done h k r new e f = answered-done _ answer.Refused m (tested true true h (lt-ltb _ _ k)) (λ t. outcome (Done (e t)) (f t))

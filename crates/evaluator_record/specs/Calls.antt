@@ -1,4 +1,5 @@
--- Document 01, "Calls and what they fill", record: what it answers, and what every lent slice holds afterwards. Refusals 8 and 9 are tested after 1 to 7.
+-- The call record ("Calls and what they fill" of document 01): what it answers, and what every lent slice holds
+-- afterwards. Refusals 8 and 9 are tested after 1 to 7.
 use Prim.Native.Nat.{ℕ, _*_}
 use mathlib.Core.Bool.{Bool, cond}
 use mathlib.Core.List.{List, []}
@@ -16,7 +17,7 @@ use Rattle.grouping_chart.specs.Settings.{Settings}
 use Rattle.grouping_chart.specs.declared.chart.Verdict.{Verdict}
 use Rattle.grouping_chart.specs.declared.chart.Verdict.the-variants.{Accepted, Refused}
 use Rattle.grouping_rhythm.specs.Rhythm.{groupsIn}
-use Rattle.evaluator_record.specs.Record.{recordOf}
+use Rattle.evaluator_record.specs.Record.{recordAt}
 use Rattle.evaluator_record.specs.declared.Recording.{Recording}
 use Rattle.evaluator_record.specs.declared.Recording.the-variants.{Done}
 use Rattle.evaluator_record.specs.declared.Recording.the-variants as answer
@@ -26,11 +27,15 @@ pub record Memory : Type 0 where
   pub work : List ℕ
   pub scratch : List Float
 
+abbrev pub memory : List ℕ → List Float → Memory
+memory work scratch = record { work = work; scratch = scratch }
+
+-- as lent, and as left
 abbrev pub before : Slice ℕ → Slice Float → Memory
-before work scratch = record { work = lent work; scratch = lent scratch }
+before work scratch = memory (lent work) (lent scratch)
 
 abbrev pub after : Slice ℕ → Slice Float → Memory
-after work scratch = record { work = left work; scratch = left scratch }
+after work scratch = memory (left work) (left scratch)
 
 -- the verdict on the chart; there are no answer slices
 abbrev pub judged : Chart → Memory → Verdict
@@ -40,9 +45,10 @@ judged c m = verdict c (beside (size c) [] (length (m .work)) (length (m .scratc
 unfoldable pub windowGood : Float → Bool
 windowGood window = within one64 thousand64 window
 
--- "8 window not from 1.0 to 1,000.0. 9 group number not below the group count."
+-- 8 for a window that is not good, then 9 for a number that no group has
 unfoldable pub recordVerdict : Verdict → Float → ℕ → ℕ → Verdict
-recordVerdict Accepted window g groups = cond (windowGood window) (cond (ltb g groups) Accepted (refused 9)) (refused 8)
+recordVerdict Accepted window g groups =
+    cond (windowGood window) (cond (ltb g groups) Accepted (refused 9)) (refused 8)
 recordVerdict (Refused number place) window g groups = Refused number place
 
 -- the memory after an accepted call
@@ -52,7 +58,12 @@ cleared n m = record {
   scratch = over (replicate n (ofBits binary64 0)) (m .scratch);
 }
 
+-- how many groups a chart has
+abbrev pub groupsOf : Settings → Chart → ℕ
+groupsOf s c = groupsIn (s .margin) (c .kinds) (c .deltas)
+
 unfoldable pub recordOutcome : Settings → Chart → ℕ → Float → Memory → Outcome Recording Memory
 recordOutcome s c g window m =
-    answered (recordVerdict (judged c m) window g (groupsIn (s .margin) (c .kinds) (c .deltas)))
-    (outcome (Done (recordOf (s .margin) (s .threshold) window (c .kinds) (c .starts) (c .deltas) g)) (cleared (size c) m)) answer.Refused m
+    answered (recordVerdict (judged c m) window g (groupsOf s c))
+    (outcome (Done (recordAt s (c .kinds) (c .starts) (c .deltas) g window)) (cleared (size c) m))
+    answer.Refused m

@@ -1,9 +1,10 @@
--- Document 01, record: "for one group number, a record by value with first note, note count, own interval, ratio, interval, penalty, pattern group, pattern ratio;
--- the first note is given by its object idx."
+-- The record of one rhythm group ("Calls and what they fill" of document 01): its first note, by the number of its
+-- object, how many notes it has, its own interval, ratio, interval, penalty, pattern group and pattern ratio.
 use Prim.Native.Nat.{ℕ, _-_}
 use mathlib.Core.List.{List, []}
 use lib.ListN.{length, getD}
 use lib.Ieee.{Float, nan, binary64, sub}
+use Rattle.grouping_chart.specs.Settings.{Settings}
 use Rattle.grouping_same_rhythm.specs.Own.{ownsOf, ratioOf}
 use Rattle.grouping_same_rhythm.specs.SameRhythm.{groupObjects, groupDeltas, groupIntervals}
 use Rattle.grouping_same_rhythm.specs.SamePatterns.{patternOf}
@@ -20,22 +21,24 @@ objectsIn margin kinds deltas g = getD (groupObjects margin kinds deltas) g []
 unfoldable pub ownsAt : Float → List ℕ → List Float → ℕ → Recent
 ownsAt margin kinds deltas g = recentOf (ownsOf margin (groupDeltas margin kinds deltas)) g
 
--- "duration being last start minus first"
+-- the last start minus the first
 unfoldable pub durationOf : List Float → List ℕ → Float
-durationOf starts objects = sub binary64 (getD starts (getD objects (length objects - 1) 0) nan) (getD starts (getD objects 0 0) nan)
+durationOf starts objects =
+    sub binary64 (getD starts (getD objects (length objects - 1) 0) nan) (getD starts (getD objects 0 0) nan)
 
-unfoldable pub recordOf : Float → Float → Float → List ℕ → List Float → List Float → ℕ → GroupRecord
-recordOf margin threshold window kinds starts deltas g =
-    let objects = objectsIn margin kinds deltas g in
-    let owns = ownsAt margin kinds deltas g in
-    let intervals = groupIntervals margin kinds starts deltas in
+-- the record of group g, for a window
+unfoldable pub recordAt : Settings → List ℕ → List Float → List Float → ℕ → Float → GroupRecord
+recordAt s kinds starts deltas g window =
+    let objects = objectsIn (s .margin) kinds deltas g in
+    let owns = ownsAt (s .margin) kinds deltas g in
+    let intervals = groupIntervals (s .margin) kinds starts deltas in
     record {
       first = record { 0 = getD objects 0 0 };
       notes = length objects;
       own = owns .newest;
       ratio = ratioOf (owns .newest) (owns .second);
       interval = getD intervals g nan;
-      penalty = repeatedIntervalPenalty threshold owns (length objects) (durationOf starts objects) window;
-      pattern = patternOf margin intervals g .number;
-      patternratio = patternOf margin intervals g .ratio;
+      penalty = repeatedIntervalPenalty (s .threshold) owns (length objects) (durationOf starts objects) window;
+      pattern = patternOf (s .margin) intervals g .number;
+      patternratio = patternOf (s .margin) intervals g .ratio;
     }

@@ -1,25 +1,33 @@
 // One rhythm group of a chart, found by passes through the work slices.
-ghost use Rattle.evaluator_record.specs.Passes.{GroupRoom, LocatedIs, FoundIs};
+ghost use mathlib.Core.Path.{_≡_};
+ghost use lib.ListN.{length, drop};
+ghost use Rattle.grouping_marks.specs.Over.{written};
+ghost use Rattle.grouping_chart.specs.Lent.{lent, left};
+ghost use Rattle.grouping_rhythm.specs.Passes.{notesWrites};
+ghost use Rattle.evaluator_record.specs.Passes.{GroupRoom, locatedAt, locateWrites, foundAt, findWrites};
+use grouping_chart::object::ObjectIndex;
 use grouping_interval::notes::list_notes;
+use grouping_rhythm::tables::number_notes;
 use grouping_same_rhythm::groups::fill_intervals;
-use grouping_same_rhythm::groups::list_firsts;
 use grouping_same_rhythm::owns::Recent;
 use grouping_same_rhythm::owns::reach;
 use grouping_same_rhythm::patterns::Pattern;
 use grouping_same_rhythm::patterns::pattern_at;
 
-// The notes of a group: its first object, how many they are, the own intervals there, its last start minus its first; and how many groups there are.
-pub struct Located {
-    pub first: usize,
+// The notes of a group: its first object, how many they are, the own intervals there, its last start minus its first;
+// and how many groups there are.
+pub struct LocatedGroup {
+    pub first: ObjectIndex,
     pub notes: usize,
     pub owns: Recent,
     pub duration: f64,
     pub groups: usize,
 }
 
-// The group's first object, how many notes it has, the own intervals there, its last start minus its first, its interval and its pattern.
-pub struct Found {
-    pub first: usize,
+// The group's first object, how many notes it has, the own intervals there, its last start minus its first, its
+// interval and its pattern.
+pub struct FoundGroup {
+    pub first: ObjectIndex,
     pub notes: usize,
     pub owns: Recent,
     pub duration: f64,
@@ -27,7 +35,7 @@ pub struct Found {
     pub pattern: Pattern,
 }
 
-// The notes of group g. Regions of the work slice: 0 the notes' objects, 1 the groups' first objects. The notes' deltas are in `scratch`.
+// The notes of group g. The work slice takes the regions of `number_notes`, and `scratch` the notes' deltas.
 fn locate(
     kind: &[u8],
     start: &[f64],
@@ -36,13 +44,16 @@ fn locate(
     g: usize,
     work: &mut [u16],
     scratch: &mut [f64],
-) -> Located
+) -> LocatedGroup
     requires { ⌜ GroupRoom margin (now kind) (now start) (now delta) g (now work) (now scratch) ⌝ }
-    ensures { λ r. ⌜ LocatedIs margin (now (kind .entry)) (now (start .entry)) (now (delta .entry)) g (now (work .entry)) (now (work .exit)) (now (scratch .entry)) (now (scratch .exit)) r ⌝ }
+    ensures { λ r. ⌜ r ≡ locatedAt margin (lent kind) (lent start) (lent delta) g ⌝ }
+    ensures { λ r. ⌜ left work ≡ written (notesWrites margin (lent kind) (lent delta)) (lent work) ⌝ }
+    ensures { λ r. ⌜ left scratch ≡ written (locateWrites margin (lent kind) (lent delta) g) (lent scratch) ⌝ }
+    ensures { λ r. ⌜ drop (length (lent kind)) (left scratch) ≡ drop (length (lent kind)) (lent scratch) ⌝ }
 {
     let n = kind.len();
     let m = list_notes(kind, delta, work, scratch);
-    let groups = list_firsts(&scratch[..m], margin, work, n);
+    let groups = number_notes(&scratch[..m], margin, work, n);
     let reached = reach(&mut scratch[..m], margin, g);
     let at = reached.at;
     let end = reached.end;
@@ -51,8 +62,8 @@ fn locate(
     let last = work[end - 1] as usize;
     let notes = end - at;
     let duration = start[last] - start[first];
-    Located {
-        first,
+    LocatedGroup {
+        first: ObjectIndex(first),
         notes,
         owns,
         duration,
@@ -69,19 +80,24 @@ pub fn find(
     g: usize,
     work: &mut [u16],
     scratch: &mut [f64],
-) -> Found
+) -> FoundGroup
     requires { ⌜ GroupRoom margin (now kind) (now start) (now delta) g (now work) (now scratch) ⌝ }
-    ensures { λ r. ⌜ FoundIs margin (now (kind .entry)) (now (start .entry)) (now (delta .entry)) g (now (work .entry)) (now (work .exit)) (now (scratch .entry)) (now (scratch .exit)) r ⌝ }
+    ensures { λ r. ⌜ r ≡ foundAt margin (lent kind) (lent start) (lent delta) g ⌝ }
+    ensures { λ r. ⌜ left work ≡ written (notesWrites margin (lent kind) (lent delta)) (lent work) ⌝ }
+    ensures { λ r. ⌜ left scratch
+        ≡ written (findWrites margin (lent kind) (lent start) (lent delta) g) (lent scratch) ⌝ }
+    ensures { λ r. ⌜ drop (length (lent kind)) (left scratch) ≡ drop (length (lent kind)) (lent scratch) ⌝ }
 {
     let n = kind.len();
     let located = locate(kind, start, delta, margin, g, work, scratch);
+    let first = located.first;
     let groups = located.groups;
     let owns = located.owns;
     fill_intervals(start, &work[n..n + groups], margin, scratch);
     let interval = scratch[g];
     let pattern = pattern_at(&scratch[..groups], margin, g);
-    Found {
-        first: located.first,
+    FoundGroup {
+        first,
         notes: located.notes,
         owns,
         duration: located.duration,

@@ -1,22 +1,26 @@
 // The call record: what is said of one rhythm group.
 ghost use mathlib.Core.Path.{_≡_};
+ghost use lib.ListN.{length};
 ghost use Rattle.grouping_chart.specs.Settings.{baseSettings};
-ghost use Rattle.grouping_chart.specs.Lent.{outcome, chart};
-ghost use Rattle.evaluator_record.specs.Calls.{before, after, windowGood, recordOutcome};
-ghost use Rattle.evaluator_record.specs.Passes.{GroupRoom, Recorded};
+ghost use Rattle.grouping_chart.specs.Lent.{outcome, chart, lent};
+ghost use Rattle.evaluator_record.specs.Record.{recordAt};
+ghost use Rattle.evaluator_record.specs.Calls.{before, after, windowGood, cleared, recordOutcome};
+ghost use Rattle.evaluator_record.specs.Passes.{GroupRoom};
 use evaluator_rhythm::repeated_interval_penalty;
 use grouping_chart::chart::Verdict;
 use grouping_chart::object::ObjectIndex;
 use grouping_chart::room::short_refusal;
 use grouping_chart::settings;
+use grouping_chart::settings::Settings;
 use grouping_marks::fill;
 use grouping_same_rhythm::own::Own;
 use numeric::canonical::canonical;
 
 pub mod found;
 
-// A rhythm group: its first note's object, how many notes it has, its own interval and the ratio to that before, its interval, the penalty for a repeated
-// interval, its pattern group, and the ratio of that one's interval to the one before.
+// A rhythm group: its first note's object, how many notes it has, its own interval and the ratio to that before, its
+// interval, the penalty for a repeated interval, its pattern group, and the ratio of that one's interval to the one
+// before.
 pub struct GroupRecord {
     pub first: ObjectIndex,
     pub notes: usize,
@@ -45,28 +49,29 @@ fn make_record(
     kind: &[u8],
     start: &[f64],
     delta: &[f64],
-    margin: f64,
-    threshold: f64,
+    s: Settings,
     g: usize,
     window: f64,
     work: &mut [u16],
     scratch: &mut [f64],
 ) -> GroupRecord
-    requires { ⌜ GroupRoom margin (now kind) (now start) (now delta) g (now work) (now scratch) ⌝ }
-    ensures { λ r. ⌜ Recorded margin threshold (now (kind .entry)) (now (start .entry)) (now (delta .entry)) g window (now (work .entry)) (now (work .exit)) (now (scratch .entry)) (now (scratch .exit)) r ⌝ }
+    requires { ⌜ GroupRoom (s .margin) (now kind) (now start) (now delta) g (now work) (now scratch) ⌝ }
+    ensures { λ r. ⌜ r ≡ recordAt s (lent kind) (lent start) (lent delta) g window ⌝ }
+    ensures { λ r. ⌜ after work scratch ≡ cleared (length (lent kind)) (before work scratch) ⌝ }
 {
     let n = kind.len();
-    let found = found::find(kind, start, delta, margin, g, work, scratch);
+    let found = found::find(kind, start, delta, s.margin, g, work, scratch);
     fill::clear(work, 8 * n);
     fill::clear_floats(scratch, n);
+    let first = found.first;
     let owns = found.owns;
     let own = owns.newest;
     let previous = owns.second;
     let ratio = grouping_same_rhythm::own::ratio(own, previous);
-    let penalty = repeated_interval_penalty(owns, found.notes, found.duration, window, threshold);
+    let penalty = repeated_interval_penalty(owns, found.notes, found.duration, window, s.threshold);
     let pattern = found.pattern;
     GroupRecord {
-        first: ObjectIndex(found.first),
+        first,
         notes: found.notes,
         own,
         ratio: canonical(ratio),
@@ -90,8 +95,8 @@ pub fn record(
     ensures { λ r. ⌜ outcome r (after work scratch)
         ≡ recordOutcome baseSettings (chart kind start delta ratio) g window (before work scratch) ⌝ }
 {
-    let beside = short_refusal(false, kind.len(), work.len(), scratch.len());
-    match grouping_chart::chart::check(kind, start, delta, ratio, beside) {
+    let refusal = short_refusal(false, kind.len(), work.len(), scratch.len());
+    match grouping_chart::chart::check(kind, start, delta, ratio, refusal) {
         Verdict::Refused(number, place) => Recording::Refused(number, place),
         Verdict::Accepted => {
             if !window_good(window) {
@@ -101,9 +106,7 @@ pub fn record(
             if grouping_interval::notes::count_groups(kind, delta, s.margin) <= g {
                 return Recording::Refused(9, ObjectIndex(0));
             }
-            let m = s.margin;
-            let r = make_record(kind, start, delta, m, s.threshold, g, window, work, scratch);
-            Recording::Done(r)
+            Recording::Done(make_record(kind, start, delta, s, g, window, work, scratch))
         }
     }
 }

@@ -3,6 +3,7 @@ pub mod RefusalLaws
 pub mod AcceptedLaws
 pub mod RoomLaws
 pub mod LentLaws
+pub mod CallLaws
 pub mod ObjectLaws
 pub mod NotesLaws
 pub mod SeenLaws

@@ -20,7 +20,7 @@ use Rattle.grouping_same_rhythm.specs.SameRhythm.{rhythmMarks, groupIntervals}
 use Rattle.grouping_same_rhythm.proofs.MadeLaws.{patternNumber-made}
 use Rattle.grouping_rhythm.specs.declared.tables.GroupCounts.{GroupCounts}
 use Rattle.grouping_rhythm.specs.Rhythm.{Memory, memory, byObject, noteGroup, groupOf, patternGroupOf, groupsIn, countsOf, filled}
-use Rattle.grouping_rhythm.specs.Passes.{workWrites, scratchWrites, RhythmRoom, LookRoom, noteGroups, notePatterns, TablesThere}
+use Rattle.grouping_rhythm.specs.Passes.{workWrites, scratchWrites, GroupsRoom, LookRoom, noteGroups, notePatterns, TablesThere}
 use Rattle.grouping_rhythm.proofs.PerNoteLaws.{per-note-ext}
 use Rattle.grouping_rhythm.proofs.TablesLaws.{length-rhythm-marks, groups-few, TablesLeft, tables-left}
 
@@ -55,8 +55,9 @@ module _ {kinds : List ℕ} {k : GroupCounts} {work group₀ pattern₀ : List �
 -- ---- the answers are the definition's
 
 module _ (s : Settings) {kinds : List ℕ} {starts deltas : List Float} {m : Memory} {k : GroupCounts} {work₁ : List ℕ} {scratch₁ : List Float}
-    (r : RhythmRoom kinds starts deltas m) (counts : k ≡ countsOf (s .margin) kinds starts deltas)
-    (w : work₁ ≡ written (workWrites (s .margin) kinds starts deltas) (m .work)) (f : scratch₁ ≡ written (scratchWrites (s .margin) kinds starts deltas) (m .scratch)) where
+    (r : GroupsRoom kinds starts deltas m) (counts : k ≡ countsOf (s .margin) kinds starts deltas)
+    (w : work₁ ≡ written (workWrites (s .margin) kinds starts deltas) (m .work))
+    (f : scratch₁ ≡ written (scratchWrites (s .margin) kinds starts deltas) (m .scratch)) where
   left : TablesLeft (s .margin) kinds starts deltas (m .work) work₁ (m .scratch) scratch₁
   left = tables-left (r .tables) w f
 

@@ -19,7 +19,8 @@ pub length-per-note : (f : ℕ → ℕ) (kinds : List ℕ) → length (perNote f
 unfolding perNote
 length-per-note f kinds = length-tabulate (λ (i : ℕ). cond (isNote (getD kinds i 0)) (f (noteIdx kinds i)) 65535) (length kinds)
 
-pub per-note-at : (f : ℕ → ℕ) (kinds : List ℕ) (i : ℕ) → i < length kinds → getD (perNote f kinds) i 0 ≡ cond (isNote (getD kinds i 0)) (f (noteIdx kinds i)) 65535
+pub per-note-at : (f : ℕ → ℕ) (kinds : List ℕ) (i : ℕ) → i < length kinds
+    → getD (perNote f kinds) i 0 ≡ cond (isNote (getD kinds i 0)) (f (noteIdx kinds i)) 65535
 unfolding perNote
 per-note-at f kinds i h = getD-tabulate (λ (i : ℕ). cond (isNote (getD kinds i 0)) (f (noteIdx kinds i)) 65535) (length kinds) i 0 h
 

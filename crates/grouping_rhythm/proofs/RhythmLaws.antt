@@ -14,36 +14,33 @@ use Rattle.grouping_chart.specs.Chart.{Chart, size}
 use Rattle.grouping_chart.specs.Lent.{Outcome, outcome}
 use Rattle.grouping_chart.specs.Settings.{Settings}
 use Rattle.grouping_chart.specs.declared.chart.Verdict.the-variants.{Accepted}
-use Rattle.grouping_chart.proofs.AcceptedLaws.{accepted-good}
+use Rattle.grouping_chart.proofs.CallLaws.{call-room}
 use Rattle.grouping_chart.proofs.LentLaws.{answered-done}
-use Rattle.grouping_chart.proofs.RoomLaws.{roomy, long-enough}
 use Rattle.grouping_interval.specs.IntervalGrouping.{intervalMarks}
 use Rattle.grouping_same_rhythm.proofs.MadeLaws.{rhythmMarks-made}
 use Rattle.grouping_rhythm.specs.declared.Grouping.the-variants as answer
 use Rattle.grouping_rhythm.specs.declared.tables.GroupCounts.{GroupCounts}
-use Rattle.grouping_rhythm.specs.Rhythm.{Memory, judged, noteGroup, groupOf, countsOf, filled, counted, rhythmOutcome}
-use Rattle.grouping_rhythm.specs.Passes.{RhythmRoom}
+use Rattle.grouping_rhythm.specs.Rhythm.{Memory, judged, noteGroup, groupOf, countsOf, filled, groupingDone, rhythmOutcome}
+use Rattle.grouping_rhythm.specs.Passes.{GroupsRoom}
 use Rattle.grouping_rhythm.proofs.PerNoteLaws.{length-per-note, per-note-at}
 
 -- ---- each case leaves its outcome
 module _ (s : Settings) (c : Chart) (m : Memory) where
-  pub rhythm-room : judged c m ≡ Accepted → RhythmRoom (c .kinds) (c .starts) (c .deltas) m
+  pub rhythm-room : judged c m ≡ Accepted → GroupsRoom (c .kinds) (c .starts) (c .deltas) m
   rhythm-room h =
-      let g = accepted-good c _ h in
-      let r = roomy _ (size c) _ _ (g .room) in
-      let first = long-enough (size c) _ _ (r .answered) in
-      let second = long-enough (size c) _ _ (first .1) in
+      let r = call-room c _ _ _ h in
+      let g = r .good in
       record {
         tables = record { few = g .few; started = g .lengths .start; whole = g .lengths .delta; regions = r .regions; floats = r .floats };
-        group-room = first .0;
-        pattern-room = second .0;
+        group-room = r .answered .0;
+        pattern-room = r .answered .1 .0;
       }
 
   -- the counts and the memory that the passes leave are the definition's
   pub rhythm-done : (k : GroupCounts) (new : Memory) → judged c m ≡ Accepted → k ≡ countsOf (s .margin) (c .kinds) (c .starts) (c .deltas)
-      → new ≡ filled s (c .kinds) (c .starts) (c .deltas) m → outcome (counted k) new ≡ rhythmOutcome s c m
+      → new ≡ filled s (c .kinds) (c .starts) (c .deltas) m → outcome (groupingDone k) new ≡ rhythmOutcome s c m
   unfolding rhythmOutcome
-  rhythm-done k new h e f = answered-done _ answer.Refused m h (λ t. outcome (counted (e t)) (f t))
+  rhythm-done k new h e f = answered-done _ answer.Refused m h (λ t. outcome (groupingDone (e t)) (f t))
 
   left : judged c m ≡ Accepted → filled s (c .kinds) (c .starts) (c .deltas) m ≡ rhythmOutcome s c m .memory
   unfolding rhythmOutcome
@@ -51,11 +48,13 @@ module _ (s : Settings) (c : Chart) (m : Memory) where
 
   -- what an accepted call writes for an object that is a note: the group of its note, by the notes' deltas
   pub group-written : judged c m ≡ Accepted → (o : ℕ) → o < size c → isNote (getD (c .kinds) o 0) ≡ true
-      → getD (rhythmOutcome s c m .memory .group) o 0 ≡ getD (groupNumbers (intervalMarks (s .margin) (ofNotes (c .kinds) (c .deltas)))) (noteIdx (c .kinds) o) 0
+      → getD (rhythmOutcome s c m .memory .group) o 0
+      ≡ getD (groupNumbers (intervalMarks (s .margin) (ofNotes (c .kinds) (c .deltas)))) (noteIdx (c .kinds) o) 0
   unfolding filled groupOf noteGroup
   group-written h o l n =
       ap (λ (n : Memory). getD (n .group) o 0) (sym (left h))
-      ∙ getD-over (groupOf (s .margin) (c .kinds) (c .deltas)) (m .group) o 0 (omega (arith, length-per-note (noteGroup (s .margin) (c .kinds) (c .deltas)) (c .kinds)))
+      ∙ getD-over (groupOf (s .margin) (c .kinds) (c .deltas)) (m .group) o 0
+      (omega (arith, length-per-note (noteGroup (s .margin) (c .kinds) (c .deltas)) (c .kinds)))
       ∙ per-note-at (noteGroup (s .margin) (c .kinds) (c .deltas)) (c .kinds) o l
       ∙ ap (λ (b : Bool). cond b (noteGroup (s .margin) (c .kinds) (c .deltas) (noteIdx (c .kinds) o)) 65535) n
       ∙ ap (λ (marks : List ℕ). getD (groupNumbers marks) (noteIdx (c .kinds) o) 0) (rhythmMarks-made (s .margin) (c .kinds) (c .deltas))

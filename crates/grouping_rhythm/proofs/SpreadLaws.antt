@@ -1,5 +1,5 @@
--- The loops that spread numbers over objects and that look numbers up. The invariant of the first: the first i objects have their numbers, and `next` counts the notes
--- among them; of the second: the first i numbers are looked up, and the table, which lies behind them, is as it was.
+-- The loops that spread numbers over objects and that look numbers up. The invariant of the first: the first i objects have their numbers, and `next`
+-- counts the notes among them; of the second: the first i numbers are looked up, and the table, which lies behind them, is as it was.
 use mathlib.Core.Path.{_≡_, sym, ap, _∙_}
 use mathlib.Core.Logic.{inr}
 use mathlib.Core.Bool.{Bool, true, false, cond}
@@ -11,7 +11,8 @@ use lib.Seq.{length-take-le}
 use Rattle.grouping_marks.specs.Over.{over, part}
 use Rattle.grouping_marks.specs.Scan.{gathered}
 use Rattle.grouping_marks.proofs.OverLaws.{length-part, getD-part}
-use Rattle.grouping_marks.proofs.FillLaws.{Fill, fill-start, fill-turn, fill-start-front, fill-turn-front, fill-end-front, fill-read, fill-unread, length-gathered, getD-gathered}
+use Rattle.grouping_marks.proofs.FillLaws.{Fill, fill-start, fill-turn, fill-start-front, fill-turn-front, fill-end-front, fill-read, fill-unread}
+use Rattle.grouping_marks.proofs.FillLaws.{length-gathered, getD-gathered}
 use Rattle.grouping_chart.specs.Object.{isNote, noteIdx}
 use Rattle.grouping_chart.proofs.ObjectLaws.{seen₀, seenAfter, seen-few, notes-turn, noteIdx-seen}
 use Rattle.grouping_rhythm.specs.Rhythm.{byObject}
@@ -52,7 +53,8 @@ module _ {kinds numbers out₀ out : List ℕ} {next i : ℕ} (x : Spread kinds 
     fill =
         fill-turn-front 0 (x .fill) h
         (q
-        ∙ same-where (isNote (getD kinds i 0)) (getD numbers next 0) (getD numbers (noteIdx kinds i) 0) 65535 (λ n. ap (λ (j : ℕ). getD numbers j 0) (next-is n))
+        ∙ same-where (isNote (getD kinds i 0)) (getD numbers next 0) (getD numbers (noteIdx kinds i) 0) 65535
+        (λ n. ap (λ (j : ℕ). getD numbers j 0) (next-is n))
         ∙ sym (per-note-at (λ (j : ℕ). getD numbers j 0) kinds i h));
     passed = notes-turn kinds i h next after (x .passed) e;
   }

@@ -1,7 +1,8 @@
--- What the passes of rhythm ask and write: tables of the notes' and of the groups' numbers in the work slice, looked up object by object.
+-- What the passes of rhythm ask and write: tables of the notes' and of the groups' numbers in the work slice, looked up
+-- object by object.
 use mathlib.Core.Path.{_≡_}
 use Prim.Native.Nat.{ℕ, _+_, _*_, _≤_, _<_}
-use mathlib.Core.List.{List, [], _∷_}
+use mathlib.Core.List.{List, [], _∷_, _++_}
 use lib.ListN.{length, getD}
 use lib.Ieee.{Float}
 use Rattle.grouping_marks.specs.Over.{over, put, part, Write, write}
@@ -44,23 +45,28 @@ pub record GroupsNumbered (margin : Float) (intervals : List Float) (n : ℕ) (w
   pub floats : scratch ≡ over intervals scratch₀
 
 -- a start and a delta for each object, and room in the work slices
-pub record TablesRoom (kinds : List ℕ) (starts deltas : List Float) (work : List ℕ) (scratch : List Float) : Type 0 where
+pub record TablesRoom (kinds : List ℕ) (starts deltas : List Float) (work : List ℕ) (scratch : List Float)
+    : Type 0 where
   pub few : length kinds ≤ 16384
   pub started : length starts ≡ length kinds
   pub whole : length deltas ≡ length kinds
   pub regions : 8 * length kinds ≤ length work
   pub floats : length kinds ≤ length scratch
 
--- what is written of the work slice, region by region: the notes' objects, the groups' first objects, the notes' groups
--- and the groups' patterns
-unfoldable pub workWrites : Float → List ℕ → List Float → List Float → List (Write ℕ)
-workWrites margin kinds starts deltas =
+-- what is written of the work slice: the notes' objects, the groups' first objects and the notes' groups,
+unfoldable pub notesWrites : Float → List ℕ → List Float → List (Write ℕ)
+notesWrites margin kinds deltas =
     let n = length kinds in
     write 0 (noteObjects kinds)
     ∷ write n (firstsOf (groupObjects margin kinds deltas))
     ∷ write (2 * n) (groupNumbers (rhythmMarks margin kinds deltas))
-    ∷ write (3 * n) (groupNumbers (intervalMarks margin (groupIntervals margin kinds starts deltas)))
     ∷ []
+
+-- and behind them the groups' patterns
+unfoldable pub workWrites : Float → List ℕ → List Float → List Float → List (Write ℕ)
+workWrites margin kinds starts deltas =
+    let patterns = groupNumbers (intervalMarks margin (groupIntervals margin kinds starts deltas)) in
+    notesWrites margin kinds deltas ++ (write (3 * length kinds) patterns ∷ [])
 
 -- and of the scratch slice: the notes' deltas, and over them the groups' intervals
 unfoldable pub scratchWrites : Float → List ℕ → List Float → List Float → List (Write Float)
@@ -70,7 +76,7 @@ scratchWrites margin kinds starts deltas =
 -- ---- the answers
 
 -- room for the tables, and for n objects in each answer slice too
-pub record RhythmRoom (kinds : List ℕ) (starts deltas : List Float) (m : Memory) : Type 0 where
+pub record GroupsRoom (kinds : List ℕ) (starts deltas : List Float) (m : Memory) : Type 0 where
   pub tables : TablesRoom kinds starts deltas (m .work) (m .scratch)
   pub group-room : length kinds ≤ length (m .group)
   pub pattern-room : length kinds ≤ length (m .pattern)

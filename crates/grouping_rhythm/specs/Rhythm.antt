@@ -63,15 +63,16 @@ groupOf margin kinds deltas = perNote (noteGroup margin kinds deltas) kinds
 
 unfoldable pub patternGroupOf : Float → List ℕ → List Float → List Float → List ℕ
 patternGroupOf margin kinds starts deltas =
-    perNote
-    (λ (j : ℕ). patternNumber margin (groupIntervals margin kinds starts deltas) (noteGroup margin kinds deltas j)) kinds
+    let intervals = groupIntervals margin kinds starts deltas in
+    perNote (λ (j : ℕ). patternNumber margin intervals (noteGroup margin kinds deltas j)) kinds
 
 -- how many there are
 unfoldable pub groupsIn : Float → List ℕ → List Float → ℕ
 groupsIn margin kinds deltas = groupCount (rhythmMarks margin kinds deltas)
 
 unfoldable pub patternGroupsIn : Float → List ℕ → List Float → List Float → ℕ
-patternGroupsIn margin kinds starts deltas = groupCount (intervalMarks margin (groupIntervals margin kinds starts deltas))
+patternGroupsIn margin kinds starts deltas =
+    groupCount (intervalMarks margin (groupIntervals margin kinds starts deltas))
 
 abbrev pub countsOf : Float → List ℕ → List Float → List Float → GroupCounts
 countsOf margin kinds starts deltas = record {
@@ -90,11 +91,11 @@ filled s kinds starts deltas m = record {
 }
 
 -- the two numbers that an accepted call answers
-abbrev pub counted : GroupCounts → Grouping
-counted k = Done (k .groups) (k .patterns)
+abbrev pub groupingDone : GroupCounts → Grouping
+groupingDone k = Done (k .groups) (k .patterns)
 
 unfoldable pub rhythmOutcome : Settings → Chart → Memory → Outcome Grouping Memory
 rhythmOutcome s c m =
+    let counts = countsOf (s .margin) (c .kinds) (c .starts) (c .deltas) in
     answered (judged c m)
-    (outcome (counted (countsOf (s .margin) (c .kinds) (c .starts) (c .deltas))) (filled s (c .kinds) (c .starts) (c .deltas) m))
-    answer.Refused m
+    (outcome (groupingDone counts) (filled s (c .kinds) (c .starts) (c .deltas) m)) answer.Refused m

@@ -6,7 +6,7 @@ ghost use Rattle.grouping_chart.specs.Room.{anyShort};
 ghost use Rattle.grouping_chart.specs.Settings.{baseSettings};
 ghost use Rattle.grouping_chart.specs.Lent.{outcome, chart, lent};
 ghost use Rattle.grouping_rhythm.specs.Rhythm.{memory, before, after, countsOf, filled, rhythmOutcome};
-ghost use Rattle.grouping_rhythm.specs.Passes.{RhythmRoom};
+ghost use Rattle.grouping_rhythm.specs.Passes.{GroupsRoom};
 use crate::tables::GroupCounts;
 use grouping_chart::chart::Verdict;
 use grouping_chart::object::ObjectIndex;
@@ -45,7 +45,7 @@ fn fill_groups(
     work: &mut [u16],
     scratch: &mut [f64],
 ) -> GroupCounts
-    requires { ⌜ RhythmRoom (now kind) (now start) (now delta)
+    requires { ⌜ GroupsRoom (now kind) (now start) (now delta)
         (memory (now group) (now pattern) (now work) (now scratch)) ⌝ }
     ensures { λ r. ⌜ r ≡ countsOf (s .margin) (lent kind) (lent start) (lent delta) ⌝ }
     ensures { λ r. ⌜ after group pattern work scratch

@@ -66,7 +66,8 @@ pub fn fill_answers(
 )
     requires { ⌜ TablesThere (now kind) k (now work) (now group) (now pattern) ⌝ }
     ensures { λ r. ⌜ left group ≡ over (byObject (noteGroups (lent kind) k (lent work)) (lent kind)) (lent group) ⌝ }
-    ensures { λ r. ⌜ left pattern ≡ over (byObject (notePatterns (lent kind) k (lent work)) (lent kind)) (lent pattern) ⌝ }
+    ensures { λ r. ⌜ left pattern
+        ≡ over (byObject (notePatterns (lent kind) k (lent work)) (lent kind)) (lent pattern) ⌝ }
     ensures { λ r. ⌜ left work ≡ put (2 * length (lent kind)) (notePatterns (lent kind) k (lent work)) (lent work) ⌝ }
 {
     let n = kind.len();

@@ -15,7 +15,8 @@ fill-values-requires : tie.Need-fill-values-requires
 fill-values-requires c κs =
     let e = c .before .before .before .before .before .before in
     let room = start e .pre in
-    (record { steps = c .before .before .before .table .ensures; tabled = tabled (room .regions) (e .encode-colors .ensures .tables); ratio = room .ratio }, room .values)
+    let table = c .before .before .before .table .ensures in
+    (record { steps = table; tabled = tabled (room .regions) (e .encode-colors .ensures .tables); ratio = room .ratio }, room .values)
 
 returns : tie.Need-returns
 returns c =

@@ -1,5 +1,5 @@
--- `stretch` meets its contract: the verdict of the definition is the one that the tests gave, each case leaves its outcome, and the mean of an accepted stretch is
--- small enough for its tenths.
+-- `stretch` meets its contract: the verdict of the definition is the one that the tests gave, each case leaves its outcome, and the mean of an accepted
+-- stretch is small enough for its tenths.
 use mathlib.Core.Path.{_≡_, ap, _∙_}
 use mir.Facts.{toZ-ofZ}
 use Rattle.numeric.specs.Tenths.{tenthsOf}

@@ -22,7 +22,8 @@ returns c =
     let t = g .group-notes .ensures in
     let e = a .fill-answers .ensures in (
       t .0,
-      filled-is (start g .args .s) (start g .pre) (t .0) (t .1 .0) (t .1 .1) (e .0) (e .1 .0) (e .1 .1) (z .clear .ensures) (c .before .before .clear-floats .ensures),
+      filled-is (start g .args .s) (start g .pre) (t .0) (t .1 .0) (t .1 .1) (e .0) (e .1 .0) (e .1 .1) (z .clear .ensures)
+          (c .before .before .clear-floats .ensures),
     )
 
 pub fill-groups-spec : {M : Type 1} → statement M

@@ -14,7 +14,8 @@ use borrow.Author.Needs.{needs}
 use Rattle.evaluator_calls.proofs.mean.stretch_verdict.Statement.{statement}
 use Rattle.evaluator_calls.proofs.mean.stretch_verdict.Tie as tie
 
-chart-refused : (v : Verdict) (kinds : List ℕ) (a b number : ℕ) (place : ObjectIndex) → v ≡ Refused number place → Refused number place ≡ stretchVerdict v kinds a b
+chart-refused : (v : Verdict) (kinds : List ℕ) (a b number : ℕ) (place : ObjectIndex) → v ≡ Refused number place
+    → Refused number place ≡ stretchVerdict v kinds a b
 unfolding stretchVerdict
 chart-refused v kinds a b number place e = sym (ap (λ (x : Verdict). stretchVerdict x kinds a b) e)
 

@@ -1,6 +1,7 @@
 -- `find` meets its contract: the intervals are made where the first objects were left, and the group is read from them.
 use native.Mathlib.Omega.{arith}
-use Rattle.evaluator_record.proofs.FindLaws.{groups-small, group-below, region-inside, intervals-room, intervals-inside, intervals-counted, found}
+use Rattle.evaluator_record.proofs.FindLaws.{LocatedIs, groups-small, group-below, region-inside, intervals-room}
+use Rattle.evaluator_record.proofs.FindLaws.{intervals-inside, intervals-counted, found, scratch-found, past-found}
 use borrow.Author.Needs.{needs}
 use Rattle.evaluator_record.proofs.found.find.Statement.{statement}
 use Rattle.evaluator_record.proofs.found.find.Tie as tie
@@ -9,59 +10,70 @@ use Rattle.evaluator_record.proofs.found.find.Tie as tie
 abbrev start : tie.After-locate → tie.Start
 start c = c .before .before .before .before .before .before .before .before
 
--- ---- once the intervals are filled
-abbrev place : tie.After-fill-intervals → tie.After-locate
-place c = c .before .before .before .before .before .before .before .before .before
+located-is : (c : tie.After-locate) → LocatedIs (start c .args .margin) (start c .args .kind .now) (start c .args .start .now) (start c .args .delta .now)
+    (start c .args .g) (start c .args .work .now) (c .locate .last .1 .1 .1 .1 .1 .0) (start c .args .scratch .now)
+    (c .locate .last .1 .1 .1 .1 .1 .1 .0) (c .locate .result)
+located-is c =
+    let e = c .locate .ensures in
+    record {
+      room = start c .pre;
+      at = e .0;
+      noted = e .1 .0;
+      settled = e .1 .1 .0;
+      past = e .1 .1 .1;
+      same = c .locate .kept .1 .1 .1 .1 .1 .1 .0;
+    }
 
 add-fill-intervals : tie.Need-add-fill-intervals
-add-fill-intervals c =
-    let l = c .before .before .before .before .before in
-    omega (arith, groups-small (start l .pre) (l .locate .ensures))
+add-fill-intervals c = omega (arith, groups-small (located-is (c .before .before .before .before .before .before)))
 
 part-fill-intervals-end : tie.Need-part-fill-intervals-end
 part-fill-intervals-end c =
-    let l = c .before .before .before .before .before .before in
-    region-inside (start l .pre) (l .locate .ensures)
+    let l = c .before .before .before .before .before .before .before in
+    region-inside (located-is l)
 
 fill-intervals-requires : tie.Need-fill-intervals-requires
 fill-intervals-requires c κs =
-    let l = c .before .before .before .before .before .before .before .before in
-    intervals-room (start l .pre) (l .locate .ensures)
+    let l = c .before .before .before .before .before .before .before .before .before in
+    intervals-room (located-is l)
+
+-- ---- once the intervals are filled
+abbrev place : tie.After-fill-intervals → tie.After-locate
+place c = c .before .before .before .before .before .before .before .before .before .before
 
 mul-interval : tie.Need-mul-interval
 mul-interval c =
-    let l = c .before .before .before .before .before .before .before .before .before .before .before in
-    omega (arith, group-below (start l .pre) (l .locate .ensures), groups-small (start l .pre) (l .locate .ensures))
+    let x = located-is (place (c .before .before)) in
+    omega (arith, group-below x, groups-small x)
 
 slice-read-interval : tie.Need-slice-read-interval
 slice-read-interval c =
     let f = c .before .before .before in
-    let l = place f in
-    omega (arith, group-below (start l .pre) (l .locate .ensures), intervals-inside (start l .pre) (l .locate .ensures) (f .fill-intervals .ensures))
+    let x = located-is (place f) in
+    omega (arith, group-below x, intervals-inside x (f .fill-intervals .ensures))
 
 slice-reshare-prefix-pattern-at : tie.Need-slice-reshare-prefix-pattern-at
 slice-reshare-prefix-pattern-at c =
     let f = c .before .before .before in
-    let l = place f in
-    intervals-inside (start l .pre) (l .locate .ensures) (f .fill-intervals .ensures)
+    intervals-inside (located-is (place f)) (f .fill-intervals .ensures)
 
 slice-aggregate-pattern-at : tie.Need-slice-aggregate-pattern-at
 slice-aggregate-pattern-at c =
     let f = c .before .before .before .before in
-    let l = place f in
-    intervals-counted (start l .pre) (l .locate .ensures) (f .fill-intervals .ensures)
+    intervals-counted (located-is (place f)) (f .fill-intervals .ensures)
 
 pattern-at-requires : tie.Need-pattern-at-requires
 pattern-at-requires c κs =
     let f = c .before .before .before .before in
-    let l = place f in
-    omega (arith, group-below (start l .pre) (l .locate .ensures), intervals-counted (start l .pre) (l .locate .ensures) (f .fill-intervals .ensures))
+    let x = located-is (place f) in
+    omega (arith, group-below x, intervals-counted x (f .fill-intervals .ensures))
 
 returns : tie.Need-returns
 returns c =
     let f = c .before .before .before .before .before in
-    let l = place f in
-    found (start l .pre) (l .locate .ensures) (f .fill-intervals .ensures) _ (c .pattern-at .ensures)
+    let x = located-is (place f) in
+    let e = f .fill-intervals .ensures in
+    (found x e _ (c .pattern-at .ensures), (x .noted, (scratch-found x e, past-found x e)))
 
 pub find-spec : {M : Type 1} → statement M
 find-spec =

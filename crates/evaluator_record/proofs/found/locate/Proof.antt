@@ -1,7 +1,8 @@
 -- `locate` meets its contract: each pass finds what the one before left, and the group's objects are read at its ends.
 use Prim.Native.Nat.{_-_, _<_}
 use native.Mathlib.Omega.{arith}
-use Rattle.evaluator_record.proofs.LocateLaws.{Readable, notes-inside, front-counted, firsts-room, group-there, readable, located}
+use Rattle.grouping_rhythm.proofs.TablesLaws.{notes-lent, numbers-room, noted}
+use Rattle.evaluator_record.proofs.LocateLaws.{Readable, front-counted, group-there, readable, located, scratch-located, past-located}
 use borrow.Author.Needs.{needs}
 use Rattle.evaluator_record.proofs.found.locate.Statement.{statement}
 use Rattle.evaluator_record.proofs.found.locate.Tie as tie
@@ -10,42 +11,43 @@ use Rattle.evaluator_record.proofs.found.locate.Tie as tie
 abbrev start : tie.After-list-notes → tie.Start
 start c = c .before .before .before .before .before .before .before .before
 
--- ---- once the first objects are listed
-abbrev notes : tie.After-list-firsts → tie.After-list-notes
+-- ---- once they are numbered
+abbrev notes : tie.After-number-notes → tie.After-list-notes
 notes c = c .before .before .before .before .before .before .before
 
 -- ---- once the group is reached
-abbrev firsts : tie.After-reach → tie.After-list-firsts
-firsts c = c .before .before .before .before
+abbrev numbered : tie.After-reach → tie.After-number-notes
+numbered c = c .before .before .before .before
 
-reading : (c : tie.After-reach) → Readable (start (notes (firsts c)) .args .start .now) (firsts c .list-firsts .last .1 .1 .0) (c .reach .result)
+reading : (c : tie.After-reach) → Readable (start (notes (numbered c)) .args .start .now) (numbered c .number-notes .last .1 .1 .0) (c .reach .result)
 reading c =
-    let f = firsts c in
+    let f = numbered c in
     let l = notes f in
-    readable (start l .pre) (l .list-notes .ensures) (f .list-firsts .ensures) (c .reach .ensures)
+    let room = start l .pre in
+    readable room (l .list-notes .ensures) (noted (room .tables) (l .list-notes .ensures) _ (f .number-notes .ensures)) (c .reach .ensures)
 
 last : (c : tie.After-reach) → c .reach .result .end - 1 < c .reach .result .end
 last c = omega (arith, reading c .from)
 
-slice-reshare-prefix-list-firsts : tie.Need-slice-reshare-prefix-list-firsts
-slice-reshare-prefix-list-firsts c =
+slice-reshare-prefix-number-notes : tie.Need-slice-reshare-prefix-number-notes
+slice-reshare-prefix-number-notes c =
     let l = c .before .before .before .before in
-    notes-inside (start l .pre) (l .list-notes .ensures)
+    notes-lent (start l .pre .tables) (l .list-notes .ensures)
 
-slice-aggregate-list-firsts : tie.Need-slice-aggregate-list-firsts
-slice-aggregate-list-firsts c =
+slice-aggregate-number-notes : tie.Need-slice-aggregate-number-notes
+slice-aggregate-number-notes c =
     let l = c .before .before .before .before .before in
     front-counted (start l .pre) (l .list-notes .ensures)
 
-list-firsts-requires : tie.Need-list-firsts-requires
-list-firsts-requires c κs =
+number-notes-requires : tie.Need-number-notes-requires
+number-notes-requires c κs =
     let l = c .before .before .before .before .before .before in
-    firsts-room (start l .pre) (l .list-notes .ensures)
+    numbers-room (start l .pre .tables) (l .list-notes .ensures)
 
 slice-relend-prefix-reach : tie.Need-slice-relend-prefix-reach
 slice-relend-prefix-reach c =
     let l = c .before .before .before .before .before .before .before .before .before in
-    notes-inside (start l .pre) (l .list-notes .ensures)
+    notes-lent (start l .pre .tables) (l .list-notes .ensures)
 
 slice-aggregate-reach : tie.Need-slice-aggregate-reach
 slice-aggregate-reach c =
@@ -110,18 +112,23 @@ shared-slice-read-duration-2 c =
 returns : tie.Need-returns
 returns c =
     let r = c .before .before .before .before .before .before .before in
-    let f = firsts r in
+    let f = numbered r in
     let l = notes f in
-    located (start l .pre) (l .list-notes .ensures) (f .list-firsts .ensures) (r .reach .ensures) (r .reach .kept .0)
+    let room = start l .pre in
+    let e = l .list-notes .ensures in
+    let x = noted (room .tables) e _ (f .number-notes .ensures) in (
+      located room e x (r .reach .ensures),
+      (x .memory, (scratch-located room e x (r .reach .ensures) (r .reach .kept .0), past-located room e x (r .reach .ensures) (r .reach .kept .0))),
+    )
 
 pub locate-spec : {M : Type 1} → statement M
 locate-spec =
     tie.close
     (tie.spec
     (λ c κs. search needs)
-    slice-reshare-prefix-list-firsts
-    slice-aggregate-list-firsts
-    list-firsts-requires
+    slice-reshare-prefix-number-notes
+    slice-aggregate-number-notes
+    number-notes-requires
     slice-relend-prefix-reach
     slice-aggregate-reach
     reach-requires
