@@ -143,7 +143,7 @@ module _ {kinds : List ℕ} {starts deltas : List Float} {work₀ : List ℕ} {s
       let p : work ≡ put (3 * n) patterns work₁ = w ∙ written-append (notesWrites margin kinds deltas) (write (3 * n) patterns ∷ []) work₀ in
       let lp : length patterns ≡ groups = length-group-patterns margin in
       let lv : length (groupIntervals margin kinds starts deltas) ≡ groups = length-group-intervals margin kinds deltas (r .whole) starts in
-      let ld : length (noteDeltas kinds deltas) ≡ m = length-note-deltas kinds deltas (r .whole) in
+      let ld : length (ofNotes kinds deltas) ≡ m = length-of-notes kinds deltas (r .whole) in
       let few : groups ≤ m = groups-few margin kinds deltas (r .whole) in
       let most : m ≤ n = notes-few kinds in
       let room : 8 * n ≤ length work₁ = omega (arith, notes .regions, r .regions) in
@@ -163,7 +163,7 @@ pub record Noted (margin : Float) (kinds : List ℕ) (deltas : List Float) (work
   pub noted : m ≡ length (notes kinds)
   pub grouped : groups ≡ groupsIn margin kinds deltas
   pub memory : work ≡ written (notesWrites margin kinds deltas) work₀
-  pub scratch-memory : scratch ≡ put 0 (noteDeltas kinds deltas) scratch₀
+  pub scratch-memory : scratch ≡ put 0 (ofNotes kinds deltas) scratch₀
   pub floats : length scratch ≡ length scratch₀
 
 module _ {kinds : List ℕ} {starts deltas : List Float} {work₀ : List ℕ} {scratch₀ : List Float} (r : TablesRoom kinds starts deltas work₀ scratch₀) where
@@ -171,8 +171,8 @@ module _ {kinds : List ℕ} {starts deltas : List Float} {work₀ : List ℕ} {s
     noted-count : m ≡ length (notes kinds)
     noted-count = l .count ∙ length-note-objects kinds
 
-    deltas-long : length (noteDeltas kinds deltas) ≡ length (notes kinds)
-    deltas-long = length-note-deltas kinds deltas (r .whole)
+    deltas-long : length (ofNotes kinds deltas) ≡ length (notes kinds)
+    deltas-long = length-of-notes kinds deltas (r .whole)
 
     floats-same : length scratch₁ ≡ length scratch₀
     floats-same = ap length (l .floats) ∙ length-over (ofNotes kinds deltas) scratch₀ (omega (arith, deltas-long, notes-few kinds, r .floats))
