@@ -1,5 +1,5 @@
--- The definitions that this crate's promises and laws cite.
+-- The definitions of this crate: the statement whole is TailAgreement, its parts are the rooms `colour` and `rhythm`.
 pub mod CommonTail
-pub mod Landmark
-pub mod LandmarkTest
-pub mod Agreement
+pub mod colour
+pub mod rhythm
+pub mod TailAgreement

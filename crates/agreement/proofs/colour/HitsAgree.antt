@@ -1,0 +1,303 @@
+-- The theorem on encode: from a colour landmark on, two charts that end alike have the same hit patterns, places and firsts, and from the M-th such hit pattern on the same intervals.
+use mathlib.Core.Path.{_≡_, refl, sym, ap, _∙_, subst, subst₂, transport}
+use mathlib.Core.Logic.{_⊎_, inl, inr, ⊎-elim}
+use mathlib.Core.List.{List, _++_, append-assoc}
+use mathlib.Core.Bool.{Bool, true, false}
+use Prim.Native.Nat.{ℕ, _+_, _-_, _≤_, _<_}
+use native.Mathlib.Omega.{arith}
+use lib.ListN.{length, getD, take, drop, length-append, length-drop, take-append-drop}
+use lib.Seq.{getD-take, getD-append-add, length-take-le}
+use lib.Dec.{ltb}
+use borrow.Author.Tests.{ltb-true, ltb-false}
+use Rattle.grouping_marks.specs.Marks.{groupCount, groupNumbers, groupSizes, groupFirsts}
+use Rattle.grouping_marks.proofs.FillLaws.{getD-gathered}
+use Rattle.grouping_marks.proofs.MarksLaws.{count-le, length-numbers}
+use Rattle.grouping_marks.proofs.CutLaws.{Opening, opening-at, count-cut}
+use Rattle.grouping_marks.proofs.NumberLaws.{numbers-rise}
+use Rattle.grouping_marks.proofs.SplitLaws.{Split, split-numbers, split-length, split-at, split-before}
+use Rattle.grouping_chart.specs.Object.{isNote}
+use Rattle.grouping_color.specs.MonoStreak.{streakMarks, streakOf, streakLengths}
+use Rattle.grouping_color.specs.Preprocessor.{patternsOpen, coupledPatterns, patternOf}
+use Rattle.grouping_color.proofs.LengthLaws.{length-streakMarks}
+use Rattle.grouping_color.proofs.BoundLaws.{length-streakOf, length-patternsOpen, length-patternOf, streak-below, patternOf-looked}
+use Rattle.grouping_color.proofs.MadeLaws.{streakOf-made}
+use Rattle.grouping_color.proofs.StreakCutLaws.{HasNote, streakMarksAfter, streakMarks-cut, streakMarks-agree}
+use Rattle.agreement.specs.colour.Landmark.{Landmark}
+use Rattle.agreement.specs.colour.Agreement.{Agree, Agreement}
+use Rattle.agreement.proofs.colour.AgreementLaws.{agreement-sym}
+use Rattle.agreement.proofs.colour.PartLaws.{Parted, backPattern, patterns-split, objects-back, parted-agree}
+use Rattle.agreement.proofs.colour.LevelLaws.{StreaksCut, streaks-cut, Unequal, PatternsCut, patterns-cut, backMarks, backFirsts, backFlags, Uncoupled, back, streak-cut, pattern-cut, parted, parted-objects, parted-patterns}
+
+-- an entry behind a cut
+at-back : (front tail : List ℕ) (xs : List ℕ) (i j : ℕ) → xs ≡ front ++ tail → i ≡ length front + j → getD xs i 0 ≡ getD tail j 0
+at-back front tail xs i j e f = (λ k. getD (e k) (f k) 0) ∙ getD-append-add front tail j 0
+
+-- the objects' patterns never fall
+pattern-rises : (kinds : List ℕ) (i j : ℕ) → i ≤ j → j < length kinds → getD (patternOf kinds) i 0 ≤ getD (patternOf kinds) j 0
+pattern-rises kinds i j l h = rw (← patternOf-looked kinds) (
+    let a = getD-gathered (groupNumbers (patternsOpen kinds)) (streakOf kinds) i (omega (arith, length-streakOf kinds)) in
+    let b = getD-gathered (groupNumbers (patternsOpen kinds)) (streakOf kinds) j (omega (arith, length-streakOf kinds)) in
+    let r : getD (streakOf kinds) i 0 ≤ getD (streakOf kinds) j 0 = rw (streakOf-made kinds) (numbers-rise (streakMarks kinds) i j l (omega (arith, length-streakMarks kinds))) in
+    let s = numbers-rise (patternsOpen kinds) (getD (streakOf kinds) i 0) (getD (streakOf kinds) j 0) r (omega (arith, streak-below kinds j h, length-patternsOpen kinds)) in
+    omega (arith, a, b, s))
+
+-- ---- a landmark of a chart that is cut before the object of (a)
+
+module _ (front rest : List ℕ) {n position : ℕ} (m : Landmark (front ++ rest) n position) (e : m .object ≡ length front) where
+  marks : List ℕ
+  marks = streakMarksAfter front rest
+
+  types : List ℕ
+  types = groupFirsts marks rest
+
+  opening : Opening marks
+  unfolding marks
+  opening =
+      opening-at marks
+      (λ h. sym (at-back (streakMarks front) marks (streakMarks (front ++ rest)) (m .object) 0 (streakMarks-cut front rest) (omega (arith, length-streakMarks front))) ∙ m .object-opens)
+
+  cut : StreaksCut (front ++ rest) (length front) marks types
+  unfolding types marks
+  cut = streaks-cut front rest marks refl opening
+
+  -- ---- (b), counted from (a)
+
+  marks-some : 0 < length marks
+  marks-some = omega (arith, m .object-there, e, length-streakMarks (front ++ rest), ap length (cut .whole), length-append (cut .front) marks, cut .size)
+
+  streak-from : groupCount (cut .front) ≤ m .streak
+  streak-from =
+      let s : Split (streakOf (front ++ rest)) (length (cut .front)) (groupCount (cut .front)) (groupNumbers marks) = rw (streakOf-made (front ++ rest), cut .whole) (split-numbers (cut .front) marks opening) in
+      let a : getD (streakOf (front ++ rest)) (length (cut .front) + 0) 0 ≡ groupCount (cut .front) + getD (groupNumbers marks) 0 0 =
+      split-at s 0 (omega (arith, marks-some, length-numbers marks)) in
+      let o : length (cut .front) + 0 ≡ m .object = omega (arith, cut .size) in
+      let b : getD (streakOf (front ++ rest)) (m .object) 0 ≡ groupCount (cut .front) + getD (groupNumbers marks) 0 0 = rw o at a in
+      omega (arith, b, m .streak-after)
+
+  -- the second of the two streaks
+  q : ℕ
+  q = m .streak + 1 - groupCount (cut .front)
+
+  q-is : groupCount (cut .front) + q ≡ m .streak + 1
+  unfolding q
+  q-is = omega (arith, streak-from)
+
+  length-at : (i j : ℕ) → groupCount (cut .front) + j ≡ i → getD (streakLengths (front ++ rest)) i 0 ≡ getD (groupSizes marks) j 0
+  length-at i j h = at-back (cut .front-lengths) (groupSizes marks) (streakLengths (front ++ rest)) i j (cut .lengths) (omega (arith, cut .count))
+
+  unequal : Unequal marks q
+  unequal = record {
+    some = omega (arith, q-is, streak-from);
+    inside = omega (arith, q-is, m .streak-next, ap groupCount (cut .whole), count-cut (cut .front) marks opening);
+    differs = λ d. m .streak-unequal (length-at (m .streak) (q - 1) (omega (arith, q-is, streak-from)) ∙ sym d ∙ sym (length-at (m .streak + 1) q q-is));
+  }
+
+  -- ---- (c), counted from (b)
+
+  level : PatternsCut (front ++ rest) (groupCount (cut .front) + q) (backMarks marks q) (backFirsts marks q) (backFlags marks types q)
+  level = patterns-cut cut q unequal
+
+  pattern-from : groupCount (level .front) ≤ m .pattern
+  pattern-from =
+      let s : Split (groupNumbers (patternsOpen (front ++ rest))) (length (level .front)) (groupCount (level .front)) (groupNumbers (backMarks marks q)) =
+      rw (level .whole) (split-numbers (level .front) (backMarks marks q) (level .opening)) in
+      let l : 0 < length (groupNumbers (backMarks marks q)) =
+      omega (arith, length-numbers (backMarks marks q), length-patternsOpen (front ++ rest), ap length (level .whole), length-append (level .front) (backMarks marks q), level .size, q-is, m .streak-next) in
+      let a : getD (groupNumbers (patternsOpen (front ++ rest))) (length (level .front) + 0) 0 ≡ groupCount (level .front) + getD (groupNumbers (backMarks marks q)) 0 0 = split-at s 0 l in
+      let o : length (level .front) + 0 ≡ m .streak + 1 = omega (arith, level .size, q-is) in
+      let b : getD (groupNumbers (patternsOpen (front ++ rest))) (m .streak + 1) 0 ≡ groupCount (level .front) + getD (groupNumbers (backMarks marks q)) 0 0 = rw o at a in
+      omega (arith, b, m .pattern-from)
+
+  -- the first of the two patterns
+  p : ℕ
+  p = m .pattern - groupCount (level .front)
+
+  p-is : groupCount (level .front) + p ≡ m .pattern
+  unfolding p
+  p-is = omega (arith, pattern-from)
+
+  flag-at : (i j : ℕ) → groupCount (level .front) + j ≡ i → getD (coupledPatterns (front ++ rest)) i 0 ≡ getD (backFlags marks types q) j 0
+  flag-at i j h = at-back (level .front-flags) (backFlags marks types q) (coupledPatterns (front ++ rest)) i j (level .flags-whole) (omega (arith, level .count-flags))
+
+  uncoupled : Uncoupled marks types q p
+  uncoupled = record {
+    inside = omega (arith, p-is, m .pattern-next, ap groupCount (level .whole), count-cut (level .front) (backMarks marks q) (level .opening));
+    this = sym (flag-at (m .pattern) p p-is) ∙ m .pattern-uncoupled;
+    next = sym (flag-at (m .pattern + 1) (p + 1) (omega (arith, p-is))) ∙ m .next-uncoupled;
+  }
+
+  -- ---- the cut at the landmark
+
+  here : Parted (front ++ rest) (back unequal uncoupled)
+  here = parted unequal uncoupled cut
+
+  second-below : length (here .hits) ≡ m .pattern + 2
+  unfolding here level
+  second-below = omega (arith, parted-patterns unequal uncoupled cut, p-is)
+
+  -- it stands where the landmark does: the second pattern's last object is before it, and no object between
+  last-before : m .last < length (here .streaks)
+  last-before = by (ltb (m .last) (length (here .streaks))) refl
+    where
+      by : (b : Bool) → ltb (m .last) (length (here .streaks)) ≡ b → m .last < length (here .streaks)
+      by true h = ltb-true (m .last) (length (here .streaks)) h
+      by false h =
+          let l : length (here .streaks) ≤ m .last = ltb-false (m .last) (length (here .streaks)) h in
+          let j : ℕ = m .last - length (here .streaks) in
+          let o : length (here .streaks) + j ≡ m .last = omega arith in
+          let i : j < length (backPattern (back unequal uncoupled)) = omega (arith, objects-back here, m .last-there, split-length (patterns-split here), length-patternOf (front ++ rest)) in
+          let v : getD (patternOf (front ++ rest)) (m .last) 0 ≡ length (here .hits) + getD (backPattern (back unequal uncoupled)) j 0 = rw o at (split-at (patterns-split here) j i) in
+          absurd (omega (arith, v, second-below, m .last-of-second))
+
+  none-between : m .last + 1 < length (here .streaks) → ⊥
+  none-between h =
+      let i : ℕ = length (here .streaks) - 1 in
+      let t : i < length (front ++ rest) = omega (arith, objects-back here) in
+      let a = split-before (patterns-split here) i (omega arith) in
+      let b = pattern-rises (front ++ rest) (m .last) i (omega arith) t in
+      m .last-is-last i (omega arith) t (omega (arith, a, b, second-below, m .last-of-second))
+
+  position-is : length (here .streaks) ≡ position
+  position-is = by (ltb (m .last + 1) (length (here .streaks))) refl
+    where
+      by : (b : Bool) → ltb (m .last + 1) (length (here .streaks)) ≡ b → length (here .streaks) ≡ position
+      by true h = absurd (none-between (ltb-true (m .last + 1) (length (here .streaks)) h))
+      by false h = omega (arith, ltb-false (m .last + 1) (length (here .streaks)) h, last-before, m .just-after)
+
+  -- at least three objects stand between (a) and the landmark: one of the first streak of (b), and one of each pattern of (c)
+  three-between : length front + 3 ≤ position
+  unfolding here
+  three-between =
+      omega (
+        arith,
+        position-is,
+        parted-objects unequal uncoupled cut,
+        streak-cut unequal uncoupled .count,
+        count-le (streak-cut unequal uncoupled .front),
+        pattern-cut unequal uncoupled .count,
+        count-le (pattern-cut unequal uncoupled .front),
+        unequal .some,
+      )
+
+  -- ---- another chart, with other objects before (a) and the same marks behind it
+
+  module _ (front′ : List ℕ) (same : streakMarksAfter front′ rest ≡ streakMarksAfter front rest) where
+    there : Parted (front′ ++ rest) (back unequal uncoupled)
+    unfolding marks types
+    there = parted unequal uncoupled (streaks-cut front′ rest marks same opening)
+
+    position-there : length (there .streaks) + length front ≡ position + length front′
+    unfolding marks types there here cut
+    position-there =
+        omega (arith, position-is, parted-objects unequal uncoupled cut, parted-objects unequal uncoupled (streaks-cut front′ rest marks same opening))
+
+    seam-agree : (limit position′ : ℕ) → position′ + length front ≡ position + length front′ → Agreement limit (front ++ rest) position (front′ ++ rest) position′
+    seam-agree limit position′ h =
+        let a : length (there .streaks) ≡ position′ = omega (arith, position-there) in
+        record {
+          before = groupCount (here .hits);
+          before′ = groupCount (there .hits);
+          agree =
+              subst₂ (λ (i j : ℕ). Agree limit (front ++ rest) i (groupCount (here .hits)) (front′ ++ rest) j (groupCount (there .hits))) position-is a
+              (parted-agree limit here there);
+        }
+
+-- ---- where a landmark stands
+
+three-after : {kinds : List ℕ} {m position : ℕ} (x : Landmark kinds m position) → x .object + 3 ≤ position
+three-after {kinds} {m} {position} x =
+    let o : ℕ = x .object in
+    let l : length (take o kinds) ≡ o = length-take-le o kinds (omega (arith, x .object-there)) in
+    subst (λ (l : List ℕ). (k : Landmark l m position) → k .object ≡ o → o + 3 ≤ position) (take-append-drop o kinds)
+    (λ k e. omega (arith, three-between (take o kinds) (drop o kinds) k (e ∙ sym l), l)) x refl
+
+-- at least four objects of the tail stand before it: behind it an object's idx is at least 4 in every chart, and object idx − 2 is of the tail
+pub landmark-late : {kinds : List ℕ} {m position : ℕ} → Landmark kinds m position → length kinds + 4 ≤ position + m
+landmark-late x = omega (arith, three-after x, x .note-before, x .note-of-tail)
+
+pub landmark-within : {kinds : List ℕ} {m position : ℕ} → Landmark kinds m position → position ≤ length kinds
+landmark-within x = omega (arith, x .just-after, x .last-there)
+
+-- ---- a chart that ends in `tail`, with a landmark `offset` objects into it
+
+module _ (pre tail : List ℕ) (offset : ℕ) (m : Landmark (pre ++ tail) (length tail) (length pre + offset)) where
+  -- how many objects of the tail stand before the object of (a)
+  lead : ℕ
+  lead = m .object - length pre
+
+  lead-is : length pre + lead ≡ m .object
+  unfolding lead
+  lead-is = omega (arith, m .note-before, m .note-of-tail, length-append pre tail)
+
+  lead-le : lead ≤ length tail
+  lead-le = omega (arith, lead-is, m .object-there, length-append pre tail)
+
+  note-in : HasNote (take lead tail)
+  note-in = record {
+    place = m .note - length pre;
+    inside = omega (arith, inside, length-take-le lead tail lead-le);
+    note = ap isNote (getD-take lead tail (m .note - length pre) 0 inside ∙ sym (at-back pre tail (pre ++ tail) (m .note) (m .note - length pre) refl from)) ∙ m .note-is;
+  }
+    where
+      from : m .note ≡ length pre + (m .note - length pre)
+      from = omega (arith, m .note-of-tail, length-append pre tail)
+
+      inside : m .note - length pre < lead
+      inside = omega (arith, lead-is, m .note-before, from)
+
+  fronts : (before : List ℕ) → length (before ++ take lead tail) ≡ length before + lead
+  fronts before = omega (arith, length-append before (take lead tail), length-take-le lead tail lead-le)
+
+  parts : (before : List ℕ) → before ++ tail ≡ (before ++ take lead tail) ++ drop lead tail
+  parts before = ap (λ (l : List ℕ). before ++ l) (sym (take-append-drop lead tail)) ∙ sym (append-assoc before (take lead tail) (drop lead tail))
+
+  -- what follows from a landmark of a chart that is cut before the object of (a) holds of this one
+  at-seam : (Q : List ℕ → Type 0)
+      → ((k : Landmark ((pre ++ take lead tail) ++ drop lead tail) (length tail) (length pre + offset)) → k .object ≡ length (pre ++ take lead tail)
+      → Q ((pre ++ take lead tail) ++ drop lead tail))
+      → Q (pre ++ tail)
+  at-seam Q f =
+      subst (λ (l : List ℕ). (k : Landmark l (length tail) (length pre + offset)) → k .object ≡ length (pre ++ take lead tail) → Q l) (sym (parts pre)) f m
+      (sym lead-is ∙ sym (fronts pre))
+
+  agreement : (limit : ℕ) (pre′ : List ℕ) → Agreement limit (pre ++ tail) (length pre + offset) (pre′ ++ tail) (length pre′ + offset)
+  agreement limit pre′ =
+      at-seam (λ (l : List ℕ). Agreement limit l (length pre + offset) (pre′ ++ tail) (length pre′ + offset))
+      (λ k e. rw (parts pre′)
+      (seam-agree (pre ++ take lead tail) (drop lead tail) k e (pre′ ++ take lead tail) (streakMarks-agree pre′ pre (take lead tail) (drop lead tail) note-in)
+      limit (length pre′ + offset) (omega (arith, fronts pre, fronts pre′))))
+
+-- ---- the theorem
+
+-- two charts end in `tail`, and one of them has a landmark `offset` objects into it
+pub tails-agree : (limit : ℕ) (pre pre′ tail : List ℕ) (offset : ℕ)
+    → Landmark (pre ++ tail) (length tail) (length pre + offset) ⊎ Landmark (pre′ ++ tail) (length tail) (length pre′ + offset)
+    → Agreement limit (pre ++ tail) (length pre + offset) (pre′ ++ tail) (length pre′ + offset)
+tails-agree limit pre pre′ tail offset (inl m) = agreement pre tail offset m limit pre′
+tails-agree limit pre pre′ tail offset (inr m) = agreement-sym (agreement pre′ tail offset m limit pre)
+
+-- the last m kinds of two charts are alike, and one of them has a landmark; the two positions are equally far from the charts' ends
+pub colour-agree : (limit : ℕ) (kinds kinds′ : List ℕ) (m position position′ : ℕ) → m ≤ length kinds → m ≤ length kinds′
+    → drop (length kinds - m) kinds ≡ drop (length kinds′ - m) kinds′ → length kinds + position′ ≡ length kinds′ + position
+    → Landmark kinds m position ⊎ Landmark kinds′ m position′ → Agreement limit kinds position kinds′ position′
+colour-agree limit kinds kinds′ m position position′ f f′ alike far x =
+    transport (λ i. Landmark (whole i) (size i) (place i) ⊎ Landmark (whole′ i) (size i) (place′ i) → Agreement limit (whole i) (place i) (whole′ i) (place′ i))
+    (tails-agree limit (take (length kinds - m) kinds) (take (length kinds′ - m) kinds′) (drop (length kinds - m) kinds) (position + m - length kinds)) x
+  where
+    from : length kinds ≤ position + m
+    from = ⊎-elim (λ y. omega (arith, landmark-late y)) (λ y. omega (arith, landmark-late y)) x
+
+    whole : take (length kinds - m) kinds ++ drop (length kinds - m) kinds ≡ kinds
+    whole = take-append-drop (length kinds - m) kinds
+
+    whole′ : take (length kinds′ - m) kinds′ ++ drop (length kinds - m) kinds ≡ kinds′
+    whole′ = ap (λ (l : List ℕ). take (length kinds′ - m) kinds′ ++ l) alike ∙ take-append-drop (length kinds′ - m) kinds′
+
+    size : length (drop (length kinds - m) kinds) ≡ m
+    size = omega (arith, length-drop (length kinds - m) kinds)
+
+    place : length (take (length kinds - m) kinds) + (position + m - length kinds) ≡ position
+    place = omega (arith, length-take-le (length kinds - m) kinds (omega arith), from)
+
+    place′ : length (take (length kinds′ - m) kinds′) + (position + m - length kinds) ≡ position′
+    place′ = omega (arith, length-take-le (length kinds′ - m) kinds′ (omega arith), from)
