@@ -1,6 +1,5 @@
--- What agreement says is the same read from either chart; and two objects behind a landmark are of one hit pattern exactly where their counterparts are.
+-- What agreement says is the same read from either chart.
 use mathlib.Core.Path.{_≡_, sym}
-use mathlib.Core.Logic.{_↔_}
 use mathlib.Core.List.{List}
 use Prim.Native.Nat.{ℕ, _+_, _<_}
 use native.Mathlib.Omega.{arith}
@@ -29,11 +28,6 @@ module _ {limit : ℕ} {kinds : List ℕ} {a g : ℕ} {kinds′ : List ℕ} {b h
     where
       other : (j : ℕ) → b + j < length kinds′ → a + j < length kinds
       other j l = omega (arith, r .objects)
-
-  -- the two hit patterns hold the same objects
-  pub same-objects : (i j : ℕ) → a + i < length kinds → a + j < length kinds
-      → (getD (hitOf kinds) (a + i) 0 ≡ getD (hitOf kinds) (a + j) 0) ↔ (getD (hitOf kinds′) (b + i) 0 ≡ getD (hitOf kinds′) (b + j) 0)
-  same-objects i j l m = (λ e. omega (arith, r .hit i l, r .hit j m), λ e. omega (arith, r .hit i l, r .hit j m))
 
 pub agreement-sym : {limit : ℕ} {kinds : List ℕ} {a : ℕ} {kinds′ : List ℕ} {b : ℕ} → Agreement limit kinds a kinds′ b → Agreement limit kinds′ b kinds a
 agreement-sym r = record { before = r .before′; before′ = r .before; agree = agree-sym (r .agree) }

@@ -9,8 +9,9 @@ use Rattle.grouping_chart.specs.Object.{isNote, notes, noteIdx, noteBefore, pre
 use Rattle.grouping_color.specs.MonoStreak.{continues, opensStreak, streakMarks, streakOf, streakLengths, streakTypes}
 use Rattle.grouping_color.specs.AlternatingMonoPattern.{opensPattern, patternMarks, coupledAt, coupled}
 use Rattle.grouping_color.specs.Preprocessor.{patternsOpen, firstLengths, streakCounts, patternTypes, coupledPatterns, patternOf}
-use Rattle.agreement.specs.colour.Landmark.{Landmark}
-use Rattle.agreement.specs.colour.LandmarkTest.{anyBelow, allTrue, objectServes, streakServes, patternServes, endsAt, landmarkBy, isLandmark, landmarksBelow, landmarks}
+use Rattle.agreement.specs.colour.Landmark.{ColourLandmark}
+use Rattle.agreement.specs.Tests.{allTrue, anyBelow}
+use Rattle.agreement.specs.colour.LandmarkTest.{levelsOf, tailNoteBefore, objectServes, streakServes, patternServes, endsAt, patternFound, streakFound, landmarkFound, isLandmark, landmarksBelow, landmarks}
 use Rattle.agreement.proofs.colour.LandmarkLaws.{test-landmark}
 
 record Example : Type 0 where
@@ -42,10 +43,10 @@ examples =
 -- every chart of the list comes out as it says
 examples-right : map (λ (e : Example). landmarks (e .before ++ e .tail) (length (e .tail))) examples
     ≡ map (λ (e : Example). map (λ (offset : ℕ). length (e .before) + offset) (e .offsets)) examples
-unfolding examples landmarks landmarksBelow scan after tabulate gathered opened groupCount groupNumbers sizesFrom groupSizes firstsFrom groupFirsts isNote notes noteIdx noteBefore previousNote continues opensStreak streakMarks streakOf streakLengths streakTypes opensPattern patternMarks coupledAt coupled patternsOpen firstLengths streakCounts patternTypes patternOf coupledPatterns anyBelow allTrue objectServes streakServes patternServes endsAt landmarkBy isLandmark
+unfolding examples landmarks landmarksBelow scan after tabulate gathered opened groupCount groupNumbers sizesFrom groupSizes firstsFrom groupFirsts isNote notes noteIdx noteBefore previousNote continues opensStreak streakMarks streakOf streakLengths streakTypes opensPattern patternMarks coupledAt coupled patternsOpen firstLengths streakCounts patternTypes patternOf coupledPatterns anyBelow allTrue levelsOf tailNoteBefore objectServes streakServes patternServes endsAt patternFound streakFound landmarkFound isLandmark
 examples-right = refl
 
 -- so there are landmarks: d before the tail d k dd k n k d
-one-landmark : Landmark (0 ∷ (0 ∷ 1 ∷ 0 ∷ 0 ∷ 1 ∷ 2 ∷ 1 ∷ 0 ∷ [])) 8 6
-unfolding scan after tabulate gathered opened groupCount groupNumbers sizesFrom groupSizes firstsFrom groupFirsts isNote notes noteIdx noteBefore previousNote continues opensStreak streakMarks streakOf streakLengths streakTypes opensPattern patternMarks coupledAt coupled patternsOpen firstLengths streakCounts patternTypes patternOf coupledPatterns anyBelow allTrue objectServes streakServes patternServes endsAt landmarkBy isLandmark
+one-landmark : ColourLandmark (0 ∷ (0 ∷ 1 ∷ 0 ∷ 0 ∷ 1 ∷ 2 ∷ 1 ∷ 0 ∷ [])) 8 6
+unfolding scan after tabulate gathered opened groupCount groupNumbers sizesFrom groupSizes firstsFrom groupFirsts isNote notes noteIdx noteBefore previousNote continues opensStreak streakMarks streakOf streakLengths streakTypes opensPattern patternMarks coupledAt coupled patternsOpen firstLengths streakCounts patternTypes patternOf coupledPatterns anyBelow allTrue levelsOf tailNoteBefore objectServes streakServes patternServes endsAt patternFound streakFound landmarkFound isLandmark
 one-landmark = test-landmark (0 ∷ (0 ∷ 1 ∷ 0 ∷ 0 ∷ 1 ∷ 2 ∷ 1 ∷ 0 ∷ [])) 8 6 refl

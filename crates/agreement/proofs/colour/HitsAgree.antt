@@ -22,8 +22,10 @@ use Rattle.grouping_color.proofs.LengthLaws.{length-streakMarks}
 use Rattle.grouping_color.proofs.BoundLaws.{length-streakOf, length-patternsOpen, length-patternOf, streak-below, patternOf-looked}
 use Rattle.grouping_color.proofs.MadeLaws.{streakOf-made}
 use Rattle.grouping_color.proofs.StreakCutLaws.{HasNote, streakMarksAfter, streakMarks-cut, streakMarks-agree}
-use Rattle.agreement.specs.colour.Landmark.{Landmark}
+use Rattle.agreement.specs.CommonTail.{Counterparts, lastOf, SameLast}
+use Rattle.agreement.specs.colour.Landmark.{ColourLandmark}
 use Rattle.agreement.specs.colour.Agreement.{Agree, Agreement}
+use Rattle.agreement.proofs.colour.RiseLaws.{pattern-rises}
 use Rattle.agreement.proofs.colour.AgreementLaws.{agreement-sym}
 use Rattle.agreement.proofs.colour.PartLaws.{Parted, backPattern, patterns-split, objects-back, parted-agree}
 use Rattle.agreement.proofs.colour.LevelLaws.{StreaksCut, streaks-cut, Unequal, PatternsCut, patterns-cut, backMarks, backFirsts, backFlags, Uncoupled, back, streak-cut, pattern-cut, parted, parted-objects, parted-patterns}
@@ -32,18 +34,9 @@ use Rattle.agreement.proofs.colour.LevelLaws.{StreaksCut, streaks-cut, 
 at-back : (front tail : List ℕ) (xs : List ℕ) (i j : ℕ) → xs ≡ front ++ tail → i ≡ length front + j → getD xs i 0 ≡ getD tail j 0
 at-back front tail xs i j e f = (λ k. getD (e k) (f k) 0) ∙ getD-append-add front tail j 0
 
--- the objects' patterns never fall
-pattern-rises : (kinds : List ℕ) (i j : ℕ) → i ≤ j → j < length kinds → getD (patternOf kinds) i 0 ≤ getD (patternOf kinds) j 0
-pattern-rises kinds i j l h = rw (← patternOf-looked kinds) (
-    let a = getD-gathered (groupNumbers (patternsOpen kinds)) (streakOf kinds) i (omega (arith, length-streakOf kinds)) in
-    let b = getD-gathered (groupNumbers (patternsOpen kinds)) (streakOf kinds) j (omega (arith, length-streakOf kinds)) in
-    let r : getD (streakOf kinds) i 0 ≤ getD (streakOf kinds) j 0 = rw (streakOf-made kinds) (numbers-rise (streakMarks kinds) i j l (omega (arith, length-streakMarks kinds))) in
-    let s = numbers-rise (patternsOpen kinds) (getD (streakOf kinds) i 0) (getD (streakOf kinds) j 0) r (omega (arith, streak-below kinds j h, length-patternsOpen kinds)) in
-    omega (arith, a, b, s))
-
 -- ---- a landmark of a chart that is cut before the object of (a)
 
-module _ (front rest : List ℕ) {n position : ℕ} (m : Landmark (front ++ rest) n position) (e : m .object ≡ length front) where
+module _ (front rest : List ℕ) {n position : ℕ} (m : ColourLandmark (front ++ rest) n position) (e : m .object ≡ length front) where
   marks : List ℕ
   marks = streakMarksAfter front rest
 
@@ -204,23 +197,23 @@ module _ (front rest : List ℕ) {n position : ℕ} (m : Landmark (front ++ rest
 
 -- ---- where a landmark stands
 
-three-after : {kinds : List ℕ} {m position : ℕ} (x : Landmark kinds m position) → x .object + 3 ≤ position
+three-after : {kinds : List ℕ} {m position : ℕ} (x : ColourLandmark kinds m position) → x .object + 3 ≤ position
 three-after {kinds} {m} {position} x =
     let o : ℕ = x .object in
     let l : length (take o kinds) ≡ o = length-take-le o kinds (omega (arith, x .object-there)) in
-    subst (λ (l : List ℕ). (k : Landmark l m position) → k .object ≡ o → o + 3 ≤ position) (take-append-drop o kinds)
+    subst (λ (l : List ℕ). (k : ColourLandmark l m position) → k .object ≡ o → o + 3 ≤ position) (take-append-drop o kinds)
     (λ k e. omega (arith, three-between (take o kinds) (drop o kinds) k (e ∙ sym l), l)) x refl
 
 -- at least four objects of the tail stand before it: behind it an object's idx is at least 4 in every chart, and object idx − 2 is of the tail
-pub landmark-late : {kinds : List ℕ} {m position : ℕ} → Landmark kinds m position → length kinds + 4 ≤ position + m
+pub landmark-late : {kinds : List ℕ} {m position : ℕ} → ColourLandmark kinds m position → length kinds + 4 ≤ position + m
 landmark-late x = omega (arith, three-after x, x .note-before, x .note-of-tail)
 
-pub landmark-within : {kinds : List ℕ} {m position : ℕ} → Landmark kinds m position → position ≤ length kinds
+pub landmark-within : {kinds : List ℕ} {m position : ℕ} → ColourLandmark kinds m position → position ≤ length kinds
 landmark-within x = omega (arith, x .just-after, x .last-there)
 
 -- ---- a chart that ends in `tail`, with a landmark `offset` objects into it
 
-module _ (pre tail : List ℕ) (offset : ℕ) (m : Landmark (pre ++ tail) (length tail) (length pre + offset)) where
+module _ (pre tail : List ℕ) (offset : ℕ) (m : ColourLandmark (pre ++ tail) (length tail) (length pre + offset)) where
   -- how many objects of the tail stand before the object of (a)
   lead : ℕ
   lead = m .object - length pre
@@ -253,11 +246,11 @@ module _ (pre tail : List ℕ) (offset : ℕ) (m : Landmark (pre ++ tail) (lengt
 
   -- what follows from a landmark of a chart that is cut before the object of (a) holds of this one
   at-seam : (Q : List ℕ → Type 0)
-      → ((k : Landmark ((pre ++ take lead tail) ++ drop lead tail) (length tail) (length pre + offset)) → k .object ≡ length (pre ++ take lead tail)
+      → ((k : ColourLandmark ((pre ++ take lead tail) ++ drop lead tail) (length tail) (length pre + offset)) → k .object ≡ length (pre ++ take lead tail)
       → Q ((pre ++ take lead tail) ++ drop lead tail))
       → Q (pre ++ tail)
   at-seam Q f =
-      subst (λ (l : List ℕ). (k : Landmark l (length tail) (length pre + offset)) → k .object ≡ length (pre ++ take lead tail) → Q l) (sym (parts pre)) f m
+      subst (λ (l : List ℕ). (k : ColourLandmark l (length tail) (length pre + offset)) → k .object ≡ length (pre ++ take lead tail) → Q l) (sym (parts pre)) f m
       (sym lead-is ∙ sym (fronts pre))
 
   agreement : (limit : ℕ) (pre′ : List ℕ) → Agreement limit (pre ++ tail) (length pre + offset) (pre′ ++ tail) (length pre′ + offset)
@@ -270,34 +263,39 @@ module _ (pre tail : List ℕ) (offset : ℕ) (m : Landmark (pre ++ tail) (lengt
 -- ---- the theorem
 
 -- two charts end in `tail`, and one of them has a landmark `offset` objects into it
-pub tails-agree : (limit : ℕ) (pre pre′ tail : List ℕ) (offset : ℕ)
-    → Landmark (pre ++ tail) (length tail) (length pre + offset) ⊎ Landmark (pre′ ++ tail) (length tail) (length pre′ + offset)
+pub same-tail-agree : (limit : ℕ) (pre pre′ tail : List ℕ) (offset : ℕ)
+    → ColourLandmark (pre ++ tail) (length tail) (length pre + offset) ⊎ ColourLandmark (pre′ ++ tail) (length tail) (length pre′ + offset)
     → Agreement limit (pre ++ tail) (length pre + offset) (pre′ ++ tail) (length pre′ + offset)
-tails-agree limit pre pre′ tail offset (inl m) = agreement pre tail offset m limit pre′
-tails-agree limit pre pre′ tail offset (inr m) = agreement-sym (agreement pre′ tail offset m limit pre)
+same-tail-agree limit pre pre′ tail offset (inl m) = agreement pre tail offset m limit pre′
+same-tail-agree limit pre pre′ tail offset (inr m) = agreement-sym (agreement pre′ tail offset m limit pre)
 
--- the last m kinds of two charts are alike, and one of them has a landmark; the two positions are equally far from the charts' ends
-pub colour-agree : (limit : ℕ) (kinds kinds′ : List ℕ) (m position position′ : ℕ) → m ≤ length kinds → m ≤ length kinds′
-    → drop (length kinds - m) kinds ≡ drop (length kinds′ - m) kinds′ → length kinds + position′ ≡ length kinds′ + position
-    → Landmark kinds m position ⊎ Landmark kinds′ m position′ → Agreement limit kinds position kinds′ position′
-colour-agree limit kinds kinds′ m position position′ f f′ alike far x =
-    transport (λ i. Landmark (whole i) (size i) (place i) ⊎ Landmark (whole′ i) (size i) (place′ i) → Agreement limit (whole i) (place i) (whole′ i) (place′ i))
-    (tails-agree limit (take (length kinds - m) kinds) (take (length kinds′ - m) kinds′) (drop (length kinds - m) kinds) (position + m - length kinds)) x
+-- the last m kinds of two charts are alike, and one of them has a landmark; the two positions are counterparts
+pub colour-agree : (limit : ℕ) (kinds kinds′ : List ℕ) (m position position′ : ℕ) → SameLast m kinds kinds′ → Counterparts (length kinds) (length kinds′) position position′
+    → ColourLandmark kinds m position ⊎ ColourLandmark kinds′ m position′ → Agreement limit kinds position kinds′ position′
+colour-agree limit kinds kinds′ m position position′ s far x =
+    transport (λ i. ColourLandmark (whole i) (size i) (place i) ⊎ ColourLandmark (whole′ i) (size i) (place′ i) → Agreement limit (whole i) (place i) (whole′ i) (place′ i))
+    (same-tail-agree limit front front′ (lastOf m kinds) (position + m - length kinds)) x
   where
+    front : List ℕ
+    front = take (length kinds - m) kinds
+
+    front′ : List ℕ
+    front′ = take (length kinds′ - m) kinds′
+
     from : length kinds ≤ position + m
     from = ⊎-elim (λ y. omega (arith, landmark-late y)) (λ y. omega (arith, landmark-late y)) x
 
-    whole : take (length kinds - m) kinds ++ drop (length kinds - m) kinds ≡ kinds
+    whole : front ++ lastOf m kinds ≡ kinds
     whole = take-append-drop (length kinds - m) kinds
 
-    whole′ : take (length kinds′ - m) kinds′ ++ drop (length kinds - m) kinds ≡ kinds′
-    whole′ = ap (λ (l : List ℕ). take (length kinds′ - m) kinds′ ++ l) alike ∙ take-append-drop (length kinds′ - m) kinds′
+    whole′ : front′ ++ lastOf m kinds ≡ kinds′
+    whole′ = ap (λ (l : List ℕ). front′ ++ l) (s .alike) ∙ take-append-drop (length kinds′ - m) kinds′
 
-    size : length (drop (length kinds - m) kinds) ≡ m
-    size = omega (arith, length-drop (length kinds - m) kinds)
+    size : length (lastOf m kinds) ≡ m
+    size = omega (arith, length-drop (length kinds - m) kinds, s .inside)
 
-    place : length (take (length kinds - m) kinds) + (position + m - length kinds) ≡ position
-    place = omega (arith, length-take-le (length kinds - m) kinds (omega arith), from)
+    place : length front + (position + m - length kinds) ≡ position
+    place = omega (arith, length-take-le (length kinds - m) kinds (omega arith), from, s .inside)
 
-    place′ : length (take (length kinds′ - m) kinds′) + (position + m - length kinds) ≡ position′
-    place′ = omega (arith, length-take-le (length kinds′ - m) kinds′ (omega arith), from)
+    place′ : length front′ + (position + m - length kinds) ≡ position′
+    place′ = omega (arith, length-take-le (length kinds′ - m) kinds′ (omega arith), from, s .inside′)

@@ -1,63 +1,88 @@
--- The rhythm half of demand 3 over the call rhythm: what it writes for a note is the number of its group, and those numbers differ by a constant from the note before a landmark on.
-use mathlib.Core.Path.{_≡_, sym, _∙_}
+-- The rhythm half over the call rhythm: what it writes for a note is the number of the note's group, so that what is claimed of the groups is claimed of what it writes.
+use mathlib.Core.Path.{_≡_, refl, ap, _∙_}
 use mathlib.Core.Logic.{_⊎_}
-use Prim.Native.Nat.{ℕ, _-_, _<_}
+use mathlib.Core.Bool.{Bool, true, false, cond}
+use mathlib.Core.List.{List, []}
+use Prim.Native.Nat.{ℕ, zero, suc, _+_, _<_}
 use native.Mathlib.Omega.{arith}
-use lib.ListN.{length, getD}
-use Rattle.grouping_chart.specs.Object.{noteIdx}
-use Rattle.grouping_chart.specs.Notes.{noteDeltas}
-use Rattle.grouping_chart.specs.Chart.{Chart}
+use lib.ListN.{length, take, drop, getD}
+use Rattle.grouping_marks.specs.Scan.{gathered}
+use Rattle.grouping_marks.specs.Marks.{groupNumbers}
+use Rattle.grouping_marks.proofs.FillLaws.{getD-gathered}
+use Rattle.grouping_chart.specs.Object.{isNote, notes, noteIdx}
+use Rattle.grouping_chart.specs.Notes.{notesFrom, noteObjects}
+use Rattle.grouping_chart.specs.Chart.{Chart, size}
 use Rattle.grouping_chart.specs.Settings.{Settings}
 use Rattle.grouping_chart.specs.declared.chart.Verdict.the-variants.{Accepted}
 use Rattle.grouping_chart.proofs.AcceptedLaws.{accepted-good}
-use Rattle.grouping_chart.proofs.NoteLaws.{length-note-objects, length-note-deltas, note-within}
+use Rattle.grouping_chart.proofs.ObjectLaws.{seen₀, seenAfter, seenAfter-take, seenNext-notes, seen-count, notes-few}
+use Rattle.grouping_chart.proofs.NoteLaws.{length-note-objects, length-note-deltas, objects-all, objects-at, objects-over}
+use Rattle.grouping_chart.proofs.CutLaws.{note-number}
+use Rattle.grouping_interval.specs.IntervalGrouping.{intervalMarks}
 use Rattle.grouping_rhythm.specs.Rhythm.{Memory, judged, rhythmOutcome}
 use Rattle.grouping_rhythm.proofs.RhythmLaws.{group-written}
-use Rattle.agreement.specs.CommonTail.{Counterparts, CommonTail}
-use Rattle.agreement.specs.rhythm.Claim.{groupAt, tailNotes}
+use Rattle.agreement.specs.CommonTail.{Counterparts, SameLast}
 use Rattle.agreement.specs.rhythm.Landmark.{RhythmLandmark}
-use Rattle.agreement.proofs.rhythm.NoteLaws.{same-kind, note-counterparts}
-use Rattle.agreement.proofs.rhythm.Claimed.{chart-numbers, share-group}
-use Rattle.agreement.specs.TailAgreement.{AlikeTails}
-use Rattle.agreement.specs.rhythm.Calls.{TailNote, RhythmCallClaim}
+use Rattle.agreement.specs.rhythm.Claim.{deltasOf, noteCount, tailNotes}
+use Rattle.agreement.specs.rhythm.Calls.{RhythmCallClaim}
+use Rattle.agreement.proofs.GroupLaws.{SameNumbers, groups-alike}
+use Rattle.agreement.proofs.rhythm.Claimed.{chart-claim}
 
-module _ (s : Settings) (c c′ : Chart) (lent lent′ : Memory) (m : ℕ) (x : judged c lent ≡ Accepted) (x′ : judged c′ lent′ ≡ Accepted)
-    (t : AlikeTails c c′ m) where
-  tail : CommonTail m (c .kinds) (c .deltas) (c′ .kinds) (c′ .deltas)
-  tail = record {
-    whole = accepted-good c _ x .lengths .delta;
-    whole′ = accepted-good c′ _ x′ .lengths .delta;
-    inside = t .inside;
-    inside′ = t .inside′;
-    kinds-alike = t .kinds;
-    values-alike = t .deltas;
-  }
+-- ---- the object of note number j is a note, and its number is j
 
-  module _ (i i′ : ℕ) (d : Counterparts (noteDeltas (c .kinds) (c .deltas)) (noteDeltas (c′ .kinds) (c′ .deltas)) i i′)
-      (k : RhythmLandmark (s .margin) (noteDeltas (c .kinds) (c .deltas)) (tailNotes m (c .kinds) (c .deltas)) i
-      ⊎ RhythmLandmark (s .margin) (noteDeltas (c′ .kinds) (c′ .deltas)) (tailNotes m (c′ .kinds) (c′ .deltas)) i′) where
-    -- a note and its counterpart: what was written for both
-    module _ (o o′ : ℕ) (n : TailNote (c .kinds) m (i - 1) o) (e : Counterparts (c .kinds) (c′ .kinds) o o′) where
-      written : getD (rhythmOutcome s c lent .memory .group) o 0 ≡ groupAt (s .margin) (noteDeltas (c .kinds) (c .deltas)) (noteIdx (c .kinds) o)
-      written = group-written s c lent x o (n .there) (n .is-note)
+count-next : (ks : List ℕ) (i : ℕ) → i < length ks → length (notes (take (i + 1) ks)) ≡ cond (isNote (getD ks i 0)) (length (notes (take i ks)) + 1) (length (notes (take i ks)))
+count-next ks i h =
+    rw (← seen-count (take (i + 1) ks), ← seen-count (take i ks), seenAfter-take seen₀ ks i h) (seenNext-notes (seenAfter seen₀ (take i ks)) (getD ks i 0))
 
-      written′ : getD (rhythmOutcome s c′ lent′ .memory .group) o′ 0 ≡ groupAt (s .margin) (noteDeltas (c′ .kinds) (c′ .deltas)) (noteIdx (c′ .kinds) o′)
-      written′ = group-written s c′ lent′ x′ o′ (omega (arith, n .there)) (sym (same-kind tail o o′ (n .of-tail) (n .there) e) ∙ n .is-note)
+-- object o is the note before which j notes stand
+record NoteAt (ks : List ℕ) (j o : ℕ) : Type 0 where
+  there : o < length ks
+  is-note : isNote (getD ks o 0) ≡ true
+  before : length (notes (take o ks)) ≡ j
 
-      number-there : noteIdx (c .kinds) o < length (noteDeltas (c .kinds) (c .deltas))
-      number-there =
-          omega (arith, note-within (c .kinds) o (n .there) (n .is-note), length-note-objects (c .kinds), length-note-deltas (c .kinds) (c .deltas) (tail .whole))
+-- the j-th note from object i on, where `left` objects are left
+note-from : (ks : List ℕ) (left i : ℕ) → left + i ≡ length ks → (j : ℕ) → j < length (notesFrom i (drop i ks))
+    → NoteAt ks (length (notes (take i ks)) + j) (getD (notesFrom i (drop i ks)) j 0)
+note-from ks zero i e j h = absurd (omega (arith, ap length (objects-over ks i (omega arith))))
+note-from ks (suc left) i e j h = by (isNote (getD ks i 0)) refl j h (note-from ks left (i + 1) (omega arith))
+  where
+    within : i < length ks
+    within = omega arith
 
-      far : Counterparts (noteDeltas (c .kinds) (c .deltas)) (noteDeltas (c′ .kinds) (c′ .deltas)) (noteIdx (c .kinds) o) (noteIdx (c′ .kinds) o′)
-      far = note-counterparts tail o o′ (n .of-tail) (n .there) e (n .is-note)
+    by : (b : Bool) → isNote (getD ks i 0) ≡ b → (j : ℕ) → j < length (notesFrom i (drop i ks))
+        → ((j : ℕ) → j < length (notesFrom (i + 1) (drop (i + 1) ks)) → NoteAt ks (length (notes (take (i + 1) ks)) + j) (getD (notesFrom (i + 1) (drop (i + 1) ks)) j 0))
+        → NoteAt ks (length (notes (take i ks)) + j) (getD (notesFrom i (drop i ks)) j 0)
+    by true n zero h u = rw (objects-at ks i true within n) (record { there = within; is-note = n; before = omega arith })
+    by true n (suc j) h u =
+        let l = rw (objects-at ks i true within n) at h in
+        let x = u j (omega arith) in
+        rw (objects-at ks i true within n) (record { there = x .there; is-note = x .is-note; before = omega (arith, x .before, rw n at (count-next ks i within)) })
+    by false n j h u =
+        let x = u j (rw (objects-at ks i false within n) at h) in
+        rw (objects-at ks i false within n) (record { there = x .there; is-note = x .is-note; before = omega (arith, x .before, rw n at (count-next ks i within)) })
 
-    pub rhythm-call : RhythmCallClaim s c c′ lent lent′ m i
-    rhythm-call = record {
-      together = λ o o′ p p′ n e q f.
-          let both =
-          share-group (chart-numbers tail i i′ d k) (noteIdx (c .kinds) o) (noteIdx (c′ .kinds) o′) (noteIdx (c .kinds) p) (noteIdx (c′ .kinds) p′) (n .from) (number-there o o′ n e) (far o o′ n e)
-          (q .from) (number-there p p′ q f) (far p p′ q f) in (
-            λ z. written′ o o′ n e ∙ both .0 (sym (written o o′ n e) ∙ z ∙ written p p′ q f) ∙ sym (written′ p p′ q f),
-            λ z. written o o′ n e ∙ both .1 (sym (written′ o o′ n e) ∙ z ∙ written′ p p′ q f) ∙ sym (written p p′ q f),
-          );
-    }
+note-at : (ks : List ℕ) (j : ℕ) → j < length (noteObjects ks) → NoteAt ks j (getD (noteObjects ks) j 0)
+note-at ks j h =
+    let x = note-from ks (length ks) 0 (omega arith) j (rw (objects-all ks) at h) in
+    rw (objects-all ks) (record { there = x .there; is-note = x .is-note; before = omega (arith, x .before, notes-few []) })
+
+-- ---- the theorem
+
+-- what an accepted call writes for the notes, in order
+numbers-written : (s : Settings) (c : Chart) (lent : Memory) → judged c lent ≡ Accepted
+    → SameNumbers (noteCount c) (groupNumbers (intervalMarks (s .margin) (deltasOf c))) (gathered (rhythmOutcome s c lent .memory .group) (noteObjects (c .kinds)))
+numbers-written s c lent x j h =
+    let l : j < length (noteObjects (c .kinds)) =
+    omega (arith, length-note-objects (c .kinds), length-note-deltas (c .kinds) (c .deltas) (accepted-good c _ x .lengths .delta)) in
+    let n = note-at (c .kinds) j l in
+    let o : ℕ = getD (noteObjects (c .kinds)) j 0 in
+    getD-gathered (rhythmOutcome s c lent .memory .group) (noteObjects (c .kinds)) j l ∙ group-written s c lent x o (n .there) (n .is-note)
+    ∙ ap (λ (k : ℕ). getD (groupNumbers (intervalMarks (s .margin) (deltasOf c))) k 0) (note-number (c .kinds) o (n .is-note) ∙ n .before)
+
+pub rhythm-call : (s : Settings) (c c′ : Chart) (lent lent′ : Memory) {m : ℕ} → judged c lent ≡ Accepted → judged c′ lent′ ≡ Accepted → SameLast m (c .kinds) (c′ .kinds)
+    → SameLast m (c .deltas) (c′ .deltas) → (i i′ : ℕ) → Counterparts (noteCount c) (noteCount c′) i i′
+    → RhythmLandmark (s .margin) (deltasOf c) (tailNotes m c) i ⊎ RhythmLandmark (s .margin) (deltasOf c′) (tailNotes m c′) i′
+    → RhythmCallClaim s c c′ lent lent′ i i′
+rhythm-call s c c′ lent lent′ x x′ k d i i′ far landmark =
+    groups-alike (numbers-written s c lent x) (numbers-written s c′ lent′ x′)
+    (chart-claim (s .margin) c c′ (accepted-good c _ x .lengths .delta) (accepted-good c′ _ x′ .lengths .delta) k d i i′ far landmark)

@@ -9,15 +9,16 @@ use lib.Ieee.{Float, fin, binary64, round, sub, le, ofInt}
 use Rattle.numeric.specs.Near.{absOf, isNear}
 use Rattle.grouping_chart.specs.Object.{isNote}
 use Rattle.grouping_chart.specs.Notes.{noteDeltas}
+use Rattle.agreement.specs.Tests.{allTrue}
 use Rattle.agreement.specs.rhythm.Landmark.{RhythmLandmark, isRhythmLandmark}
 use Rattle.agreement.proofs.rhythm.LandmarkLaws.{test-landmark}
 
 -- 5.0
-margin : Float
+unfoldable pub margin : Float
 margin = fin false 5 (pos 0)
 
 -- whole numbers of milliseconds
-wholes : List ℕ → List Float
+unfoldable pub wholes : List ℕ → List Float
 wholes = map (λ (n : ℕ). ofInt binary64 (pos n))
 
 -- ---- landmarks
@@ -53,12 +54,12 @@ examples =
 
 -- every list comes out as it says
 examples-right : map (λ (e : Example). offsetsUpTo (e .before) (e .tail) (length (e .tail)) []) examples ≡ map (λ (e : Example). e .offsets) examples
-unfolding examples offsetsUpTo margin wholes isRhythmLandmark isNear absOf sub le ofInt round
+unfolding examples offsetsUpTo margin wholes isRhythmLandmark allTrue isNear absOf sub le ofInt round
 examples-right = refl
 
 -- so there are landmarks: 100 before the tail 100 100 200
 one-landmark : RhythmLandmark margin (wholes (100 ∷ (100 ∷ 100 ∷ 200 ∷ []))) 3 2
-unfolding margin wholes isRhythmLandmark isNear absOf sub le ofInt round
+unfolding margin wholes isRhythmLandmark allTrue isNear absOf sub le ofInt round
 one-landmark = test-landmark margin (wholes (100 ∷ (100 ∷ 100 ∷ 200 ∷ []))) 3 2 refl
 
 -- the deltas of the notes of d n k d

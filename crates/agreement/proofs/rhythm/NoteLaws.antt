@@ -1,72 +1,80 @@
--- A common tail of objects alike in kind and delta gives a common tail of the notes' deltas, and objects of it that are counterparts are so as notes.
+-- Two charts whose last m objects are alike in kind and delta: their notes' deltas end alike too, and objects of the tail that are counterparts are so as notes.
 use mathlib.Core.Path.{_≡_, sym, ap, _∙_}
 use mathlib.Core.Bool.{true}
 use mathlib.Core.List.{List, _++_}
 use Prim.Native.Nat.{ℕ, _+_, _-_, _≤_, _<_}
 use native.Mathlib.Omega.{arith}
-use lib.ListN.{length, take, drop, getD, length-append, take-append-drop}
+use lib.ListN.{length, take, drop, getD, length-append, length-drop, take-append-drop}
 use lib.Seq.{length-take-le, drop-at}
 use lib.Ieee.{Float}
 use Rattle.grouping_chart.specs.Object.{isNote, notes, noteIdx}
+use Rattle.grouping_chart.specs.Chart.{Chart, size}
 use Rattle.grouping_chart.specs.Notes.{noteDeltas}
 use Rattle.grouping_chart.proofs.NoteLaws.{length-note-deltas}
 use Rattle.grouping_chart.proofs.CutLaws.{note-deltas-append, notes-split, note-number}
-use Rattle.agreement.specs.CommonTail.{Counterparts, lastOf, CommonTail}
+use Rattle.agreement.specs.CommonTail.{Counterparts, lastOf, SameLast}
+use Rattle.agreement.specs.rhythm.Claim.{deltasOf, noteCount, tailNotes, SameNote}
 use Rattle.agreement.proofs.TailLaws.{same-behind, same-at}
-use Rattle.agreement.specs.rhythm.Claim.{tailNotes}
 
--- the deltas of a chart's notes end in those of its last m objects
-module _ (m : ℕ) (kinds : List ℕ) (deltas : List Float) (whole : length deltas ≡ length kinds) (fits : m ≤ length kinds) where
+-- ---- a chart's notes' deltas end in those of its last m objects
+
+module _ (m : ℕ) (c : Chart) (whole : length (c .deltas) ≡ size c) (fits : m ≤ size c) where
   front : List Float
-  front = noteDeltas (take (length kinds - m) kinds) (take (length deltas - m) deltas)
+  front = noteDeltas (take (size c - m) (c .kinds)) (take (length (c .deltas) - m) (c .deltas))
 
-  note-deltas-cut : noteDeltas kinds deltas ≡ front ++ noteDeltas (lastOf m kinds) (lastOf m deltas)
+  abbrev back : List Float
+  back = noteDeltas (lastOf m (c .kinds)) (lastOf m (c .deltas))
+
+  deltas-cut : deltasOf c ≡ front ++ back
   unfolding front
-  note-deltas-cut =
-      sym (λ i. noteDeltas (take-append-drop (length kinds - m) kinds i) (take-append-drop (length deltas - m) deltas i))
-      ∙ note-deltas-append (take (length kinds - m) kinds) (lastOf m kinds) (take (length deltas - m) deltas) (lastOf m deltas)
-      (omega (arith, length-take-le (length kinds - m) kinds (omega arith), length-take-le (length deltas - m) deltas (omega arith)))
+  deltas-cut =
+      sym (λ i. noteDeltas (take-append-drop (size c - m) (c .kinds) i) (take-append-drop (length (c .deltas) - m) (c .deltas) i))
+      ∙ note-deltas-append (take (size c - m) (c .kinds)) (lastOf m (c .kinds)) (take (length (c .deltas) - m) (c .deltas)) (lastOf m (c .deltas))
+      (omega (arith, length-take-le (size c - m) (c .kinds) (omega arith), length-take-le (length (c .deltas) - m) (c .deltas) (omega arith)))
 
-  pub notes-fit : tailNotes m kinds deltas ≤ length (noteDeltas kinds deltas)
-  unfolding tailNotes
-  notes-fit = omega (arith, ap length note-deltas-cut, length-append front (noteDeltas (lastOf m kinds) (lastOf m deltas)))
+  back-long : length back ≡ tailNotes m c
+  back-long =
+      length-note-deltas (lastOf m (c .kinds)) (lastOf m (c .deltas)) (omega (arith, length-drop (size c - m) (c .kinds), length-drop (length (c .deltas) - m) (c .deltas)))
 
-  pub notes-last : lastOf (tailNotes m kinds deltas) (noteDeltas kinds deltas) ≡ noteDeltas (lastOf m kinds) (lastOf m deltas)
-  unfolding tailNotes
+  notes-fit : tailNotes m c ≤ noteCount c
+  notes-fit = omega (arith, ap length deltas-cut, length-append front back, back-long)
+
+  notes-last : lastOf (tailNotes m c) (deltasOf c) ≡ back
   notes-last =
-      ap (λ (l : List Float). drop (length (noteDeltas kinds deltas) - length (noteDeltas (lastOf m kinds) (lastOf m deltas))) l) note-deltas-cut
-      ∙ drop-at front (noteDeltas (lastOf m kinds) (lastOf m deltas)) (length (noteDeltas kinds deltas) - length (noteDeltas (lastOf m kinds) (lastOf m deltas)))
-      (omega (arith, ap length note-deltas-cut, length-append front (noteDeltas (lastOf m kinds) (lastOf m deltas))))
+      let n : ℕ = noteCount c - tailNotes m c in
+      ap (drop n) deltas-cut ∙ drop-at front back n (omega (arith, ap length deltas-cut, length-append front back, back-long))
 
--- two charts with a common tail have a common tail of notes
-module _ {m : ℕ} {kinds : List ℕ} {deltas : List Float} {kinds′ : List ℕ} {deltas′ : List Float} (c : CommonTail m kinds deltas kinds′ deltas′) where
-  same-tail : noteDeltas (lastOf m kinds) (lastOf m deltas) ≡ noteDeltas (lastOf m kinds′) (lastOf m deltas′)
-  same-tail i = noteDeltas (c .kinds-alike i) (c .values-alike i)
+-- ---- two charts
 
-  pub same-count : tailNotes m kinds deltas ≡ tailNotes m kinds′ deltas′
-  unfolding tailNotes
-  same-count = ap length same-tail
+module _ (c c′ : Chart) {m : ℕ} (whole : length (c .deltas) ≡ size c) (whole′ : length (c′ .deltas) ≡ size c′)
+    (k : SameLast m (c .kinds) (c′ .kinds)) (d : SameLast m (c .deltas) (c′ .deltas)) where
+  pub same-count : tailNotes m c ≡ tailNotes m c′
+  same-count = ap (λ (ks : List ℕ). length (notes ks)) (k .alike)
 
-  pub notes-alike : lastOf (tailNotes m kinds deltas) (noteDeltas kinds deltas) ≡ lastOf (tailNotes m kinds deltas) (noteDeltas kinds′ deltas′)
-  notes-alike =
-      notes-last m kinds deltas (c .whole) (c .inside) ∙ same-tail ∙ sym (notes-last m kinds′ deltas′ (c .whole′) (c .inside′))
-      ∙ ap (λ (n : ℕ). lastOf n (noteDeltas kinds′ deltas′)) (sym same-count)
+  pub notes-alike : SameLast (tailNotes m c) (deltasOf c) (deltasOf c′)
+  notes-alike = record {
+    inside = notes-fit m c whole (k .inside);
+    inside′ = omega (arith, same-count, notes-fit m c′ whole′ (k .inside′));
+    alike = notes-last m c whole (k .inside) ∙ (λ i. noteDeltas (k .alike i) (d .alike i)) ∙ sym (notes-last m c′ whole′ (k .inside′))
+        ∙ ap (λ (n : ℕ). lastOf n (deltasOf c′)) (sym same-count);
+  }
 
-  -- ---- objects of the tail that are counterparts
+  module _ (o o′ : ℕ) (h : size c ≤ o + m) (l : o < size c) (e : Counterparts (size c) (size c′) o o′) where
+    same-kind : isNote (getD (c .kinds) o 0) ≡ isNote (getD (c′ .kinds) o′ 0)
+    same-kind = ap isNote (same-at k o o′ h e 0)
 
-  module _ (o o′ : ℕ) (h : length kinds ≤ o + m) (l : o < length kinds) (e : Counterparts kinds kinds′ o o′) where
-    pub same-kind : isNote (getD kinds o 0) ≡ isNote (getD kinds′ o′ 0)
-    same-kind = ap isNote (same-at kinds kinds′ m (c .inside) (c .inside′) (c .kinds-alike) o o′ h e 0)
-
-    pub note-counterparts : isNote (getD kinds o 0) ≡ true → Counterparts (noteDeltas kinds deltas) (noteDeltas kinds′ deltas′) (noteIdx kinds o) (noteIdx kinds′ o′)
+    note-counterparts : isNote (getD (c .kinds) o 0) ≡ true → Counterparts (noteCount c) (noteCount c′) (noteIdx (c .kinds) o) (noteIdx (c′ .kinds) o′)
     note-counterparts n =
         omega (
           arith,
-          note-number kinds o n,
-          note-number kinds′ o′ (sym same-kind ∙ n),
-          length-note-deltas kinds deltas (c .whole),
-          length-note-deltas kinds′ deltas′ (c .whole′),
-          notes-split kinds o,
-          notes-split kinds′ o′,
-          ap (λ (ks : List ℕ). length (notes ks)) (same-behind kinds kinds′ m (c .inside) (c .inside′) (c .kinds-alike) o o′ h e),
+          note-number (c .kinds) o n,
+          note-number (c′ .kinds) o′ (sym same-kind ∙ n),
+          length-note-deltas (c .kinds) (c .deltas) whole,
+          length-note-deltas (c′ .kinds) (c′ .deltas) whole′,
+          notes-split (c .kinds) o,
+          notes-split (c′ .kinds) o′,
+          ap (λ (ks : List ℕ). length (notes ks)) (same-behind k o o′ h e),
         )
+
+    pub same-note : SameNote c o c′ o′
+    same-note = record { both = same-kind; counterparts = note-counterparts }

@@ -13,7 +13,7 @@ use Rattle.grouping_color.specs.Preprocessor.{patternsOpen, coupledPatterns, pa
 
 -- a colour landmark of a chart with these kinds, where its last m objects are the common tail: `position` objects stand before the landmark.
 -- Objects, streaks and patterns are given by their numbers in the chart, from 0.
-pub record Landmark (kinds : List ℕ) (m position : ℕ) : Type 0 where
+pub record ColourLandmark (kinds : List ℕ) (m position : ℕ) : Type 0 where
   -- (a) the object that opens a streak, and the note before it
   pub object : ℕ
   pub object-there : object < length kinds

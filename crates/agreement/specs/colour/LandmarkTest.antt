@@ -1,6 +1,7 @@
--- The landmark of Landmark.antt as a test that computes: the object of (a) and its note, the streak of (b) and the pattern of (c) are searched for.
+-- The landmark of Landmark.antt as a test that computes: the object of (a), the streak of (b) and the pattern of (c) are searched for.
+-- What makes each of them serve is a parameter, so that other conditions can be tried.
 use Prim.Native.Nat.{ℕ, zero, suc, _+_, _-_}
-use mathlib.Core.Bool.{Bool, true, false, cond, not}
+use mathlib.Core.Bool.{Bool, cond, not}
 use mathlib.Core.List.{List, [], _∷_, _++_}
 use lib.Dec.{eqb, leb, ltb}
 use lib.ListN.{length, getD}
@@ -8,56 +9,96 @@ use Rattle.grouping_marks.specs.Marks.{groupCount, groupNumbers}
 use Rattle.grouping_chart.specs.Object.{isNote}
 use Rattle.grouping_color.specs.MonoStreak.{streakMarks, streakOf, streakLengths}
 use Rattle.grouping_color.specs.Preprocessor.{patternsOpen, coupledPatterns, patternOf}
+use Rattle.agreement.specs.Tests.{allTrue, anyBelow}
 
--- some number below n passes the test
-unfoldable pub anyBelow : ℕ → (ℕ → Bool) → Bool
-anyBelow zero test = false
-anyBelow (suc n) test = elim (test n) [ true ↦ true | false ↦ anyBelow n test ]
+-- the lists that a landmark is read from
+pub record Levels : Type 0 where
+  pub kinds : List ℕ
+  -- which objects open a streak, each object's streak, each streak's length
+  pub marks : List ℕ
+  pub streaks : List ℕ
+  pub lengths : List ℕ
+  -- which streaks open a pattern, each streak's pattern, which patterns are coupled, each object's pattern
+  pub opens : List ℕ
+  pub patterns : List ℕ
+  pub flags : List ℕ
+  pub object-patterns : List ℕ
 
--- all the tests say true
-unfoldable pub allTrue : List Bool → Bool
-allTrue [] = true
-allTrue (b ∷ bs) = cond b (allTrue bs) false
+unfoldable pub levelsOf : List ℕ → Levels
+levelsOf kinds = record {
+  kinds = kinds;
+  marks = streakMarks kinds;
+  streaks = streakOf kinds;
+  lengths = streakLengths kinds;
+  opens = patternsOpen kinds;
+  patterns = groupNumbers (patternsOpen kinds);
+  flags = coupledPatterns kinds;
+  object-patterns = patternOf kinds;
+}
 
--- (a) by the kinds and the streaks' marks
-unfoldable pub objectServes : List ℕ → List ℕ → ℕ → ℕ → Bool
-objectServes kinds marks m object =
-    allTrue (eqb (getD marks object 0) 1 ∷ anyBelow object (λ note. allTrue (isNote (getD kinds note 0) ∷ leb (length kinds) (note + m) ∷ [])) ∷ [])
+-- what makes an object serve for (a), where the last m objects are the tail; a streak for (b), by that object; a pattern for (c), by that streak
+pub record Conditions : Type 0 where
+  pub object : Levels → ℕ → ℕ → Bool
+  pub streak : Levels → ℕ → ℕ → Bool
+  pub pattern : Levels → ℕ → ℕ → Bool
 
--- (b) by the streaks' marks, each object's streak, the streaks' lengths and which of them open a pattern
-unfoldable pub streakServes : List ℕ → List ℕ → List ℕ → List ℕ → ℕ → ℕ → Bool
-streakServes marks numbers lengths opens object streak =
-    allTrue (leb (getD numbers object 0) streak ∷ ltb (streak + 1) (groupCount marks)
-    ∷ not (eqb (getD lengths streak 0) (getD lengths (streak + 1) 0)) ∷ eqb (getD opens (streak + 1) 0) 1 ∷ [])
+-- a note of the tail before the object
+unfoldable pub tailNoteBefore : Levels → ℕ → ℕ → Bool
+tailNoteBefore l m object =
+    anyBelow object (λ note. allTrue (isNote (getD (l .kinds) note 0) ∷ leb (length (l .kinds)) (note + m) ∷ []))
 
--- (c) by which streaks open a pattern, each streak's pattern and the coupled flags
-unfoldable pub patternServes : List ℕ → List ℕ → List ℕ → ℕ → ℕ → Bool
-patternServes opens groups flags streak pattern =
-    allTrue (leb (getD groups (streak + 1) 0) pattern ∷ ltb (pattern + 1) (groupCount opens) ∷ eqb (getD flags pattern 0) 0 ∷ eqb (getD flags (pattern + 1) 0) 0 ∷ [])
+unfoldable pub objectServes : Levels → ℕ → ℕ → Bool
+objectServes l m object = allTrue (eqb (getD (l .marks) object 0) 1 ∷ tailNoteBefore l m object ∷ [])
 
--- the position, by each object's pattern
-unfoldable pub endsAt : List ℕ → ℕ → ℕ → ℕ → Bool
-endsAt patterns n second position =
-    allTrue (ltb 0 position ∷ leb position n ∷ eqb (getD patterns (position - 1) 0) second
-    ∷ not (anyBelow n (λ i. allTrue (leb position i ∷ eqb (getD patterns i 0) second ∷ []))) ∷ [])
+unfoldable pub streakServes : Levels → ℕ → ℕ → Bool
+streakServes l object streak =
+    allTrue (leb (getD (l .streaks) object 0) streak
+    ∷ ltb (streak + 1) (groupCount (l .marks))
+    ∷ not (eqb (getD (l .lengths) streak 0) (getD (l .lengths) (streak + 1) 0))
+    ∷ eqb (getD (l .opens) (streak + 1) 0) 1
+    ∷ [])
 
--- by all these lists
-unfoldable pub landmarkBy : List ℕ → List ℕ → List ℕ → List ℕ → List ℕ → List ℕ → List ℕ → List ℕ → ℕ → ℕ → Bool
-landmarkBy kinds marks numbers lengths opens groups flags patterns m position =
-    anyBelow (length kinds) (λ object. allTrue (objectServes kinds marks m object
-    ∷ anyBelow (groupCount marks) (λ streak. allTrue (streakServes marks numbers lengths opens object streak
-    ∷ anyBelow (groupCount opens) (λ pattern. allTrue (patternServes opens groups flags streak pattern ∷ endsAt patterns (length kinds) (pattern + 1) position ∷ []))
-    ∷ []))
-    ∷ []))
+unfoldable pub patternServes : Levels → ℕ → ℕ → Bool
+patternServes l streak pattern =
+    allTrue (leb (getD (l .patterns) (streak + 1) 0) pattern
+    ∷ ltb (pattern + 1) (groupCount (l .opens))
+    ∷ eqb (getD (l .flags) pattern 0) 0
+    ∷ eqb (getD (l .flags) (pattern + 1) 0) 0
+    ∷ [])
 
-unfoldable pub isLandmark : List ℕ → ℕ → ℕ → Bool
-isLandmark kinds m position =
-    landmarkBy kinds (streakMarks kinds) (streakOf kinds) (streakLengths kinds) (patternsOpen kinds) (groupNumbers (patternsOpen kinds)) (coupledPatterns kinds) (patternOf kinds) m position
+-- document 01's reading
+abbrev pub plain : Conditions
+plain = record { object = objectServes; streak = streakServes; pattern = patternServes }
+
+-- the position is just after the last object of the pattern
+unfoldable pub endsAt : Levels → ℕ → ℕ → Bool
+endsAt l pattern position =
+    allTrue (ltb 0 position
+    ∷ leb position (length (l .kinds))
+    ∷ eqb (getD (l .object-patterns) (position - 1) 0) pattern
+    ∷ not (anyBelow (length (l .kinds)) (λ i. allTrue (leb position i ∷ eqb (getD (l .object-patterns) i 0) pattern ∷ [])))
+    ∷ [])
+
+-- by a pattern, by a streak and by an object
+unfoldable pub patternFound : Conditions → Levels → ℕ → ℕ → Bool
+patternFound r l position streak =
+    anyBelow (groupCount (l .opens)) (λ pattern. allTrue (r .pattern l streak pattern ∷ endsAt l (pattern + 1) position ∷ []))
+
+unfoldable pub streakFound : Conditions → Levels → ℕ → ℕ → Bool
+streakFound r l position object =
+    anyBelow (groupCount (l .marks)) (λ streak. allTrue (r .streak l object streak ∷ patternFound r l position streak ∷ []))
+
+unfoldable pub landmarkFound : Conditions → Levels → ℕ → ℕ → Bool
+landmarkFound r l m position =
+    anyBelow (length (l .kinds)) (λ object. allTrue (r .object l m object ∷ streakFound r l position object ∷ []))
+
+unfoldable pub isLandmark : Conditions → List ℕ → ℕ → ℕ → Bool
+isLandmark r kinds m position = landmarkFound r (levelsOf kinds) m position
 
 -- the positions below n at which there is a landmark, in rising order
 unfoldable pub landmarksBelow : List ℕ → ℕ → ℕ → List ℕ
 landmarksBelow kinds m zero = []
-landmarksBelow kinds m (suc n) = landmarksBelow kinds m n ++ cond (isLandmark kinds m n) (n ∷ []) []
+landmarksBelow kinds m (suc n) = landmarksBelow kinds m n ++ cond (isLandmark plain kinds m n) (n ∷ []) []
 
 -- all landmarks of a chart with these kinds, where its last m objects are the common tail
 unfoldable pub landmarks : List ℕ → ℕ → List ℕ

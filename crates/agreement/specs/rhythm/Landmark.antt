@@ -1,12 +1,13 @@
 -- Document 01, "Landmarks": "Rhythm: three neighbouring notes i − 1, i, i + 1 of the tail, the first two near in delta, the last two not; the landmark is note i."
 use Prim.Native.Nat.{ℕ, _+_, _-_, _≤_, _<_}
 use mathlib.Core.Path.{_≡_}
-use mathlib.Core.Bool.{Bool, true, false, _&&_, not}
-use mathlib.Core.List.{List}
+use mathlib.Core.Bool.{Bool, true, false, not}
+use mathlib.Core.List.{List, [], _∷_}
 use lib.Dec.{leb, ltb}
 use lib.ListN.{length, getD}
 use lib.Ieee.{Float, nan}
 use Rattle.numeric.specs.Near.{isNear}
+use Rattle.agreement.specs.Tests.{allTrue}
 
 -- note i is a rhythm landmark, where the notes have these deltas and the last t notes are those of the tail. Notes are given by their numbers, from 0.
 pub record RhythmLandmark (margin : Float) (deltas : List Float) (t i : ℕ) : Type 0 where
@@ -23,5 +24,9 @@ pub record RhythmLandmark (margin : Float) (deltas : List Float) (t i : ℕ) : T
 -- the same as a test that computes
 unfoldable pub isRhythmLandmark : Float → List Float → ℕ → ℕ → Bool
 isRhythmLandmark margin deltas t i =
-    ltb 0 i && (ltb (i + 1) (length deltas) && (leb (length deltas) (i - 1 + t)
-    && (isNear margin (getD deltas (i - 1) nan) (getD deltas i nan) && not (isNear margin (getD deltas i nan) (getD deltas (i + 1) nan)))))
+    allTrue (ltb 0 i
+    ∷ ltb (i + 1) (length deltas)
+    ∷ leb (length deltas) (i - 1 + t)
+    ∷ isNear margin (getD deltas (i - 1) nan) (getD deltas i nan)
+    ∷ not (isNear margin (getD deltas i nan) (getD deltas (i + 1) nan))
+    ∷ [])
