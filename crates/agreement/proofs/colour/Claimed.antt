@@ -49,7 +49,7 @@ module _ (s : Settings) (c c′ : Chart) {a g b h : ℕ} (r : Agree (s .limit) (
       (λ (i i′ : ℕ). i < size c → g + s .limit ≤ getD (hitOf (c .kinds)) i 0 + 1
       → getD (intervalOf (s .limit) (c .kinds)) i 0 ≡ getD (intervalOf (s .limit) (c′ .kinds)) i′ 0) (r .interval)
 
-  same-hits : SameGroups (hitPatterns c) a (hitPatterns c′) b
+  pub same-hits : SameGroups (hitPatterns c) a (hitPatterns c′) b
   same-hits = same-groups (record {
     start = r .objects;
     share = λ i i′ j j′ l k e l′ k′ e′. (
