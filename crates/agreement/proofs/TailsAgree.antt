@@ -18,6 +18,6 @@ tails-agree s c c′ beside beside′ m accepted accepted′ t =
     let long′ = accepted-good c′ beside′ accepted′ .lengths in
     record {
       colour = λ p p′ far landmark. colour-claim s c c′ (long .ratio) (long′ .ratio) (t .kinds) (t .ratios) far landmark;
-      rhythm = chart-claim (s .margin) c c′ (long .delta) (long′ .delta) (t .kinds) (t .deltas);
+      rhythm = chart-claim s c c′ (long .delta) (long′ .delta) (t .kinds) (t .deltas);
       notes = same-note c c′ (long .delta) (long′ .delta) (t .kinds) (t .deltas);
     }

@@ -4,7 +4,8 @@ use mathlib.Core.Path.{_≡_}
 use mathlib.Core.List.{List}
 use lib.ListN.{length, drop}
 
--- Number i of n and number i′ of n′ are counterparts: equally far from the two ends. For objects, notes, landmarks and the ends of stretches
+-- number i of n and number i′ of n′ are counterparts: equally far from the two ends. For objects, notes, landmarks and the
+-- ends of stretches
 abbrev pub Counterparts : ℕ → ℕ → ℕ → ℕ → Type 0
 Counterparts n n′ i i′ = n + i′ ≡ n′ + i
 
@@ -12,7 +13,7 @@ Counterparts n n′ i i′ = n + i′ ≡ n′ + i
 abbrev pub lastOf : {A : Type 0} → ℕ → List A → List A
 lastOf m xs = drop (length xs - m) xs
 
--- two lists have m items or more, and their last m are alike
+-- two lists have m items or more, and their last m are alike: equal, and so in all bits where none is a NaN
 pub record SameLast {A : Type 0} (m : ℕ) (xs ys : List A) : Type 0 where
   pub inside : m ≤ length xs
   pub inside′ : m ≤ length ys

@@ -1,4 +1,4 @@
--- The definitions of this crate. The statement whole is TailAgreement; what it is made of stands in the rooms `colour` and `rhythm`.
+-- The definitions of this crate. The claim whole is TailAgreement; its parts are in the rooms `colour` and `rhythm`.
 pub mod Tests
 pub mod CommonTail
 pub mod SameGroups

@@ -1,4 +1,5 @@
--- When two groupings agree: they open groups at the same objects, and these groups hold the same objects. For hit patterns and for rhythm groups.
+-- When two groupings agree: groups open at the same objects, and these groups hold the same objects.
+-- For hit patterns and for rhythm groups, whose objects are notes.
 use Prim.Native.Nat.{ℕ, _≤_, _<_}
 use mathlib.Core.Path.{_≡_}
 use mathlib.Core.Logic.{_↔_}
@@ -6,7 +7,7 @@ use mathlib.Core.List.{List}
 use lib.ListN.{getD}
 use Rattle.agreement.specs.CommonTail.{Counterparts}
 
--- a grouping of some objects, or notes: how many they are, and a list that begins with the number of each one's group
+-- a grouping: how many objects there are, and a list that begins with the number of each one's group
 pub record Groups : Type 0 where
   pub count : ℕ
   pub numbers : List ℕ
@@ -23,7 +24,8 @@ pub record OpensAt (g : Groups) (i : ℕ) : Type 0 where
   pub there : i < g .count
   pub first : (j : ℕ) → j < i → groupAt g j ≡ groupAt g i → ⊥
 
--- the group of object i and that of object i′ hold the same objects: each object of the one has a counterpart, and that is of the other
+-- the group of object i and that of object i′ hold the same objects: what is of the one has a counterpart, and that is of
+-- the other
 pub record SameObjects (g : Groups) (i : ℕ) (g′ : Groups) (i′ : ℕ) : Type 0 where
   pub forth : (j : ℕ) → j < g .count → groupAt g j ≡ groupAt g i
       → (j′ : ℕ) × (Counterparts (g .count) (g′ .count) j j′ × (groupAt g′ j′ ≡ groupAt g′ i′))

@@ -1,4 +1,4 @@
--- Colour: its landmarks, and what is said of hit patterns, intervals, values and stretches behind one.
+-- Colour: its landmarks, and what is claimed from one on.
 pub mod Landmark
 pub mod LandmarkTest
 pub mod Agreement

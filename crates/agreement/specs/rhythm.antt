@@ -1,4 +1,4 @@
--- Rhythm: its landmarks, and what is said of the groups of notes from one on.
+-- Rhythm: its landmarks, and what is claimed from one on.
 pub mod Landmark
 pub mod Claim
 pub mod Calls

@@ -31,8 +31,10 @@ settled-alike {p = p} {i = i} e = (
   λ x. record { after = x .after; there = x .there; late = omega (arith, x .late, e p (omega (arith, x .after, x .there)), e i (x .there)) },
 )
 
-hits-alike : {limit n n′ p p′ : ℕ} {xs ys ks ls xs′ ys′ ks′ ls′ : List ℕ} → SameNumbers n xs ys → SameNumbers n ks ls → SameNumbers n′ xs′ ys′ → SameNumbers n′ ks′ ls′
-    → HitsClaim limit (groups n xs) ks p (groups n′ xs′) ks′ p′ → HitsClaim limit (groups n ys) ls p (groups n′ ys′) ls′ p′
+hits-alike : {limit n n′ p p′ : ℕ} {xs ys ks ls xs′ ys′ ks′ ls′ : List ℕ} → SameNumbers n xs ys → SameNumbers n ks ls
+    → SameNumbers n′ xs′ ys′ → SameNumbers n′ ks′ ls′
+    → HitsClaim limit (record { patterns = groups n xs; intervals = ks }) p (record { patterns = groups n′ xs′; intervals = ks′ }) p′
+    → HitsClaim limit (record { patterns = groups n ys; intervals = ls }) p (record { patterns = groups n′ ys′; intervals = ls′ }) p′
 hits-alike {p = p} e f e′ f′ k = record {
   same = groups-alike e e′ (k .same);
   opens-there = λ l. opens-alike e p .0 (k .opens-there l);

@@ -13,7 +13,7 @@ use Rattle.agreement.specs.CommonTail.{Counterparts, SameLast}
 use Rattle.agreement.specs.SameGroups.{OpensAt, SameGroups}
 use Rattle.agreement.specs.colour.Landmark.{ColourLandmark}
 use Rattle.agreement.specs.colour.Agreement.{HitsCut, Agree}
-use Rattle.agreement.specs.colour.Claim.{hitPatterns, Settled, HitsClaim, ColourClaim}
+use Rattle.agreement.specs.colour.Claim.{Settled, HitsClaim, hitPatterns, hitsOf, ColourClaim}
 use Rattle.agreement.proofs.GroupLaws.{ReachesBack, same-groups}
 use Rattle.agreement.proofs.colour.HitsAgree.{colour-agree, landmark-late}
 use Rattle.agreement.proofs.colour.ValueAgree.{at-counterparts, value-agree}
@@ -76,7 +76,7 @@ module _ (s : Settings) (c c′ : Chart) {a g b h : ℕ} (r : Agree (s .limit) (
           let k : i < size c = omega (arith, x .there) in
           counts-settled c (r .cut) l k (omega (arith, settled-counts c′ (r .cut′) x, hit-agree i i′ l e k))
 
-  hits-claim : HitsClaim (s .limit) (hitPatterns c) (intervalOf (s .limit) (c .kinds)) a (hitPatterns c′) (intervalOf (s .limit) (c′ .kinds)) b
+  hits-claim : HitsClaim (s .limit) (hitsOf s c) a (hitsOf s c′) b
   hits-claim = record {
     same = same-hits;
     opens-there = cut-opens c (r .cut);

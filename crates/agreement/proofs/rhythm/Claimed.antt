@@ -13,12 +13,13 @@ use lib.Ieee.{Float, nan}
 use Rattle.grouping_marks.specs.Marks.{groupNumbers}
 use Rattle.grouping_marks.proofs.NumberLaws.{number-opens, numbers-rise, numbers-shift}
 use Rattle.grouping_chart.specs.Chart.{Chart, size}
+use Rattle.grouping_chart.specs.Settings.{Settings}
 use Rattle.grouping_interval.specs.IntervalGrouping.{rises, marksAfter, intervalMarks}
 use Rattle.grouping_interval.proofs.IntervalLaws.{marks-rise, marks-neither, length-marks}
 use Rattle.agreement.specs.CommonTail.{Counterparts, SameLast}
 use Rattle.agreement.specs.SameGroups.{groupAt, OpensAt, SameGroups}
 use Rattle.agreement.specs.rhythm.Landmark.{RhythmLandmark}
-use Rattle.agreement.specs.rhythm.Claim.{deltasOf, noteCount, tailNotes, intervalGroups}
+use Rattle.agreement.specs.rhythm.Claim.{noteCount, intervalGroups, rhythmGroups, LandmarkNote}
 use Rattle.agreement.proofs.GroupLaws.{ReachesBack, same-groups}
 use Rattle.agreement.proofs.rhythm.NoteLaws.{same-count, notes-alike}
 use Rattle.agreement.proofs.rhythm.MarksAgree.{landmark-marks, either-list, marks-agree}
@@ -141,9 +142,8 @@ module _ (margin : Float) (deltas : List Float) (t i : ℕ) (m : RhythmLandmark 
 
 -- ---- two charts
 
-pub chart-claim : (margin : Float) (c c′ : Chart) {m : ℕ} → length (c .deltas) ≡ size c → length (c′ .deltas) ≡ size c′ → SameLast m (c .kinds) (c′ .kinds)
-    → SameLast m (c .deltas) (c′ .deltas) → (i i′ : ℕ) → Counterparts (noteCount c) (noteCount c′) i i′
-    → RhythmLandmark margin (deltasOf c) (tailNotes m c) i ⊎ RhythmLandmark margin (deltasOf c′) (tailNotes m c′) i′
-    → SameGroups (intervalGroups margin (deltasOf c)) i (intervalGroups margin (deltasOf c′)) i′
-chart-claim margin c c′ whole whole′ k d i i′ far x =
-    rhythm-claim margin (notes-alike c c′ whole whole′ k d) i i′ far (rw (← same-count c c′ whole whole′ k d) at x)
+pub chart-claim : (s : Settings) (c c′ : Chart) {m : ℕ} → length (c .deltas) ≡ size c → length (c′ .deltas) ≡ size c′
+    → SameLast m (c .kinds) (c′ .kinds) → SameLast m (c .deltas) (c′ .deltas) → (i i′ : ℕ) → Counterparts (noteCount c) (noteCount c′) i i′
+    → LandmarkNote s c m i ⊎ LandmarkNote s c′ m i′ → SameGroups (rhythmGroups s c) i (rhythmGroups s c′) i′
+chart-claim s c c′ whole whole′ k d i i′ far x =
+    rhythm-claim (s .margin) (notes-alike c c′ whole whole′ k d) i i′ far (rw (← same-count c c′ whole whole′ k d) at x)

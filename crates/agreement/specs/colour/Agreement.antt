@@ -1,25 +1,29 @@
--- Document 00, demand 3, what it says of encode: from a colour landmark on, two charts have the same hit patterns, and from the M-th such hit pattern on, M being the search limit,
--- the same intervals. With these the numbers on which a colour value hangs: the places, and whether an object is first of its streak, pattern or hit pattern.
+-- What two charts have in common behind a landmark, counted from there: their hit patterns and, from the M-th on, M being
+-- the search limit, their intervals; and with these all that a colour value hangs on.
 use Prim.Native.Nat.{ℕ, _+_, _-_, _≤_, _<_}
 use mathlib.Core.Path.{_≡_}
 use mathlib.Core.List.{List}
 use lib.Dec.{eqb}
 use lib.ListN.{length, drop, getD}
 use Rattle.grouping_color.specs.MonoStreak.{streakOf}
-use Rattle.grouping_color.specs.Preprocessor.{patternOf, hitOf, streakPlaceOf, patternPlaceOf, intervalOf, hitCount, hitSizes, hitFirsts, hitSeconds}
+use Rattle.grouping_color.specs.Preprocessor.{patternOf, hitOf, streakPlaceOf, patternPlaceOf, intervalOf}
+use Rattle.grouping_color.specs.Preprocessor.{hitCount, hitSizes, hitFirsts, hitSeconds}
 
--- objects a + j and b + j have the same answer to whether they are of the same group as the object before
+-- objects a + j and b + j are of the group of the object before both or neither
 abbrev pub FirstAlike : List ℕ → List ℕ → ℕ → ℕ → ℕ → Type 0
-FirstAlike xs ys a b j = eqb (getD xs (a + j) 0) (getD xs (a + j - 1) 0) ≡ eqb (getD ys (b + j) 0) (getD ys (b + j - 1) 0)
+FirstAlike xs ys a b j =
+    eqb (getD xs (a + j) 0) (getD xs (a + j - 1) 0) ≡ eqb (getD ys (b + j) 0) (getD ys (b + j - 1) 0)
 
--- a cut of a chart after `position` objects and `before` hit patterns: no hit pattern lies on both sides, and if an object is left, a hit pattern opens there
+-- a cut of a chart after `position` objects and `before` hit patterns: no hit pattern lies on both sides of it, and if an
+-- object is left, a hit pattern opens there
 pub record HitsCut (kinds : List ℕ) (position before : ℕ) : Type 0 where
   pub some : 0 < position
   pub earlier : (i : ℕ) → i < position → getD (hitOf kinds) i 0 < before
   pub later : (i : ℕ) → position ≤ i → i < length kinds → before ≤ getD (hitOf kinds) i 0
   pub opens : position < length kinds → getD (hitOf kinds) position 0 ≡ before
 
--- two charts from a landmark on: a objects and g hit patterns stand before it in the first chart, b and h in the second. Objects a + j and b + j are counterparts.
+-- two charts from a landmark on: a objects and g hit patterns stand before it in the first chart, b and h in the second.
+-- Objects a + j and b + j are counterparts
 pub record Agree (limit : ℕ) (kinds : List ℕ) (a g : ℕ) (kinds′ : List ℕ) (b h : ℕ) : Type 0 where
   pub objects : length kinds + b ≡ length kinds′ + a
   pub cut : HitsCut kinds a g
@@ -34,8 +38,10 @@ pub record Agree (limit : ℕ) (kinds : List ℕ) (a g : ℕ) (kinds′ : List �
   pub hit-first : (j : ℕ) → a + j < length kinds → FirstAlike (hitOf kinds) (hitOf kinds′) a b j
   pub pattern-first : (j : ℕ) → a + j < length kinds → FirstAlike (patternOf kinds) (patternOf kinds′) a b j
   pub streak-first : (j : ℕ) → a + j < length kinds → FirstAlike (streakOf kinds) (streakOf kinds′) a b j
-  pub pattern-place : (j : ℕ) → a + j < length kinds → getD (patternPlaceOf kinds) (a + j) 0 ≡ getD (patternPlaceOf kinds′) (b + j) 0
-  pub streak-place : (j : ℕ) → a + j < length kinds → getD (streakPlaceOf kinds) (a + j) 0 ≡ getD (streakPlaceOf kinds′) (b + j) 0
+  pub pattern-place : (j : ℕ) → a + j < length kinds
+      → getD (patternPlaceOf kinds) (a + j) 0 ≡ getD (patternPlaceOf kinds′) (b + j) 0
+  pub streak-place : (j : ℕ) → a + j < length kinds
+      → getD (streakPlaceOf kinds) (a + j) 0 ≡ getD (streakPlaceOf kinds′) (b + j) 0
   -- from the M-th of these hit patterns on
   pub interval : (j : ℕ) → a + j < length kinds → g + limit ≤ getD (hitOf kinds) (a + j) 0 + 1
       → getD (intervalOf limit kinds) (a + j) 0 ≡ getD (intervalOf limit kinds′) (b + j) 0

@@ -1,4 +1,4 @@
--- The colour claim over what the calls encode, colour and stretch leave in lent memory and answer on two accepted charts.
+-- The colour claim of what the calls encode, colour and stretch leave and answer on two accepted charts.
 use Prim.Native.Nat.{ℕ}
 use mathlib.Core.Path.{_≡_}
 use lib.ListN.{getD}
@@ -11,21 +11,19 @@ use Rattle.evaluator_calls.specs.Stretch.{Stretch}
 use Rattle.evaluator_calls.specs.Calls.{Memory, chartMean, chartTenths, colourOutcome, stretchOutcome}
 use Rattle.evaluator_calls.specs.declared.Stretching.the-variants.{Done}
 use Rattle.agreement.specs.CommonTail.{Counterparts}
-use Rattle.agreement.specs.SameGroups.{Groups, groups}
-use Rattle.agreement.specs.colour.Claim.{hitPatterns, Settled, HitsClaim}
+use Rattle.agreement.specs.SameGroups.{groups}
+use Rattle.agreement.specs.colour.Claim.{Settled, Hits, HitsClaim, hitPatterns}
 
--- what encode leaves
-abbrev pub encoded : Settings → Chart → encode.Memory → encode.Memory
-encoded s c lent = encodeOutcome s c lent .memory
+-- hit patterns and intervals as encode writes them
+abbrev pub hitsWritten : Settings → Chart → encode.Memory → Hits
+hitsWritten s c lent = record {
+  patterns = groups (size c) (encodeOutcome s c lent .memory .hit);
+  intervals = encodeOutcome s c lent .memory .interval;
+}
 
--- the hit patterns as encode writes them
-abbrev pub hitsWritten : Settings → Chart → encode.Memory → Groups
-hitsWritten s c lent = groups (size c) (encoded s c lent .hit)
-
--- encode: the claim on hit patterns and intervals, of what it writes
+-- encode
 abbrev pub EncodeClaim : Settings → Chart → Chart → encode.Memory → encode.Memory → ℕ → ℕ → Type 0
-EncodeClaim s c c′ lent lent′ p p′ =
-    HitsClaim (s .limit) (hitsWritten s c lent) (encoded s c lent .interval) p (hitsWritten s c′ lent′) (encoded s c′ lent′ .interval) p′
+EncodeClaim s c c′ lent lent′ p p′ = HitsClaim (s .limit) (hitsWritten s c lent) p (hitsWritten s c′ lent′) p′
 
 -- colour and stretch
 pub record CallsClaim (s : Settings) (c c′ : Chart) (lent lent′ : Memory) (p p′ : ℕ) : Type 0 where
@@ -33,7 +31,8 @@ pub record CallsClaim (s : Settings) (c c′ : Chart) (lent lent′ : Memory) (p
   pub written : (i i′ : ℕ) → Settled (s .limit) (hitPatterns c) p i → Counterparts (size c) (size c′) i i′
       → getD (colourOutcome s c lent .memory .value) i nan ≡ getD (colourOutcome s c′ lent′ .memory .value) i′ nan
   -- stretch answers a mean and its tenths, no refusal,
-  pub done : (a b : ℕ) → Stretch (c .kinds) a b → stretchOutcome s c a b lent .answer ≡ Done (chartMean s c a b) (chartTenths s c a b)
+  pub done : (a b : ℕ) → Stretch (c .kinds) a b
+      → stretchOutcome s c a b lent .answer ≡ Done (chartMean s c a b) (chartTenths s c a b)
   -- and the same ones for the counterpart
   pub stretch : (a b a′ b′ : ℕ) → Settled (s .limit) (hitPatterns c) p a → Stretch (c .kinds) a b
       → Counterparts (size c) (size c′) a a′ → Counterparts (size c) (size c′) b b′

@@ -1,5 +1,5 @@
--- The landmark of Landmark.antt as a test that computes: the object of (a), the streak of (b) and the pattern of (c) are searched for.
--- What makes each of them serve is a parameter, so that other conditions can be tried.
+-- The landmark of Landmark.antt as a test that computes: the object of (a), the streak of (b) and the pattern of (c) are
+-- searched for. What makes each of them serve is a parameter, so that other conditions can be tried.
 use Prim.Native.Nat.{ℕ, zero, suc, _+_, _-_}
 use mathlib.Core.Bool.{Bool, cond, not}
 use mathlib.Core.List.{List, [], _∷_, _++_}
@@ -36,7 +36,8 @@ levelsOf kinds = record {
   object-patterns = patternOf kinds;
 }
 
--- what makes an object serve for (a), where the last m objects are the tail; a streak for (b), by that object; a pattern for (c), by that streak
+-- what makes an object serve for (a), where the last m objects are the tail; a streak for (b), by that object; a pattern
+-- for (c), by that streak
 pub record Conditions : Type 0 where
   pub object : Levels → ℕ → ℕ → Bool
   pub streak : Levels → ℕ → ℕ → Bool
@@ -76,21 +77,25 @@ endsAt l pattern position =
     allTrue (ltb 0 position
     ∷ leb position (length (l .kinds))
     ∷ eqb (getD (l .object-patterns) (position - 1) 0) pattern
-    ∷ not (anyBelow (length (l .kinds)) (λ i. allTrue (leb position i ∷ eqb (getD (l .object-patterns) i 0) pattern ∷ [])))
+    ∷ not (anyBelow (length (l .kinds)) (λ i.
+    allTrue (leb position i ∷ eqb (getD (l .object-patterns) i 0) pattern ∷ [])))
     ∷ [])
 
 -- by a pattern, by a streak and by an object
 unfoldable pub patternFound : Conditions → Levels → ℕ → ℕ → Bool
 patternFound r l position streak =
-    anyBelow (groupCount (l .opens)) (λ pattern. allTrue (r .pattern l streak pattern ∷ endsAt l (pattern + 1) position ∷ []))
+    anyBelow (groupCount (l .opens)) (λ pattern.
+    allTrue (r .pattern l streak pattern ∷ endsAt l (pattern + 1) position ∷ []))
 
 unfoldable pub streakFound : Conditions → Levels → ℕ → ℕ → Bool
 streakFound r l position object =
-    anyBelow (groupCount (l .marks)) (λ streak. allTrue (r .streak l object streak ∷ patternFound r l position streak ∷ []))
+    anyBelow (groupCount (l .marks)) (λ streak.
+    allTrue (r .streak l object streak ∷ patternFound r l position streak ∷ []))
 
 unfoldable pub landmarkFound : Conditions → Levels → ℕ → ℕ → Bool
 landmarkFound r l m position =
-    anyBelow (length (l .kinds)) (λ object. allTrue (r .object l m object ∷ streakFound r l position object ∷ []))
+    anyBelow (length (l .kinds)) (λ object.
+    allTrue (r .object l m object ∷ streakFound r l position object ∷ []))
 
 unfoldable pub isLandmark : Conditions → List ℕ → ℕ → ℕ → Bool
 isLandmark r kinds m position = landmarkFound r (levelsOf kinds) m position
