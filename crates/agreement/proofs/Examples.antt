@@ -1,6 +1,6 @@
--- The claim is not empty at the base's limit. A tail of 20 streaks of 1, 2, 3, 1, 2, 3 objects and so on, d and k in turn, has a landmark behind its fourth streak,
--- and every streak after that is a hit pattern of its own. So its last two objects, the twentieth streak, are of the sixteenth hit pattern and have the colour
--- values of the tail alone in every chart that ends so.
+-- The claim is not empty at the base's limit. A tail of 20 streaks of 1, 2, 3, 1, 2, 3 objects and so on, d and k in turn, has a landmark behind its fourth
+-- streak, and every streak after that is a hit pattern of its own. So its last two objects, the twentieth streak, are of the sixteenth hit pattern and have the
+-- colour values of the tail alone in every chart that ends so.
 use mathlib.Core.Path.{_≡_, refl}
 use mathlib.Core.Logic.{inl}
 use mathlib.Core.List.{List, [], _∷_}

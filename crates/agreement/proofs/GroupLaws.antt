@@ -1,5 +1,5 @@
--- When two groupings are the same groups from an object on. The idea: two objects from there on are of one group exactly when their counterparts are, and a group
--- that holds an object before reaches back so in both or in neither.
+-- When two groupings are the same groups from an object on. The idea: two objects from there on are of one group exactly when their counterparts are, and a
+-- group that holds an object before reaches back so in both or in neither.
 use mathlib.Core.Path.{_≡_, refl, sym, _∙_}
 use mathlib.Core.Logic.{_↔_}
 use mathlib.Core.Bool.{Bool, true, false}
@@ -10,7 +10,7 @@ use lib.Dec.{ltb}
 use lib.ListN.{getD}
 use borrow.Author.Tests.{ltb-true, ltb-false}
 use Rattle.agreement.specs.CommonTail.{Counterparts}
-use Rattle.agreement.specs.SameGroups.{Groups, groups, groupAt, OpensAt, SameObjects, SameGroups}
+use Rattle.agreement.specs.SameGroups.{Groups, groups, groupAt, OpensAt, SameGroups}
 
 -- an object before object p is of object i's group
 abbrev pub ReachesBack : Groups → ℕ → ℕ → Type 0

@@ -4,8 +4,8 @@ use mathlib.Core.Path.{_≡_}
 use mathlib.Core.List.{List}
 use lib.ListN.{length, drop}
 
--- number i of n and number i′ of n′ are counterparts: equally far from the two ends. For objects, notes, landmarks and the
--- ends of stretches
+-- number i of n and number i′ of n′ are counterparts: equally far from the two ends. For objects, notes, landmarks and
+-- the ends of stretches
 abbrev pub Counterparts : ℕ → ℕ → ℕ → ℕ → Type 0
 Counterparts n n′ i i′ = n + i′ ≡ n′ + i
 

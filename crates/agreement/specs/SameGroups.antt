@@ -24,8 +24,8 @@ pub record OpensAt (g : Groups) (i : ℕ) : Type 0 where
   pub there : i < g .count
   pub first : (j : ℕ) → j < i → groupAt g j ≡ groupAt g i → ⊥
 
--- the group of object i and that of object i′ hold the same objects: what is of the one has a counterpart, and that is of
--- the other
+-- the group of object i and that of object i′ hold the same objects: what is of the one has a counterpart, and that is
+-- of the other
 pub record SameObjects (g : Groups) (i : ℕ) (g′ : Groups) (i′ : ℕ) : Type 0 where
   pub forth : (j : ℕ) → j < g .count → groupAt g j ≡ groupAt g i
       → (j′ : ℕ) × (Counterparts (g .count) (g′ .count) j j′ × (groupAt g′ j′ ≡ groupAt g′ i′))

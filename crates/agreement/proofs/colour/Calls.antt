@@ -1,5 +1,5 @@
--- The colour half over the calls: what encode, colour and stretch answer on two accepted charts, from a colour landmark on. Each call leaves the definition's numbers,
--- place by place, so that what is claimed of these is claimed of what it leaves.
+-- The colour half over the calls: what encode, colour and stretch answer on two accepted charts, from a colour landmark on. Each call leaves the definition's
+-- numbers, place by place, so that what is claimed of these is claimed of what it leaves.
 use mathlib.Core.Path.{_≡_, sym, _∙_}
 use mathlib.Core.Logic.{_⊎_, _↔_}
 use mathlib.Core.List.{List}

@@ -1,8 +1,8 @@
--- The colour half, proved: the claim holds of every two charts whose last objects are alike in kind and ratio, from every colour landmark there, read in either chart.
+-- The colour half, proved: the claim holds of every two charts whose last objects are alike in kind and ratio, from every colour landmark there, read in either
+-- chart.
 use mathlib.Core.Path.{_≡_, sym, _∙_}
 use mathlib.Core.Logic.{_⊎_, ⊎-elim, _↔_}
 use Prim.Native.Nat.{ℕ, _+_, _≤_, _<_}
-use mathlib.Core.List.{List}
 use native.Mathlib.Omega.{arith}
 use lib.ListN.{length, getD}
 use Rattle.grouping_chart.specs.Chart.{Chart, size}

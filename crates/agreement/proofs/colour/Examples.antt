@@ -1,4 +1,5 @@
--- Landmarks of short charts (d is 0, k is 1, n is 2), each chart as what stands before its tail and the tail, with the offsets in the tail at which the test finds a landmark.
+-- Landmarks of short charts (d is 0, k is 1, n is 2), each chart as what stands before its tail and the tail, with the offsets in the tail at which the test
+-- finds a landmark.
 use mathlib.Core.Path.{_≡_, refl}
 use mathlib.Core.List.{List, [], _∷_, _++_, map}
 use Prim.Native.Nat.{ℕ, _+_}
@@ -11,7 +12,8 @@ use Rattle.grouping_color.specs.AlternatingMonoPattern.{opensPattern, patternMa
 use Rattle.grouping_color.specs.Preprocessor.{patternsOpen, firstLengths, streakCounts, patternTypes, coupledPatterns, patternOf}
 use Rattle.agreement.specs.colour.Landmark.{ColourLandmark}
 use Rattle.agreement.specs.Tests.{allTrue, anyBelow}
-use Rattle.agreement.specs.colour.LandmarkTest.{levelsOf, tailNoteBefore, objectServes, streakServes, patternServes, endsAt, patternFound, streakFound, landmarkFound, isLandmark, landmarksBelow, landmarks}
+use Rattle.agreement.specs.colour.LandmarkTest.{levelsOf, tailNoteBefore, objectServes, streakServes, patternServes, endsAt, patternFound, streakFound}
+use Rattle.agreement.specs.colour.LandmarkTest.{landmarkFound, isLandmark, landmarksBelow, landmarks}
 use Rattle.agreement.proofs.colour.LandmarkLaws.{test-landmark}
 
 record Example : Type 0 where

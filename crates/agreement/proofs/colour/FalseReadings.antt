@@ -15,9 +15,11 @@ use Rattle.grouping_chart.specs.Settings.{baseSettings}
 use Rattle.grouping_hits.specs.RepeatingHitPatterns.{stageAfter, opensHit, hitMarks, secondAt, secondLengths, matches, nearestMatch, intervalAt, intervals}
 use Rattle.grouping_color.specs.MonoStreak.{continues, opensStreak, streakMarks, streakOf, streakLengths, streakTypes}
 use Rattle.grouping_color.specs.AlternatingMonoPattern.{opensPattern, patternMarks, coupledAt, coupled}
-use Rattle.grouping_color.specs.Preprocessor.{patternsOpen, firstLengths, streakCounts, patternTypes, coupledPatterns, hitsOpen, hitSizes, hitFirsts, hitSeconds, hitIntervals, patternOf, hitOf, intervalOf}
+use Rattle.grouping_color.specs.Preprocessor.{patternsOpen, firstLengths, streakCounts, patternTypes, coupledPatterns, hitsOpen, hitSizes, hitFirsts}
+use Rattle.grouping_color.specs.Preprocessor.{hitSeconds, hitIntervals, patternOf, hitOf, intervalOf}
 use Rattle.agreement.specs.Tests.{allTrue, anyBelow}
-use Rattle.agreement.specs.colour.LandmarkTest.{Levels, levelsOf, Conditions, tailNoteBefore, objectServes, streakServes, patternServes, plain, endsAt, patternFound, streakFound, landmarkFound, isLandmark}
+use Rattle.agreement.specs.colour.LandmarkTest.{Levels, levelsOf, Conditions, tailNoteBefore, objectServes, streakServes, patternServes, plain, endsAt}
+use Rattle.agreement.specs.colour.LandmarkTest.{patternFound, streakFound, landmarkFound, isLandmark}
 use Rattle.agreement.proofs.Readings.{ClaimFrom, opensThere, refutes, refuted}
 use Rattle.agreement.proofs.colour.LandmarkLaws.{test-landmark}
 use Rattle.agreement.proofs.colour.HitsAgree.{colour-agree}
@@ -149,8 +151,8 @@ one-then-next-fails = refuted hitOf (isLandmark (withPattern oneThenNext)) _ _ _
 abbrev short : List ℕ
 short = 0 ∷ 1 ∷ 0 ∷ 0 ∷ 1 ∷ 2 ∷ 1 ∷ 0 ∷ []
 
--- with M = 16: behind the landmark of dkddk come fourteen runs of 3 to 16 equal objects, which are hit patterns 1 to 14, and then d, the fifteenth. Its interval is 15,
--- and none (17) if d stands before the tail
+-- with M = 16: behind the landmark of dkddk come fourteen runs of 3 to 16 equal objects, which are hit patterns 1 to 14, and then d, the fifteenth. Its
+-- interval is 15, and none (17) if d stands before the tail
 runs : ℕ → ℕ → ℕ → List ℕ
 runs kind size zero = 0 ∷ []
 runs kind size (suc more) = replicate size kind ++ runs (1 - kind) (size + 1) more

@@ -1,4 +1,5 @@
--- The theorem on encode: from a colour landmark on, two charts that end alike have the same hit patterns, places and firsts, and from the M-th such hit pattern on the same intervals.
+-- The theorem on encode: from a colour landmark on, two charts that end alike have the same hit patterns, places and firsts, and from the M-th such hit pattern
+-- on the same intervals.
 use mathlib.Core.Path.{_≡_, refl, sym, ap, _∙_, subst, subst₂, transport}
 use mathlib.Core.Logic.{_⊎_, inl, inr, ⊎-elim}
 use mathlib.Core.List.{List, _++_, append-assoc}
@@ -10,16 +11,14 @@ use lib.Seq.{getD-take, getD-append-add, length-take-le}
 use lib.Dec.{ltb}
 use borrow.Author.Tests.{ltb-true, ltb-false}
 use Rattle.grouping_marks.specs.Marks.{groupCount, groupNumbers, groupSizes, groupFirsts}
-use Rattle.grouping_marks.proofs.FillLaws.{getD-gathered}
 use Rattle.grouping_marks.proofs.MarksLaws.{count-le, length-numbers}
 use Rattle.grouping_marks.proofs.CutLaws.{Opening, opening-at, count-cut}
-use Rattle.grouping_marks.proofs.NumberLaws.{numbers-rise}
 use Rattle.grouping_marks.proofs.SplitLaws.{Split, split-numbers, split-length, split-at, split-before}
 use Rattle.grouping_chart.specs.Object.{isNote}
 use Rattle.grouping_color.specs.MonoStreak.{streakMarks, streakOf, streakLengths}
 use Rattle.grouping_color.specs.Preprocessor.{patternsOpen, coupledPatterns, patternOf}
 use Rattle.grouping_color.proofs.LengthLaws.{length-streakMarks}
-use Rattle.grouping_color.proofs.BoundLaws.{length-streakOf, length-patternsOpen, length-patternOf, streak-below, patternOf-looked}
+use Rattle.grouping_color.proofs.BoundLaws.{length-patternsOpen, length-patternOf}
 use Rattle.grouping_color.proofs.MadeLaws.{streakOf-made}
 use Rattle.grouping_color.proofs.StreakCutLaws.{HasNote, streakMarksAfter, streakMarks-cut, streakMarks-agree}
 use Rattle.agreement.specs.CommonTail.{Counterparts, lastOf, SameLast}
@@ -28,7 +27,8 @@ use Rattle.agreement.specs.colour.Agreement.{Agree, Agreement}
 use Rattle.agreement.proofs.colour.RiseLaws.{pattern-rises}
 use Rattle.agreement.proofs.colour.AgreementLaws.{agreement-sym}
 use Rattle.agreement.proofs.colour.PartLaws.{Parted, backPattern, patterns-split, objects-back, parted-agree}
-use Rattle.agreement.proofs.colour.LevelLaws.{StreaksCut, streaks-cut, Unequal, PatternsCut, patterns-cut, backMarks, backFirsts, backFlags, Uncoupled, back, streak-cut, pattern-cut, parted, parted-objects, parted-patterns}
+use Rattle.agreement.proofs.colour.LevelLaws.{StreaksCut, streaks-cut, Unequal, PatternsCut, patterns-cut, backMarks, backFirsts, backFlags, Uncoupled}
+use Rattle.agreement.proofs.colour.LevelLaws.{back, streak-cut, pattern-cut, parted, parted-objects, parted-patterns}
 
 -- an entry behind a cut
 at-back : (front tail : List ℕ) (xs : List ℕ) (i j : ℕ) → xs ≡ front ++ tail → i ≡ length front + j → getD xs i 0 ≡ getD tail j 0

@@ -11,7 +11,8 @@ use Rattle.grouping_chart.specs.Object.{isNote}
 use Rattle.grouping_color.specs.Preprocessor.{patternOf}
 use Rattle.agreement.specs.Tests.{allTrue}
 use Rattle.agreement.specs.colour.Landmark.{ColourLandmark}
-use Rattle.agreement.specs.colour.LandmarkTest.{Levels, levelsOf, tailNoteBefore, objectServes, streakServes, patternServes, plain, endsAt, patternFound, streakFound, landmarkFound, isLandmark}
+use Rattle.agreement.specs.colour.LandmarkTest.{levelsOf, tailNoteBefore, objectServes, streakServes, patternServes, plain, endsAt, patternFound}
+use Rattle.agreement.specs.colour.LandmarkTest.{streakFound, landmarkFound, isLandmark}
 use Rattle.agreement.proofs.TestLaws.{not-of, all-first, all-rest, all-none, all-more, any-found, found-any, none-found, found-none}
 
 module _ (kinds : List ℕ) (m position : ℕ) where

@@ -20,7 +20,8 @@ use Rattle.grouping_color.specs.MonoStreak.{streakMarks, streakLengths, streakT
 use Rattle.grouping_color.specs.AlternatingMonoPattern.{patternMarks, coupledAt, coupled}
 use Rattle.grouping_color.specs.Preprocessor.{patternsOpen, firstLengths, streakCounts, patternTypes, coupledPatterns, hitsOpen}
 use Rattle.grouping_color.proofs.LengthLaws.{length-streakMarks, length-patternMarks, length-coupled}
-use Rattle.grouping_color.proofs.MadeLaws.{streakLengths-made, streakTypes-made, patternsOpen-made, firstLengths-made, streakCounts-made, patternTypes-made, coupledPatterns-made, hitsOpen-made}
+use Rattle.grouping_color.proofs.MadeLaws.{streakLengths-made, streakTypes-made, patternsOpen-made, firstLengths-made, streakCounts-made, patternTypes-made}
+use Rattle.grouping_color.proofs.MadeLaws.{coupledPatterns-made, hitsOpen-made}
 use Rattle.grouping_color.proofs.StreakCutLaws.{streakMarksAfter, length-marksAfter, streakMarks-cut, streakLengths-cut, streakTypes-cut}
 use Rattle.grouping_color.proofs.PatternCutLaws.{Uneven, patternMarks-cut, patternMarks-opening, counts-cut, listed-cut, coupled-cut}
 use Rattle.agreement.proofs.colour.PartLaws.{Back, Parted}

@@ -11,16 +11,20 @@ use Rattle.grouping_marks.proofs.FillLaws.{length-tabulate, length-gathered, ge
 use Rattle.grouping_marks.proofs.MarksLaws.{length-numbers, length-places, length-sizes, length-firsts}
 use Rattle.grouping_marks.proofs.CutLaws.{Opening, sizes-cut, firsts-cut, count-cut, places-cut}
 use Rattle.grouping_marks.proofs.NumberLaws.{number-first}
-use Rattle.grouping_marks.proofs.SplitLaws.{Below, Split, below-numbers, below-gathered, split-numbers, split-length, split-at, split-before, split-gathered, split-looked, split-continues}
+use Rattle.grouping_marks.proofs.SplitLaws.{Below, Split, below-numbers, below-gathered, split-numbers, split-length, split-at, split-before, split-gathered}
+use Rattle.grouping_marks.proofs.SplitLaws.{split-looked, split-continues}
 use Rattle.grouping_hits.specs.RepeatingHitPatterns.{secondAt, secondLengths, intervals}
 use Rattle.grouping_hits.proofs.LengthLaws.{length-hitMarks, length-secondLengths}
 use Rattle.grouping_hits.proofs.HitCutLaws.{secondLengths-cut}
 use Rattle.grouping_hits.proofs.IntervalCutLaws.{intervals-back}
 use Rattle.grouping_color.specs.MonoStreak.{streakMarks, streakOf}
-use Rattle.grouping_color.specs.Preprocessor.{patternsOpen, firstLengths, streakCounts, patternTypes, coupledPatterns, hitsOpen, hitCount, hitSizes, hitFirsts, hitSeconds, streakPlaceOf, patternOf, patternPlaceOf, hitOf, intervalOf}
+use Rattle.grouping_color.specs.Preprocessor.{patternsOpen, firstLengths, streakCounts, patternTypes, coupledPatterns, hitsOpen, hitCount, hitSizes, hitFirsts}
+use Rattle.grouping_color.specs.Preprocessor.{hitSeconds, streakPlaceOf, patternOf, patternPlaceOf, hitOf, intervalOf}
 use Rattle.grouping_color.proofs.LengthLaws.{length-streakMarks, length-coupled}
-use Rattle.grouping_color.proofs.BoundLaws.{length-patternsOpen, length-hitsOpen, streakPlaceOf-looked, patternOf-looked, patternPlaceOf-looked, hitOf-looked, intervalOf-looked}
-use Rattle.grouping_color.proofs.MadeLaws.{streakOf-made, coupledPatterns-made, hitsOpen-made, hitCount-made, hitSizes-made, hitFirsts-made, hitSeconds-made, hitIntervals-made}
+use Rattle.grouping_color.proofs.BoundLaws.{length-patternsOpen, length-hitsOpen, streakPlaceOf-looked, patternOf-looked, patternPlaceOf-looked, hitOf-looked}
+use Rattle.grouping_color.proofs.BoundLaws.{intervalOf-looked}
+use Rattle.grouping_color.proofs.MadeLaws.{streakOf-made, coupledPatterns-made, hitsOpen-made, hitCount-made, hitSizes-made, hitFirsts-made, hitSeconds-made}
+use Rattle.grouping_color.proofs.MadeLaws.{hitIntervals-made}
 use Rattle.agreement.specs.colour.Agreement.{HitsCut, Agree}
 
 -- what stands behind the cut: the marks of each level, and the patterns' first lengths

@@ -11,7 +11,8 @@ use Rattle.grouping_marks.proofs.NumberLaws.{numbers-rise}
 use Rattle.grouping_color.specs.MonoStreak.{streakMarks, streakOf}
 use Rattle.grouping_color.specs.Preprocessor.{patternsOpen, hitsOpen, patternOf, hitOf}
 use Rattle.grouping_color.proofs.LengthLaws.{length-streakMarks}
-use Rattle.grouping_color.proofs.BoundLaws.{length-streakOf, length-patternsOpen, length-patternOf, length-hitsOpen, streak-below, patternOf-below, patternOf-looked, hitOf-looked}
+use Rattle.grouping_color.proofs.BoundLaws.{length-streakOf, length-patternsOpen, length-patternOf, length-hitsOpen, streak-below, patternOf-below}
+use Rattle.grouping_color.proofs.BoundLaws.{patternOf-looked, hitOf-looked}
 use Rattle.grouping_color.proofs.MadeLaws.{streakOf-made}
 
 abbrev Rising : ℕ → List ℕ → Type 0

@@ -1,4 +1,5 @@
--- Colour values behind a landmark: what the evaluator looks at agrees by `Agree`, and the ratio penalty since both objects have an idx of at least 4 and idx − 2 is of the tail.
+-- Colour values behind a landmark: what the evaluator looks at agrees by `Agree`, and the ratio penalty since both objects have an idx of at least 4 and idx −
+-- 2 is of the tail.
 use mathlib.Core.Path.{_≡_, refl, sym, ap, _∙_, subst₂}
 use mathlib.Core.Bool.{not}
 use mathlib.Core.List.{List}

@@ -1,4 +1,5 @@
--- The rhythm half over the call rhythm. What it writes for a note is the number of the note's group, so that what is claimed of groups is claimed of what it writes.
+-- The rhythm half over the call rhythm. What it writes for a note is the number of the note's group, so that what is claimed of groups is claimed of what it
+-- writes.
 use mathlib.Core.Path.{_≡_, refl, ap, _∙_}
 use mathlib.Core.Logic.{_⊎_}
 use mathlib.Core.Bool.{Bool, true, false, cond}
@@ -7,9 +8,9 @@ use Prim.Native.Nat.{ℕ, zero, suc, _+_, _<_}
 use native.Mathlib.Omega.{arith}
 use lib.ListN.{length, take, drop, getD}
 use Rattle.grouping_marks.proofs.FillLaws.{getD-gathered}
-use Rattle.grouping_chart.specs.Object.{isNote, notes, noteIdx}
+use Rattle.grouping_chart.specs.Object.{isNote, notes}
 use Rattle.grouping_chart.specs.Notes.{notesFrom, noteObjects}
-use Rattle.grouping_chart.specs.Chart.{Chart, size}
+use Rattle.grouping_chart.specs.Chart.{Chart}
 use Rattle.grouping_chart.specs.Settings.{Settings}
 use Rattle.grouping_chart.specs.declared.chart.Verdict.the-variants.{Accepted}
 use Rattle.grouping_chart.proofs.AcceptedLaws.{accepted-good}

@@ -1,5 +1,5 @@
--- The rhythm half, proved for every margin: for two lists of notes' deltas and for two charts. The idea: from the note before a landmark on counterparts have group
--- numbers that differ by a constant.
+-- The rhythm half, proved for every margin: for two lists of notes' deltas and for two charts. The idea: from the note before a landmark on counterparts have
+-- group numbers that differ by a constant.
 use mathlib.Core.Path.{_≡_, refl, sym, ap, _∙_, subst, subst₂}
 use mathlib.Core.Bool.{Bool, true, false}
 use mathlib.Core.Logic.{_⊎_, inl, inr}
@@ -10,7 +10,6 @@ use native.Mathlib.Omega.{arith}
 use lib.ListN.{length, drop, getD}
 use lib.Seq.{drop-cons, getD-drop}
 use lib.Ieee.{Float, nan}
-use Rattle.grouping_marks.specs.Marks.{groupNumbers}
 use Rattle.grouping_marks.proofs.NumberLaws.{number-opens, numbers-rise, numbers-shift}
 use Rattle.grouping_chart.specs.Chart.{Chart, size}
 use Rattle.grouping_chart.specs.Settings.{Settings}

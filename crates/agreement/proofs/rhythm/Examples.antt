@@ -1,4 +1,5 @@
--- Rhythm landmarks of short lists of deltas, each list as what stands before its tail and the tail, with the offsets in the tail at which the test finds a landmark.
+-- Rhythm landmarks of short lists of deltas, each list as what stands before its tail and the tail, with the offsets in the tail at which the test finds a
+-- landmark.
 use mathlib.Core.Path.{_≡_, refl}
 use mathlib.Core.Bool.{false, cond}
 use mathlib.Core.List.{List, [], _∷_, _++_, map}

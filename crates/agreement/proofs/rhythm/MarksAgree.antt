@@ -1,5 +1,5 @@
 -- From a rhythm landmark on the marks are those of the tail alone: nothing of f64 is used but that the same test of the same values has one answer.
-use mathlib.Core.Path.{_≡_, sym, ap, _∙_, subst}
+use mathlib.Core.Path.{_≡_, sym, _∙_, subst}
 use mathlib.Core.Logic.{_⊎_, inl, inr}
 use mathlib.Core.Bool.{true}
 use mathlib.Core.List.{List}
@@ -7,7 +7,6 @@ use Prim.Native.Nat.{ℕ, suc, _+_, _-_, _≤_}
 use native.Mathlib.Omega.{arith}
 use lib.ListN.{length, drop, getD}
 use lib.Ieee.{Float, nan}
-use Rattle.numeric.specs.Near.{isNear}
 use Rattle.grouping_interval.specs.IntervalGrouping.{marksAfter, intervalMarks}
 use Rattle.grouping_interval.proofs.SyncLaws.{marks-from}
 use Rattle.agreement.specs.CommonTail.{Counterparts, SameLast}

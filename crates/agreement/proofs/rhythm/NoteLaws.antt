@@ -1,4 +1,5 @@
--- Two charts whose last m objects are alike in kind and delta: their notes' deltas end alike too, and objects of the tail that are counterparts are so as notes.
+-- Two charts whose last m objects are alike in kind and delta: their notes' deltas end alike too, and objects of the tail that are counterparts are so as
+-- notes.
 use mathlib.Core.Path.{_≡_, sym, ap, _∙_}
 use mathlib.Core.Bool.{true}
 use mathlib.Core.List.{List, _++_}

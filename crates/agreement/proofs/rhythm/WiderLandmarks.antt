@@ -4,7 +4,6 @@ use mathlib.Core.Logic.{inl}
 use mathlib.Core.Bool.{Bool, true, not}
 use mathlib.Core.List.{List, [], _∷_}
 use Prim.Native.Nat.{ℕ, _+_, _-_}
-use native.Mathlib.Omega.{arith}
 use lib.Dec.{ltb, leb}
 use lib.ListN.{length, getD}
 use lib.Ieee.{Float, nan, round, add, sub, le, lt, ofInt}

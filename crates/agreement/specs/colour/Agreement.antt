@@ -1,5 +1,5 @@
--- What two charts have in common behind a landmark, counted from there: their hit patterns and, from the M-th on, M being
--- the search limit, their intervals; and with these all that a colour value hangs on.
+-- What two charts have in common behind a landmark, counted from there: their hit patterns and, from the M-th on, M
+-- being the search limit, their intervals; and with these all that a colour value hangs on.
 use Prim.Native.Nat.{ℕ, _+_, _-_, _≤_, _<_}
 use mathlib.Core.Path.{_≡_}
 use mathlib.Core.List.{List}
@@ -14,16 +14,16 @@ abbrev pub FirstAlike : List ℕ → List ℕ → ℕ → ℕ → ℕ → Type 0
 FirstAlike xs ys a b j =
     eqb (getD xs (a + j) 0) (getD xs (a + j - 1) 0) ≡ eqb (getD ys (b + j) 0) (getD ys (b + j - 1) 0)
 
--- a cut of a chart after `position` objects and `before` hit patterns: no hit pattern lies on both sides of it, and if an
--- object is left, a hit pattern opens there
+-- a cut of a chart after `position` objects and `before` hit patterns: no hit pattern lies on both sides of it, and if
+-- an object is left, a hit pattern opens there
 pub record HitsCut (kinds : List ℕ) (position before : ℕ) : Type 0 where
   pub some : 0 < position
   pub earlier : (i : ℕ) → i < position → getD (hitOf kinds) i 0 < before
   pub later : (i : ℕ) → position ≤ i → i < length kinds → before ≤ getD (hitOf kinds) i 0
   pub opens : position < length kinds → getD (hitOf kinds) position 0 ≡ before
 
--- two charts from a landmark on: a objects and g hit patterns stand before it in the first chart, b and h in the second.
--- Objects a + j and b + j are counterparts
+-- two charts from a landmark on: a objects and g hit patterns stand before it in the first chart, b and h in the
+-- second. Objects a + j and b + j are counterparts
 pub record Agree (limit : ℕ) (kinds : List ℕ) (a g : ℕ) (kinds′ : List ℕ) (b h : ℕ) : Type 0 where
   pub objects : length kinds + b ≡ length kinds′ + a
   pub cut : HitsCut kinds a g

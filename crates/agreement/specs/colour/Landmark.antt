@@ -10,8 +10,8 @@ use Rattle.grouping_chart.specs.Object.{isNote}
 use Rattle.grouping_color.specs.MonoStreak.{streakMarks, streakOf, streakLengths}
 use Rattle.grouping_color.specs.Preprocessor.{patternsOpen, coupledPatterns, patternOf}
 
--- a landmark of a chart with these kinds, where its last m objects are the common tail: `position` objects stand before it.
--- Objects, streaks and patterns are given by their numbers in the chart, from 0
+-- a landmark of a chart with these kinds, where its last m objects are the common tail: `position` objects stand before
+-- it. Objects, streaks and patterns are given by their numbers in the chart, from 0
 pub record ColourLandmark (kinds : List ℕ) (m position : ℕ) : Type 0 where
   -- (a) an object that opens a streak, and a note of the tail somewhere before it
   pub object : ℕ

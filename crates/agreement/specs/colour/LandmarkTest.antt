@@ -1,5 +1,5 @@
--- The landmark of Landmark.antt as a test that computes: the object of (a), the streak of (b) and the pattern of (c) are
--- searched for. What makes each of them serve is a parameter, so that other conditions can be tried.
+-- The landmark of Landmark.antt as a test that computes: the object of (a), the streak of (b) and the pattern of (c)
+-- are searched for. What makes each of them serve is a parameter, so that other conditions can be tried.
 use Prim.Native.Nat.{ℕ, zero, suc, _+_, _-_}
 use mathlib.Core.Bool.{Bool, cond, not}
 use mathlib.Core.List.{List, [], _∷_, _++_}
@@ -36,8 +36,8 @@ levelsOf kinds = record {
   object-patterns = patternOf kinds;
 }
 
--- what makes an object serve for (a), where the last m objects are the tail; a streak for (b), by that object; a pattern
--- for (c), by that streak
+-- what makes an object serve for (a), where the last m objects are the tail; a streak for (b), by that object; a
+-- pattern for (c), by that streak
 pub record Conditions : Type 0 where
   pub object : Levels → ℕ → ℕ → Bool
   pub streak : Levels → ℕ → ℕ → Bool

@@ -1,4 +1,5 @@
--- A chart's notes, for the rhythm claim: their deltas, their groups, which of them is a landmark, and which are counterparts.
+-- A chart's notes, for the rhythm claim: their deltas, their groups, which of them is a landmark, and which are
+-- counterparts.
 use Prim.Native.Nat.{ℕ}
 use mathlib.Core.Path.{_≡_}
 use mathlib.Core.Bool.{true}
@@ -37,7 +38,8 @@ rhythmGroups s c = intervalGroups (s .margin) (deltasOf c)
 abbrev pub LandmarkNote : Settings → Chart → ℕ → ℕ → Type 0
 LandmarkNote s c m i = RhythmLandmark (s .margin) (deltasOf c) (tailNotes m c) i
 
--- object o of the one chart and object o′ of the other are notes both or neither, and then they are counterparts as notes
+-- object o of the one chart and object o′ of the other are notes both or neither, and then they are counterparts as
+-- notes
 pub record SameNote (c : Chart) (o : ℕ) (c′ : Chart) (o′ : ℕ) : Type 0 where
   pub both : isNote (getD (c .kinds) o 0) ≡ isNote (getD (c′ .kinds) o′ 0)
   pub counterparts : isNote (getD (c .kinds) o 0) ≡ true

@@ -1,5 +1,5 @@
--- Which note is a rhythm landmark (document 01, "Landmarks"): the second of three neighbours in the tail, near the first and
--- not near the third.
+-- Which note is a rhythm landmark (document 01, "Landmarks"): the second of three neighbours in the tail, near the
+-- first and not near the third.
 use Prim.Native.Nat.{ℕ, _+_, _-_, _≤_, _<_}
 use mathlib.Core.Path.{_≡_}
 use mathlib.Core.Bool.{Bool, true, false, not}
@@ -10,8 +10,8 @@ use lib.Ieee.{Float, nan}
 use Rattle.numeric.specs.Near.{isNear}
 use Rattle.agreement.specs.Tests.{allTrue}
 
--- note i is a landmark, where the notes have these deltas and the last t of them are of the tail. Notes are given by their
--- numbers, from 0
+-- note i is a landmark, where the notes have these deltas and the last t of them are of the tail. Notes are given by
+-- their numbers, from 0
 pub record RhythmLandmark (margin : Float) (deltas : List Float) (t i : ℕ) : Type 0 where
   -- there are a note i − 1 and a note i + 1
   pub before-there : 0 < i
