@@ -3,22 +3,19 @@
 use mathlib.Core.Path.{_≡_, refl, sym, ap, _∙_, subst, subst₂, transport}
 use mathlib.Core.Logic.{_⊎_, inl, inr, ⊎-elim}
 use mathlib.Core.List.{List, _++_, append-assoc}
-use mathlib.Core.Bool.{Bool, true, false}
 use Prim.Native.Nat.{ℕ, _+_, _-_, _≤_, _<_}
 use native.Mathlib.Omega.{arith}
 use lib.ListN.{length, getD, take, drop, length-append, length-drop, take-append-drop}
 use lib.Seq.{getD-take, getD-append-add, length-take-le}
-use lib.Dec.{ltb}
-use borrow.Author.Tests.{ltb-true, ltb-false}
 use Rattle.grouping_marks.specs.Marks.{groupCount, groupNumbers, groupSizes, groupFirsts}
 use Rattle.grouping_marks.proofs.MarksLaws.{count-le, length-numbers}
 use Rattle.grouping_marks.proofs.CutLaws.{Opening, opening-at, count-cut}
 use Rattle.grouping_marks.proofs.SplitLaws.{Split, split-numbers, split-length, split-at, split-before}
 use Rattle.grouping_chart.specs.Object.{isNote}
 use Rattle.grouping_color.specs.MonoStreak.{streakMarks, streakOf, streakLengths}
-use Rattle.grouping_color.specs.Preprocessor.{patternsOpen, coupledPatterns, patternOf}
+use Rattle.grouping_color.specs.Preprocessor.{patternsOpen, coupledPatterns}
 use Rattle.grouping_color.proofs.LengthLaws.{length-streakMarks}
-use Rattle.grouping_color.proofs.BoundLaws.{length-patternsOpen, length-patternOf}
+use Rattle.grouping_color.proofs.BoundLaws.{length-streakOf, length-patternsOpen, length-patternOf}
 use Rattle.grouping_color.proofs.MadeLaws.{streakOf-made}
 use Rattle.grouping_color.proofs.StreakCutLaws.{HasNote, streakMarksAfter, streakMarks-cut, streakMarks-agree}
 use Rattle.agreement.specs.CommonTail.{Counterparts, lastOf, SameLast}
@@ -26,7 +23,7 @@ use Rattle.agreement.specs.colour.Landmark.{ColourLandmark}
 use Rattle.agreement.specs.colour.Agreement.{Agree, Agreement}
 use Rattle.agreement.proofs.colour.RiseLaws.{pattern-rises}
 use Rattle.agreement.proofs.colour.AgreementLaws.{agreement-sym}
-use Rattle.agreement.proofs.colour.PartLaws.{Parted, backPattern, patterns-split, objects-back, parted-agree}
+use Rattle.agreement.proofs.colour.PartLaws.{Parted, patterns-split, objects-back, parted-agree}
 use Rattle.agreement.proofs.colour.LevelLaws.{StreaksCut, streaks-cut, Unequal, PatternsCut, patterns-cut, backMarks, backFirsts, backFlags, Uncoupled}
 use Rattle.agreement.proofs.colour.LevelLaws.{back, streak-cut, pattern-cut, parted, parted-objects, parted-patterns}
 
@@ -34,9 +31,18 @@ use Rattle.agreement.proofs.colour.LevelLaws.{back, streak-cut, pattern
 at-back : (front tail : List ℕ) (xs : List ℕ) (i j : ℕ) → xs ≡ front ++ tail → i ≡ length front + j → getD xs i 0 ≡ getD tail j 0
 at-back front tail xs i j e f = (λ k. getD (e k) (f k) 0) ∙ getD-append-add front tail j 0
 
+-- a number behind a cut
+split-from : {xs : List ℕ} {at c : ℕ} {back : List ℕ} → Split xs at c back → (i : ℕ) → at ≤ i → i < length xs → c ≤ getD xs i 0
+split-from {xs} {at} {c} s i l h =
+    let o : at + (i - at) ≡ i = omega arith in
+    subst (λ (n : ℕ). c ≤ getD xs n 0) o (omega (arith, split-at s (i - at) (omega (arith, split-length s))))
+
 -- ---- a landmark of a chart that is cut before the object of (a)
 
 module _ (front rest : List ℕ) {n position : ℕ} (m : ColourLandmark (front ++ rest) n position) (e : m .object ≡ length front) where
+  abbrev kinds : List ℕ
+  kinds = front ++ rest
+
   marks : List ℕ
   marks = streakMarksAfter front rest
 
@@ -45,27 +51,27 @@ module _ (front rest : List ℕ) {n position : ℕ} (m : ColourLandmark (front +
 
   opening : Opening marks
   unfolding marks
-  opening =
-      opening-at marks
-      (λ h. sym (at-back (streakMarks front) marks (streakMarks (front ++ rest)) (m .object) 0 (streakMarks-cut front rest) (omega (arith, length-streakMarks front))) ∙ m .object-opens)
+  opening = opening-at marks (λ h. sym (at-back (streakMarks front) marks (streakMarks kinds) (m .object) 0 (streakMarks-cut front rest) here) ∙ m .object-opens)
+    where
+      here : m .object ≡ length (streakMarks front) + 0
+      here = omega (arith, length-streakMarks front)
 
-  cut : StreaksCut (front ++ rest) (length front) marks types
+  cut : StreaksCut kinds (length front) marks types
   unfolding types marks
   cut = streaks-cut front rest marks refl opening
 
   -- ---- (b), counted from (a)
 
-  marks-some : 0 < length marks
-  marks-some = omega (arith, m .object-there, e, length-streakMarks (front ++ rest), ap length (cut .whole), length-append (cut .front) marks, cut .size)
+  streaks-cut-numbers : Split (streakOf kinds) (length (cut .front)) (groupCount (cut .front)) (groupNumbers marks)
+  streaks-cut-numbers = rw (streakOf-made kinds, cut .whole) (split-numbers (cut .front) marks opening)
 
   streak-from : groupCount (cut .front) ≤ m .streak
   streak-from =
-      let s : Split (streakOf (front ++ rest)) (length (cut .front)) (groupCount (cut .front)) (groupNumbers marks) = rw (streakOf-made (front ++ rest), cut .whole) (split-numbers (cut .front) marks opening) in
-      let a : getD (streakOf (front ++ rest)) (length (cut .front) + 0) 0 ≡ groupCount (cut .front) + getD (groupNumbers marks) 0 0 =
-      split-at s 0 (omega (arith, marks-some, length-numbers marks)) in
-      let o : length (cut .front) + 0 ≡ m .object = omega (arith, cut .size) in
-      let b : getD (streakOf (front ++ rest)) (m .object) 0 ≡ groupCount (cut .front) + getD (groupNumbers marks) 0 0 = rw o at a in
-      omega (arith, b, m .streak-after)
+      omega (
+        arith,
+        split-from streaks-cut-numbers (m .object) (omega (arith, cut .size)) (omega (arith, m .object-there, length-streakOf kinds)),
+        m .streak-after,
+      )
 
   -- the second of the two streaks
   q : ℕ
@@ -75,8 +81,8 @@ module _ (front rest : List ℕ) {n position : ℕ} (m : ColourLandmark (front +
   unfolding q
   q-is = omega (arith, streak-from)
 
-  length-at : (i j : ℕ) → groupCount (cut .front) + j ≡ i → getD (streakLengths (front ++ rest)) i 0 ≡ getD (groupSizes marks) j 0
-  length-at i j h = at-back (cut .front-lengths) (groupSizes marks) (streakLengths (front ++ rest)) i j (cut .lengths) (omega (arith, cut .count))
+  length-at : (i j : ℕ) → groupCount (cut .front) + j ≡ i → getD (streakLengths kinds) i 0 ≡ getD (groupSizes marks) j 0
+  length-at i j h = at-back (cut .front-lengths) (groupSizes marks) (streakLengths kinds) i j (cut .lengths) (omega (arith, cut .count))
 
   unequal : Unequal marks q
   unequal = record {
@@ -87,19 +93,20 @@ module _ (front rest : List ℕ) {n position : ℕ} (m : ColourLandmark (front +
 
   -- ---- (c), counted from (b)
 
-  level : PatternsCut (front ++ rest) (groupCount (cut .front) + q) (backMarks marks q) (backFirsts marks q) (backFlags marks types q)
+  abbrev flags : List ℕ
+  flags = backFlags marks types q
+
+  level : PatternsCut kinds (groupCount (cut .front) + q) (backMarks marks q) (backFirsts marks q) flags
   level = patterns-cut cut q unequal
+
+  patterns-cut-numbers : Split (groupNumbers (patternsOpen kinds)) (length (level .front)) (groupCount (level .front)) (groupNumbers (backMarks marks q))
+  patterns-cut-numbers = rw (level .whole) (split-numbers (level .front) (backMarks marks q) (level .opening))
 
   pattern-from : groupCount (level .front) ≤ m .pattern
   pattern-from =
-      let s : Split (groupNumbers (patternsOpen (front ++ rest))) (length (level .front)) (groupCount (level .front)) (groupNumbers (backMarks marks q)) =
-      rw (level .whole) (split-numbers (level .front) (backMarks marks q) (level .opening)) in
-      let l : 0 < length (groupNumbers (backMarks marks q)) =
-      omega (arith, length-numbers (backMarks marks q), length-patternsOpen (front ++ rest), ap length (level .whole), length-append (level .front) (backMarks marks q), level .size, q-is, m .streak-next) in
-      let a : getD (groupNumbers (patternsOpen (front ++ rest))) (length (level .front) + 0) 0 ≡ groupCount (level .front) + getD (groupNumbers (backMarks marks q)) 0 0 = split-at s 0 l in
-      let o : length (level .front) + 0 ≡ m .streak + 1 = omega (arith, level .size, q-is) in
-      let b : getD (groupNumbers (patternsOpen (front ++ rest))) (m .streak + 1) 0 ≡ groupCount (level .front) + getD (groupNumbers (backMarks marks q)) 0 0 = rw o at a in
-      omega (arith, b, m .pattern-from)
+      let there : m .streak + 1 < length (groupNumbers (patternsOpen kinds)) =
+      omega (arith, m .streak-next, length-numbers (patternsOpen kinds), length-patternsOpen kinds) in
+      omega (arith, split-from patterns-cut-numbers (m .streak + 1) (omega (arith, level .size, q-is)) there, m .pattern-from)
 
   -- the first of the two patterns
   p : ℕ
@@ -109,8 +116,8 @@ module _ (front rest : List ℕ) {n position : ℕ} (m : ColourLandmark (front +
   unfolding p
   p-is = omega (arith, pattern-from)
 
-  flag-at : (i j : ℕ) → groupCount (level .front) + j ≡ i → getD (coupledPatterns (front ++ rest)) i 0 ≡ getD (backFlags marks types q) j 0
-  flag-at i j h = at-back (level .front-flags) (backFlags marks types q) (coupledPatterns (front ++ rest)) i j (level .flags-whole) (omega (arith, level .count-flags))
+  flag-at : (i j : ℕ) → groupCount (level .front) + j ≡ i → getD (coupledPatterns kinds) i 0 ≡ getD flags j 0
+  flag-at i j h = at-back (level .front-flags) flags (coupledPatterns kinds) i j (level .flags-whole) (omega (arith, level .count-flags))
 
   uncoupled : Uncoupled marks types q p
   uncoupled = record {
@@ -121,7 +128,7 @@ module _ (front rest : List ℕ) {n position : ℕ} (m : ColourLandmark (front +
 
   -- ---- the cut at the landmark
 
-  here : Parted (front ++ rest) (back unequal uncoupled)
+  here : Parted kinds (back unequal uncoupled)
   here = parted unequal uncoupled cut
 
   second-below : length (here .hits) ≡ m .pattern + 2
@@ -130,32 +137,22 @@ module _ (front rest : List ℕ) {n position : ℕ} (m : ColourLandmark (front +
 
   -- it stands where the landmark does: the second pattern's last object is before it, and no object between
   last-before : m .last < length (here .streaks)
-  last-before = by (ltb (m .last) (length (here .streaks))) refl
-    where
-      by : (b : Bool) → ltb (m .last) (length (here .streaks)) ≡ b → m .last < length (here .streaks)
-      by true h = ltb-true (m .last) (length (here .streaks)) h
-      by false h =
-          let l : length (here .streaks) ≤ m .last = ltb-false (m .last) (length (here .streaks)) h in
-          let j : ℕ = m .last - length (here .streaks) in
-          let o : length (here .streaks) + j ≡ m .last = omega arith in
-          let i : j < length (backPattern (back unequal uncoupled)) = omega (arith, objects-back here, m .last-there, split-length (patterns-split here), length-patternOf (front ++ rest)) in
-          let v : getD (patternOf (front ++ rest)) (m .last) 0 ≡ length (here .hits) + getD (backPattern (back unequal uncoupled)) j 0 = rw o at (split-at (patterns-split here) j i) in
-          absurd (omega (arith, v, second-below, m .last-of-second))
+  last-before =
+      let not-behind : length (here .streaks) ≤ m .last → ⊥ =
+      λ l.
+      omega (arith, split-from (patterns-split here) (m .last) l (omega (arith, m .last-there, length-patternOf kinds)), second-below, m .last-of-second) in
+      omega arith
 
   none-between : m .last + 1 < length (here .streaks) → ⊥
   none-between h =
       let i : ℕ = length (here .streaks) - 1 in
-      let t : i < length (front ++ rest) = omega (arith, objects-back here) in
+      let t : i < length kinds = omega (arith, objects-back here) in
       let a = split-before (patterns-split here) i (omega arith) in
-      let b = pattern-rises (front ++ rest) (m .last) i (omega arith) t in
+      let b = pattern-rises kinds (m .last) i (omega arith) t in
       m .last-is-last i (omega arith) t (omega (arith, a, b, second-below, m .last-of-second))
 
   position-is : length (here .streaks) ≡ position
-  position-is = by (ltb (m .last + 1) (length (here .streaks))) refl
-    where
-      by : (b : Bool) → ltb (m .last + 1) (length (here .streaks)) ≡ b → length (here .streaks) ≡ position
-      by true h = absurd (none-between (ltb-true (m .last + 1) (length (here .streaks)) h))
-      by false h = omega (arith, ltb-false (m .last + 1) (length (here .streaks)) h, last-before, m .just-after)
+  position-is = let none = none-between in omega (arith, last-before, m .just-after)
 
   -- at least three objects stand between (a) and the landmark: one of the first streak of (b), and one of each pattern of (c)
   three-between : length front + 3 ≤ position
@@ -184,14 +181,14 @@ module _ (front rest : List ℕ) {n position : ℕ} (m : ColourLandmark (front +
     position-there =
         omega (arith, position-is, parted-objects unequal uncoupled cut, parted-objects unequal uncoupled (streaks-cut front′ rest marks same opening))
 
-    seam-agree : (limit position′ : ℕ) → position′ + length front ≡ position + length front′ → Agreement limit (front ++ rest) position (front′ ++ rest) position′
+    seam-agree : (limit position′ : ℕ) → position′ + length front ≡ position + length front′ → Agreement limit kinds position (front′ ++ rest) position′
     seam-agree limit position′ h =
         let a : length (there .streaks) ≡ position′ = omega (arith, position-there) in
         record {
           before = groupCount (here .hits);
           before′ = groupCount (there .hits);
           agree =
-              subst₂ (λ (i j : ℕ). Agree limit (front ++ rest) i (groupCount (here .hits)) (front′ ++ rest) j (groupCount (there .hits))) position-is a
+              subst₂ (λ (i j : ℕ). Agree limit kinds i (groupCount (here .hits)) (front′ ++ rest) j (groupCount (there .hits))) position-is a
               (parted-agree limit here there);
         }
 
@@ -227,53 +224,59 @@ module _ (pre tail : List ℕ) (offset : ℕ) (m : ColourLandmark (pre ++ tail) 
 
   note-in : HasNote (take lead tail)
   note-in = record {
-    place = m .note - length pre;
+    place = place;
     inside = omega (arith, inside, length-take-le lead tail lead-le);
-    note = ap isNote (getD-take lead tail (m .note - length pre) 0 inside ∙ sym (at-back pre tail (pre ++ tail) (m .note) (m .note - length pre) refl from)) ∙ m .note-is;
+    note = ap isNote (getD-take lead tail place 0 inside ∙ sym (at-back pre tail (pre ++ tail) (m .note) place refl from)) ∙ m .note-is;
   }
     where
-      from : m .note ≡ length pre + (m .note - length pre)
+      place : ℕ
+      place = m .note - length pre
+
+      from : m .note ≡ length pre + place
       from = omega (arith, m .note-of-tail, length-append pre tail)
 
-      inside : m .note - length pre < lead
+      inside : place < lead
       inside = omega (arith, lead-is, m .note-before, from)
 
-  fronts : (before : List ℕ) → length (before ++ take lead tail) ≡ length before + lead
-  fronts before = omega (arith, length-append before (take lead tail), length-take-le lead tail lead-le)
+  -- a chart that ends so, cut before the object of (a)
+  abbrev fronted : List ℕ → List ℕ
+  fronted before = before ++ take lead tail
 
-  parts : (before : List ℕ) → before ++ tail ≡ (before ++ take lead tail) ++ drop lead tail
-  parts before = ap (λ (l : List ℕ). before ++ l) (sym (take-append-drop lead tail)) ∙ sym (append-assoc before (take lead tail) (drop lead tail))
+  front-long : (before : List ℕ) → length (fronted before) ≡ length before + lead
+  front-long before = omega (arith, length-append before (take lead tail), length-take-le lead tail lead-le)
 
-  -- what follows from a landmark of a chart that is cut before the object of (a) holds of this one
-  at-seam : (Q : List ℕ → Type 0)
-      → ((k : ColourLandmark ((pre ++ take lead tail) ++ drop lead tail) (length tail) (length pre + offset)) → k .object ≡ length (pre ++ take lead tail)
-      → Q ((pre ++ take lead tail) ++ drop lead tail))
-      → Q (pre ++ tail)
-  at-seam Q f =
-      subst (λ (l : List ℕ). (k : ColourLandmark l (length tail) (length pre + offset)) → k .object ≡ length (pre ++ take lead tail) → Q l) (sym (parts pre)) f m
-      (sym lead-is ∙ sym (fronts pre))
+  seam : (before : List ℕ) → fronted before ++ drop lead tail ≡ before ++ tail
+  seam before = append-assoc before (take lead tail) (drop lead tail) ∙ ap (λ (l : List ℕ). before ++ l) (take-append-drop lead tail)
 
   agreement : (limit : ℕ) (pre′ : List ℕ) → Agreement limit (pre ++ tail) (length pre + offset) (pre′ ++ tail) (length pre′ + offset)
   agreement limit pre′ =
-      at-seam (λ (l : List ℕ). Agreement limit l (length pre + offset) (pre′ ++ tail) (length pre′ + offset))
-      (λ k e. rw (parts pre′)
-      (seam-agree (pre ++ take lead tail) (drop lead tail) k e (pre′ ++ take lead tail) (streakMarks-agree pre′ pre (take lead tail) (drop lead tail) note-in)
-      limit (length pre′ + offset) (omega (arith, fronts pre, fronts pre′))))
+      subst (λ (l : List ℕ). (k : ColourLandmark l (length tail) (length pre + offset)) → k .object ≡ length (fronted pre)
+      → Agreement limit l (length pre + offset) (pre′ ++ tail) (length pre′ + offset)) (seam pre)
+      (λ k e. rw (← seam pre′) (seam-agree (fronted pre) (drop lead tail) k e (fronted pre′) same-marks limit (length pre′ + offset) same-place))
+      m (sym lead-is ∙ sym (front-long pre))
+    where
+      same-marks : streakMarksAfter (fronted pre′) (drop lead tail) ≡ streakMarksAfter (fronted pre) (drop lead tail)
+      same-marks = streakMarks-agree pre′ pre (take lead tail) (drop lead tail) note-in
+
+      same-place : length pre′ + offset + length (fronted pre) ≡ length pre + offset + length (fronted pre′)
+      same-place = omega (arith, front-long pre, front-long pre′)
 
 -- ---- the theorem
 
 -- two charts end in `tail`, and one of them has a landmark `offset` objects into it
-pub same-tail-agree : (limit : ℕ) (pre pre′ tail : List ℕ) (offset : ℕ)
+same-tail-agree : (limit : ℕ) (pre pre′ tail : List ℕ) (offset : ℕ)
     → ColourLandmark (pre ++ tail) (length tail) (length pre + offset) ⊎ ColourLandmark (pre′ ++ tail) (length tail) (length pre′ + offset)
     → Agreement limit (pre ++ tail) (length pre + offset) (pre′ ++ tail) (length pre′ + offset)
 same-tail-agree limit pre pre′ tail offset (inl m) = agreement pre tail offset m limit pre′
 same-tail-agree limit pre pre′ tail offset (inr m) = agreement-sym (agreement pre′ tail offset m limit pre)
 
 -- the last m kinds of two charts are alike, and one of them has a landmark; the two positions are counterparts
-pub colour-agree : (limit : ℕ) (kinds kinds′ : List ℕ) (m position position′ : ℕ) → SameLast m kinds kinds′ → Counterparts (length kinds) (length kinds′) position position′
+pub colour-agree : (limit : ℕ) (kinds kinds′ : List ℕ) (m position position′ : ℕ) → SameLast m kinds kinds′
+    → Counterparts (length kinds) (length kinds′) position position′
     → ColourLandmark kinds m position ⊎ ColourLandmark kinds′ m position′ → Agreement limit kinds position kinds′ position′
 colour-agree limit kinds kinds′ m position position′ s far x =
-    transport (λ i. ColourLandmark (whole i) (size i) (place i) ⊎ ColourLandmark (whole′ i) (size i) (place′ i) → Agreement limit (whole i) (place i) (whole′ i) (place′ i))
+    transport (λ i. ColourLandmark (whole i) (size i) (place i) ⊎ ColourLandmark (whole′ i) (size i) (place′ i)
+    → Agreement limit (whole i) (place i) (whole′ i) (place′ i))
     (same-tail-agree limit front front′ (lastOf m kinds) (position + m - length kinds)) x
   where
     front : List ℕ
