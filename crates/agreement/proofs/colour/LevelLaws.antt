@@ -2,7 +2,7 @@
 -- All that stands behind a cut is made of what stands behind the cut before, so it is the same in every chart.
 use mathlib.Core.Path.{_≡_, refl, sym, ap, _∙_}
 use mathlib.Core.List.{List, [], _∷_, _++_, append-assoc}
-use Prim.Native.Nat.{ℕ, suc, _+_, _-_, _<_}
+use Prim.Native.Nat.{ℕ, suc, _+_, _-_, _≤_, _<_}
 use native.Mathlib.Numerals.{add-one}
 use native.Mathlib.Omega.{arith}
 use lib.ListN.{length, getD, take, drop, length-append, length-drop, take-append-drop}
@@ -26,6 +26,17 @@ use Rattle.grouping_color.proofs.StreakCutLaws.{streakMarksAfter, length-marksA
 use Rattle.grouping_color.proofs.PatternCutLaws.{Uneven, patternMarks-cut, patternMarks-opening, counts-cut, listed-cut, coupled-cut}
 use Rattle.agreement.proofs.colour.PartLaws.{Back, Parted}
 
+-- a list that is cut, cut once more in its back
+cut-again : {xs d : List ℕ} (a b c : List ℕ) → xs ≡ a ++ d → d ≡ b ++ c → xs ≡ (a ++ b) ++ c
+cut-again a b c e f = e ∙ ap (λ (l : List ℕ). a ++ l) f ∙ sym (append-assoc a b c)
+
+cut-taken : {xs : List ℕ} (a d : List ℕ) (q : ℕ) → xs ≡ a ++ d → xs ≡ (a ++ take q d) ++ drop q d
+cut-taken a d q e = cut-again a (take q d) (drop q d) e (sym (take-append-drop q d))
+
+-- how long the part before that second cut is
+taken-long : (a d : List ℕ) (n q : ℕ) → length a ≡ n → q ≤ length d → length (a ++ take q d) ≡ n + q
+taken-long a d n q e h = omega (arith, length-append a (take q d), length-take-le q d h)
+
 -- ---- (a) a cut before a streak, after `position` objects: `marks` and `types` are the objects' marks and the streaks' types behind it
 
 pub record StreaksCut (kinds : List ℕ) (position : ℕ) (marks types : List ℕ) : Type 0 where
@@ -41,7 +52,8 @@ pub record StreaksCut (kinds : List ℕ) (position : ℕ) (marks types : List �
   pub back-types : length types ≡ groupCount marks
   pub opening : Opening marks
 
-pub streaks-cut : (front back marks : List ℕ) → streakMarksAfter front back ≡ marks → Opening marks → StreaksCut (front ++ back) (length front) marks (groupFirsts marks back)
+pub streaks-cut : (front back marks : List ℕ) → streakMarksAfter front back ≡ marks → Opening marks
+    → StreaksCut (front ++ back) (length front) marks (groupFirsts marks back)
 streaks-cut front back marks e o = record {
   front = streakMarks front;
   front-lengths = streakLengths front;
@@ -102,11 +114,11 @@ module _ {kinds : List ℕ} {position : ℕ} {marks types : List ℕ} (c : Strea
 
   before-long : length before ≡ groupCount (c .front) + q
   unfolding before
-  before-long = omega (arith, length-append (c .front-lengths) (take q (groupSizes marks)), length-take-le q (groupSizes marks) (omega (arith, back-long, u .inside)), c .count)
+  before-long = taken-long (c .front-lengths) (groupSizes marks) (groupCount (c .front)) q (c .count) (omega (arith, back-long, u .inside))
 
   before-types-long : length before-types ≡ groupCount (c .front) + q
   unfolding before-types
-  before-types-long = omega (arith, length-append (c .front-types) (take q types), length-take-le q types (omega (arith, c .back-types, u .inside)), c .count-types)
+  before-types-long = taken-long (c .front-types) types (groupCount (c .front)) q (c .count-types) (omega (arith, c .back-types, u .inside))
 
   behind-long : length (backLengths marks q) ≡ length (drop q types)
   unfolding backLengths
@@ -114,14 +126,11 @@ module _ {kinds : List ℕ} {position : ℕ} {marks types : List ℕ} (c : Strea
 
   lengths-split : streakLengths kinds ≡ before ++ backLengths marks q
   unfolding before backLengths
-  lengths-split =
-      c .lengths ∙ ap (λ (l : List ℕ). c .front-lengths ++ l) (sym (take-append-drop q (groupSizes marks)))
-      ∙ sym (append-assoc (c .front-lengths) (take q (groupSizes marks)) (drop q (groupSizes marks)))
+  lengths-split = cut-taken (c .front-lengths) (groupSizes marks) q (c .lengths)
 
   types-split : streakTypes kinds ≡ before-types ++ drop q types
   unfolding before-types
-  types-split =
-      c .types-whole ∙ ap (λ (l : List ℕ). c .front-types ++ l) (sym (take-append-drop q types)) ∙ sym (append-assoc (c .front-types) (take q types) (drop q types))
+  types-split = cut-taken (c .front-types) types q (c .types-whole)
 
   uneven : Uneven before (backLengths marks q)
   unfolding before backLengths
@@ -147,11 +156,14 @@ module _ {kinds : List ℕ} {position : ℕ} {marks types : List ℕ} (c : Strea
   unfolding front-marks backMarks backFirsts
   first-whole =
       firstLengths-made kinds ∙ ap (λ (l : List ℕ). groupFirsts l (streakLengths kinds)) (patternsOpen-made kinds)
-      ∙ ap (λ (l : List ℕ). groupFirsts (patternMarks l) l) lengths-split ∙ listed-cut before (backLengths marks q) uneven before (backLengths marks q) refl refl
+      ∙ ap (λ (l : List ℕ). groupFirsts (patternMarks l) l) lengths-split
+      ∙ listed-cut before (backLengths marks q) uneven before (backLengths marks q) refl refl
 
   counts-whole : streakCounts kinds ≡ groupSizes front-marks ++ groupSizes (backMarks marks q)
   unfolding front-marks backMarks
-  counts-whole = streakCounts-made kinds ∙ ap groupSizes (patternsOpen-made kinds) ∙ ap (λ (l : List ℕ). groupSizes (patternMarks l)) lengths-split ∙ counts-cut before (backLengths marks q) uneven
+  counts-whole =
+      streakCounts-made kinds ∙ ap groupSizes (patternsOpen-made kinds) ∙ ap (λ (l : List ℕ). groupSizes (patternMarks l)) lengths-split
+      ∙ counts-cut before (backLengths marks q) uneven
 
   pattern-types-whole : patternTypes kinds ≡ groupFirsts front-marks before-types ++ groupFirsts (backMarks marks q) (drop q types)
   unfolding front-marks backMarks
@@ -190,8 +202,9 @@ module _ {kinds : List ℕ} {position : ℕ} {marks types : List ℕ} (c : Strea
     firsts-whole = first-whole;
     flags-whole =
         coupledPatterns-made kinds ∙ (λ i. coupled (first-whole i) (counts-whole i) (pattern-types-whole i))
-        ∙ coupled-cut (groupFirsts front-marks before) (backFirsts marks q) (groupSizes front-marks) (groupSizes (backMarks marks q)) (groupFirsts front-marks before-types)
-        (groupFirsts (backMarks marks q) (drop q types)) (length-sizes front-marks ∙ sym firsts-count) (types-count ∙ sym firsts-count);
+        ∙ coupled-cut (groupFirsts front-marks before) (backFirsts marks q) (groupSizes front-marks) (groupSizes (backMarks marks q))
+        (groupFirsts front-marks before-types) (groupFirsts (backMarks marks q) (drop q types))
+        (length-sizes front-marks ∙ sym firsts-count) (types-count ∙ sym firsts-count);
     size = front-long ∙ before-long;
     count-firsts = firsts-count;
     count-flags = length-tabulate _ _ ∙ firsts-count;
@@ -230,7 +243,12 @@ module _ {marks types : List ℕ} {q p : ℕ} (u : Unequal marks q) (v : Uncoupl
       (omega (arith, u .inside, backMarks-long marks q, ap length (pattern-cut .whole), length-append (pattern-cut .front) (pattern-cut .back)))
 
   pub back : Back
-  back = record { streaks = streak-cut .back; patterns = pattern-cut .back; hits = hitMarks (drop (p + 2) (backFlags marks types q)); lengths = drop (p + 2) (backFirsts marks q) }
+  back = record {
+    streaks = streak-cut .back;
+    patterns = pattern-cut .back;
+    hits = hitMarks (drop (p + 2) (backFlags marks types q));
+    lengths = drop (p + 2) (backFirsts marks q);
+  }
 
   flags-split : backFlags marks types q ≡ take p (backFlags marks types q) ++ 0 ∷ 0 ∷ drop (p + 2) (backFlags marks types q)
   flags-split =
@@ -253,7 +271,7 @@ module _ {marks types : List ℕ} {q p : ℕ} (u : Unequal marks q) (v : Uncoupl
 
     flags-all : coupledPatterns kinds ≡ flags-front ++ 0 ∷ 0 ∷ drop (p + 2) (backFlags marks types q)
     unfolding flags-front
-    flags-all = level .flags-whole ∙ ap (λ (l : List ℕ). level .front-flags ++ l) flags-split ∙ sym (append-assoc (level .front-flags) (take p (backFlags marks types q)) _)
+    flags-all = cut-again (level .front-flags) (take p (backFlags marks types q)) _ (level .flags-whole) flags-split
 
     hits-all : hitsOpen kinds ≡ hitMarks (flags-front ++ 0 ∷ 0 ∷ []) ++ hitMarks (drop (p + 2) (backFlags marks types q))
     hits-all = hitsOpen-made kinds ∙ ap hitMarks flags-all ∙ hitMarks-cut flags-front (drop (p + 2) (backFlags marks types q))
@@ -265,9 +283,7 @@ module _ {marks types : List ℕ} {q p : ℕ} (u : Unequal marks q) (v : Uncoupl
           arith,
           length-hitMarks (flags-front ++ 0 ∷ 0 ∷ []),
           length-append flags-front (0 ∷ 0 ∷ []),
-          length-append (level .front-flags) (take p (backFlags marks types q)),
-          level .count-flags,
-          length-take-le p (backFlags marks types q) (omega (arith, backFlags-long marks types q, v .inside)),
+          taken-long (level .front-flags) (backFlags marks types q) (groupCount (level .front)) p (level .count-flags) (omega (arith, backFlags-long marks types q, v .inside)),
         )
 
     patterns-counted : groupCount (level .front ++ pattern-cut .front) ≡ groupCount (level .front) + (p + 2)
@@ -287,25 +303,18 @@ module _ {marks types : List ℕ} {q p : ℕ} (u : Unequal marks q) (v : Uncoupl
       patterns = level .front ++ pattern-cut .front;
       hits = hitMarks (flags-front ++ 0 ∷ 0 ∷ []);
       lengths = level .front-firsts ++ take (p + 2) (backFirsts marks q);
-      streaks-whole = c .whole ∙ ap (λ (l : List ℕ). c .front ++ l) (streak-cut .whole) ∙ sym (append-assoc (c .front) (streak-cut .front) (streak-cut .back));
-      patterns-whole = level .whole ∙ ap (λ (l : List ℕ). level .front ++ l) (pattern-cut .whole) ∙ sym (append-assoc (level .front) (pattern-cut .front) (pattern-cut .back));
+      streaks-whole = cut-again (c .front) (streak-cut .front) (streak-cut .back) (c .whole) (streak-cut .whole);
+      patterns-whole = cut-again (level .front) (pattern-cut .front) (pattern-cut .back) (level .whole) (pattern-cut .whole);
       hits-whole = hits-all;
-      lengths-whole =
-          level .firsts-whole ∙ ap (λ (l : List ℕ). level .front-firsts ++ l) (sym (take-append-drop (p + 2) (backFirsts marks q)))
-          ∙ sym (append-assoc (level .front-firsts) (take (p + 2) (backFirsts marks q)) (drop (p + 2) (backFirsts marks q)));
+      lengths-whole = cut-taken (level .front-firsts) (backFirsts marks q) (p + 2) (level .firsts-whole);
       streaks-open = streak-cut .opening;
       patterns-open = pattern-cut .opening;
       hits-open = hitMarks-opening (drop (p + 2) (backFlags marks types q));
       streaks-count = streaks-counted ∙ omega (arith, length-append (level .front) (pattern-cut .front), level .size);
       patterns-count = patterns-counted ∙ sym hits-long;
       lengths-count =
-          omega (
-            arith,
-            hits-long,
-            length-append (level .front-firsts) (take (p + 2) (backFirsts marks q)),
-            level .count-firsts,
-            length-take-le (p + 2) (backFirsts marks q) (omega (arith, backFirsts-long marks q, v .inside)),
-          );
+          taken-long (level .front-firsts) (backFirsts marks q) (groupCount (level .front)) (p + 2) (level .count-firsts) (omega (arith, backFirsts-long marks q, v .inside))
+          ∙ sym hits-long;
       some = omega (arith, length-append (c .front) (streak-cut .front), streak-cut .count, count-le (streak-cut .front), u .some);
     }
 
