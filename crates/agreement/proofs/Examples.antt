@@ -18,6 +18,7 @@ use Rattle.grouping_color.specs.MonoStreak.{continues, opensStreak, streakMarks
 use Rattle.grouping_color.specs.AlternatingMonoPattern.{opensPattern, patternMarks, coupledAt, coupled}
 use Rattle.grouping_color.specs.Preprocessor.{patternsOpen, firstLengths, streakCounts, patternTypes, coupledPatterns, hitsOpen, patternOf, hitOf}
 use Rattle.evaluator_values.specs.Colour.{valuesOf}
+use Rattle.evaluator_calls.specs.Stretch.{Stretch}
 use Rattle.evaluator_calls.specs.Calls.{chartMean}
 use Rattle.agreement.specs.CommonTail.{SameLast}
 use Rattle.agreement.specs.colour.Landmark.{ColourLandmark}
@@ -27,7 +28,8 @@ use Rattle.agreement.proofs.colour.Claimed.{colour-claim}
 
 abbrev tail : List ℕ
 tail =
-    0 ∷ 1 ∷ 1 ∷ 0 ∷ 0 ∷ 0 ∷ 1 ∷ 0 ∷ 0 ∷ 1 ∷ 1 ∷ 1 ∷ 0 ∷ 1 ∷ 1 ∷ 0 ∷ 0 ∷ 0 ∷ 1 ∷ 0 ∷ 0 ∷ 1 ∷ 1 ∷ 1 ∷ 0 ∷ 1 ∷ 1 ∷ 0 ∷ 0 ∷ 0 ∷ 1 ∷ 0 ∷ 0 ∷ 1 ∷ 1 ∷ 1 ∷ 0 ∷ 1 ∷ 1 ∷ []
+    0 ∷ 1 ∷ 1 ∷ 0 ∷ 0 ∷ 0 ∷ 1 ∷ 0 ∷ 0 ∷ 1 ∷ 1 ∷ 1 ∷ 0 ∷ 1 ∷ 1 ∷ 0 ∷ 0 ∷ 0
+    ∷ 1 ∷ 0 ∷ 0 ∷ 1 ∷ 1 ∷ 1 ∷ 0 ∷ 1 ∷ 1 ∷ 0 ∷ 0 ∷ 0 ∷ 1 ∷ 0 ∷ 0 ∷ 1 ∷ 1 ∷ 1 ∷ 0 ∷ 1 ∷ 1 ∷ []
 
 -- what computes: the landmark, by (a) object 1 with note 0 before it, (b) streaks 1 and 2, (c) patterns 2 and 3; and the last two objects' hit pattern
 record Shown : Type 0 where
@@ -94,4 +96,5 @@ module _ (starts deltas ratios : List Float) (whole : length ratios ≡ 39) wher
     -- and the stretch of its last two the mean
     pub any-stretch : chartMean baseSettings alone 37 39 ≡ chartMean baseSettings c (size c - 2) (size c)
     any-stretch =
-        claim .stretch 37 39 (size c - 2) (size c) settled (record { some = omega arith; inside = omega arith }) (omega (arith, kinds-alike .inside′)) (omega arith) .mean
+        let last-two : Stretch tail 37 39 = record { some = omega arith; inside = omega arith } in
+        claim .stretch 37 39 (size c - 2) (size c) settled last-two (omega (arith, kinds-alike .inside′)) (omega arith) .mean

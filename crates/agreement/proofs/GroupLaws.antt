@@ -18,7 +18,8 @@ ReachesBack g p i = (j : ℕ) × ((j < p) × (groupAt g j ≡ groupAt g i))
 
 pub record Matched (g : Groups) (p : ℕ) (g′ : Groups) (p′ : ℕ) : Type 0 where
   pub start : Counterparts (g .count) (g′ .count) p p′
-  pub share : (i i′ j j′ : ℕ) → p ≤ i → i < g .count → Counterparts (g .count) (g′ .count) i i′ → p ≤ j → j < g .count → Counterparts (g .count) (g′ .count) j j′
+  pub share : (i i′ j j′ : ℕ) → p ≤ i → i < g .count → Counterparts (g .count) (g′ .count) i i′
+      → p ≤ j → j < g .count → Counterparts (g .count) (g′ .count) j j′
       → (groupAt g i ≡ groupAt g j) ↔ (groupAt g′ i′ ≡ groupAt g′ j′)
   pub reach : (i i′ : ℕ) → p ≤ i → i < g .count → Counterparts (g .count) (g′ .count) i i′ → ReachesBack g p i ↔ ReachesBack g′ p′ i′
 
@@ -33,7 +34,8 @@ matched-sym m = record {
       (both .1, both .0);
 }
 
-module _ {g : Groups} {p : ℕ} {g′ : Groups} {p′ : ℕ} (m : Matched g p g′ p′) (i i′ : ℕ) (l : p ≤ i) (c : Counterparts (g .count) (g′ .count) i i′) (o : OpensAt g i) where
+module _ {g : Groups} {p : ℕ} {g′ : Groups} {p′ : ℕ} (m : Matched g p g′ p′) (i i′ : ℕ) (l : p ≤ i)
+    (c : Counterparts (g .count) (g′ .count) i i′) (o : OpensAt g i) where
   none-before : (j′ : ℕ) → j′ < i′ → groupAt g′ j′ ≡ groupAt g′ i′ → ⊥
   none-before j′ h e = by (ltb j′ p′) refl
     where

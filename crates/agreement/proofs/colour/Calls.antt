@@ -55,7 +55,8 @@ module _ (s : Settings) (c c′ : Chart) {m p p′ : ℕ} (k : SameLast m (c .ki
 
   pub encode-claim : (lent lent′ : encode.Memory) → encode.judged c lent ≡ Accepted → encode.judged c′ lent′ ≡ Accepted → EncodeClaim s c c′ lent lent′ p p′
   encode-claim lent lent′ x x′ =
-      hits-alike (hit-written s c lent x) (interval-written s c lent x) (hit-written s c′ lent′ x′) (interval-written s c′ lent′ x′) (accepted-claim _ _ x x′ .hits)
+      hits-alike (hit-written s c lent x) (interval-written s c lent x) (hit-written s c′ lent′ x′) (interval-written s c′ lent′ x′)
+      (accepted-claim _ _ x x′ .hits)
 
   pub calls-claim : (lent lent′ : Memory) → judged c lent ≡ Accepted → judged c′ lent′ ≡ Accepted → CallsClaim s c c′ lent lent′ p p′
   calls-claim lent lent′ x x′ =

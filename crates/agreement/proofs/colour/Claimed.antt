@@ -84,7 +84,8 @@ module _ (s : Settings) (c c′ : Chart) {a g b h : ℕ} (r : Agree (s .limit) (
     interval = λ i i′ x e. interval-agree i i′ (x .after) e (x .there) (settled-counts c (r .cut) x);
   }
 
-  module _ {m : ℕ} (whole : length (c .ratios) ≡ size c) (whole′ : length (c′ .ratios) ≡ size c′) (t : SameLast m (c .ratios) (c′ .ratios)) (late : size c + 4 ≤ a + m) where
+  module _ {m : ℕ} (whole : length (c .ratios) ≡ size c) (whole′ : length (c′ .ratios) ≡ size c′)
+      (t : SameLast m (c .ratios) (c′ .ratios)) (late : size c + 4 ≤ a + m) where
     same-value : (i i′ : ℕ) → Settled (s .limit) (hitPatterns c) a i → Counterparts (size c) (size c′) i i′ → valueAt s c i ≡ valueAt s c′ i′
     same-value i i′ x e = value-agree r (s .tolerance) whole whole′ t late i i′ (x .after) e (x .there) (settled-counts c (r .cut) x)
 
@@ -99,8 +100,9 @@ module _ (s : Settings) (c c′ : Chart) {a g b h : ℕ} (r : Agree (s .limit) (
 
 -- ---- the theorem
 
-pub colour-claim : (s : Settings) (c c′ : Chart) {m p p′ : ℕ} → length (c .ratios) ≡ size c → length (c′ .ratios) ≡ size c′ → SameLast m (c .kinds) (c′ .kinds)
-    → SameLast m (c .ratios) (c′ .ratios) → Counterparts (size c) (size c′) p p′ → ColourLandmark (c .kinds) m p ⊎ ColourLandmark (c′ .kinds) m p′ → ColourClaim s c c′ p p′
+pub colour-claim : (s : Settings) (c c′ : Chart) {m p p′ : ℕ} → length (c .ratios) ≡ size c → length (c′ .ratios) ≡ size c′
+    → SameLast m (c .kinds) (c′ .kinds) → SameLast m (c .ratios) (c′ .ratios) → Counterparts (size c) (size c′) p p′
+    → ColourLandmark (c .kinds) m p ⊎ ColourLandmark (c′ .kinds) m p′ → ColourClaim s c c′ p p′
 colour-claim s c c′ {m} {p} {p′} whole whole′ k t far x =
     let r = colour-agree (s .limit) (c .kinds) (c′ .kinds) m p p′ k far x in
     let late : size c + 4 ≤ p + m = ⊎-elim (λ y. omega (arith, landmark-late y)) (λ y. omega (arith, landmark-late y)) x in

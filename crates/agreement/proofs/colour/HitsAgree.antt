@@ -10,7 +10,7 @@ use lib.Seq.{getD-take, getD-append-add, length-take-le}
 use Rattle.grouping_marks.specs.Marks.{groupCount, groupNumbers, groupSizes, groupFirsts}
 use Rattle.grouping_marks.proofs.MarksLaws.{count-le, length-numbers}
 use Rattle.grouping_marks.proofs.CutLaws.{Opening, opening-at, count-cut}
-use Rattle.grouping_marks.proofs.SplitLaws.{Split, split-numbers, split-length, split-at, split-before}
+use Rattle.grouping_marks.proofs.SplitLaws.{Split, split-numbers, split-before}
 use Rattle.grouping_chart.specs.Object.{isNote}
 use Rattle.grouping_color.specs.MonoStreak.{streakMarks, streakOf, streakLengths}
 use Rattle.grouping_color.specs.Preprocessor.{patternsOpen, coupledPatterns}
@@ -23,19 +23,13 @@ use Rattle.agreement.specs.colour.Landmark.{ColourLandmark}
 use Rattle.agreement.specs.colour.Agreement.{Agree, Agreement}
 use Rattle.agreement.proofs.colour.RiseLaws.{pattern-rises}
 use Rattle.agreement.proofs.colour.AgreementLaws.{agreement-sym}
-use Rattle.agreement.proofs.colour.PartLaws.{Parted, patterns-split, objects-back, parted-agree}
+use Rattle.agreement.proofs.colour.PartLaws.{Parted, split-from, patterns-split, objects-back, parted-agree}
 use Rattle.agreement.proofs.colour.LevelLaws.{StreaksCut, streaks-cut, Unequal, PatternsCut, patterns-cut, backMarks, backFirsts, backFlags, Uncoupled}
 use Rattle.agreement.proofs.colour.LevelLaws.{back, streak-cut, pattern-cut, parted, parted-objects, parted-patterns}
 
 -- an entry behind a cut
 at-back : (front tail : List ℕ) (xs : List ℕ) (i j : ℕ) → xs ≡ front ++ tail → i ≡ length front + j → getD xs i 0 ≡ getD tail j 0
 at-back front tail xs i j e f = (λ k. getD (e k) (f k) 0) ∙ getD-append-add front tail j 0
-
--- a number behind a cut
-split-from : {xs : List ℕ} {at c : ℕ} {back : List ℕ} → Split xs at c back → (i : ℕ) → at ≤ i → i < length xs → c ≤ getD xs i 0
-split-from {xs} {at} {c} s i l h =
-    let o : at + (i - at) ≡ i = omega arith in
-    subst (λ (n : ℕ). c ≤ getD xs n 0) o (omega (arith, split-at s (i - at) (omega (arith, split-length s))))
 
 -- ---- a landmark of a chart that is cut before the object of (a)
 
@@ -51,7 +45,8 @@ module _ (front rest : List ℕ) {n position : ℕ} (m : ColourLandmark (front +
 
   opening : Opening marks
   unfolding marks
-  opening = opening-at marks (λ h. sym (at-back (streakMarks front) marks (streakMarks kinds) (m .object) 0 (streakMarks-cut front rest) here) ∙ m .object-opens)
+  opening =
+      opening-at marks (λ h. sym (at-back (streakMarks front) marks (streakMarks kinds) (m .object) 0 (streakMarks-cut front rest) here) ∙ m .object-opens)
     where
       here : m .object ≡ length (streakMarks front) + 0
       here = omega (arith, length-streakMarks front)

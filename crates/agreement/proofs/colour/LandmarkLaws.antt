@@ -1,7 +1,7 @@
 -- The test says true exactly of the landmarks.
 use mathlib.Core.Path.{_≡_, ap, _∙_}
 use mathlib.Core.List.{List, [], _∷_}
-use mathlib.Core.Bool.{true}
+use mathlib.Core.Bool.{Bool, true}
 use Prim.Native.Nat.{ℕ, _+_, _-_, _≤_, _<_}
 use native.Mathlib.Omega.{arith}
 use lib.Dec.{eqb, leb}
@@ -17,8 +17,8 @@ use Rattle.agreement.proofs.TestLaws.{not-of, all-first, all-rest, all-
 
 module _ (kinds : List ℕ) (m position : ℕ) where
   -- the four tests of an object, a streak and a pattern
-  landmark-of : (object streak pattern : ℕ) → object < length kinds → objectServes (levelsOf kinds) m object ≡ true → streakServes (levelsOf kinds) object streak ≡ true
-      → patternServes (levelsOf kinds) streak pattern ≡ true → endsAt (levelsOf kinds) (pattern + 1) position ≡ true → ColourLandmark kinds m position
+  landmark-of : (object streak pattern : ℕ) → object < length kinds → objectServes (levelsOf kinds) m object ≡ true
+      → streakServes (levelsOf kinds) object streak ≡ true → patternServes (levelsOf kinds) streak pattern ≡ true → endsAt (levelsOf kinds) (pattern + 1) position ≡ true → ColourLandmark kinds m position
   unfolding levelsOf tailNoteBefore objectServes streakServes patternServes endsAt
   landmark-of object streak pattern h a b c d =
       let y = any-found _ _ (all-first _ _ (all-rest _ _ a)) in
@@ -70,7 +70,7 @@ module _ (kinds : List ℕ) (m position : ℕ) where
     unfolding levelsOf tailNoteBefore objectServes
     object-test =
         all-more _ _ (eq-eqb _ _ (x .object-opens))
-        (all-more _ _ (found-any (x .object) (λ (note : ℕ). allTrue (isNote (getD kinds note 0) ∷ leb (length kinds) (note + m) ∷ [])) (x .note) (x .note-before)
+        (all-more _ _ (found-any (x .object) (λ (i : ℕ). allTrue (isNote (getD kinds i 0) ∷ leb (length kinds) (i + m) ∷ [])) (x .note) (x .note-before)
         (all-more _ _ (x .note-is) (all-more _ _ (le-leb _ _ (x .note-of-tail)) all-none))) all-none)
 
     streak-test : streakServes (levelsOf kinds) (x .object) (x .streak) ≡ true
@@ -84,7 +84,8 @@ module _ (kinds : List ℕ) (m position : ℕ) where
     unfolding levelsOf patternServes
     pattern-test =
         all-more _ _ (le-leb _ _ (x .pattern-from))
-        (all-more _ _ (lt-ltb _ _ (x .pattern-next)) (all-more _ _ (eq-eqb _ _ (x .pattern-uncoupled)) (all-more _ _ (eq-eqb _ _ (x .next-uncoupled)) all-none)))
+        (all-more _ _ (lt-ltb _ _ (x .pattern-next))
+        (all-more _ _ (eq-eqb _ _ (x .pattern-uncoupled)) (all-more _ _ (eq-eqb _ _ (x .next-uncoupled)) all-none)))
 
     end-test : endsAt (levelsOf kinds) (x .pattern + 1) position ≡ true
     unfolding levelsOf endsAt
@@ -92,12 +93,16 @@ module _ (kinds : List ℕ) (m position : ℕ) where
         all-more _ _ (lt-ltb 0 position (omega (arith, x .just-after)))
         (all-more _ _ (le-leb position (length kinds) (omega (arith, x .just-after, x .last-there)))
         (all-more _ _ (eq-eqb _ _ (ap (λ (i : ℕ). getD (patternOf kinds) i 0) before ∙ x .last-of-second))
-        (all-more _ _ (not-of _ (none-found (length kinds) (λ (i : ℕ). allTrue (leb position i ∷ eqb (getD (patternOf kinds) i 0) (x .pattern + 1) ∷ [])) none)) all-none)))
+        (all-more _ _ (not-of _ (none-found (length kinds) later none)) all-none)))
       where
         before : position - 1 ≡ x .last
         before = omega (arith, x .just-after)
 
-        none : (i : ℕ) → i < length kinds → allTrue (leb position i ∷ eqb (getD (patternOf kinds) i 0) (x .pattern + 1) ∷ []) ≡ true → ⊥
+        -- object i stands behind the position and is of the pattern
+        later : ℕ → Bool
+        later i = allTrue (leb position i ∷ eqb (getD (patternOf kinds) i 0) (x .pattern + 1) ∷ [])
+
+        none : (i : ℕ) → i < length kinds → later i ≡ true → ⊥
         none i h e =
             let l : position ≤ i = leb-true _ _ (all-first _ _ e) in
             x .last-is-last i (omega (arith, x .just-after)) h (eqb-true _ _ (all-first _ _ (all-rest _ _ e)))

@@ -283,8 +283,11 @@ module _ {marks types : List ℕ} {q p : ℕ} (u : Unequal marks q) (v : Uncoupl
           arith,
           length-hitMarks (flags-front ++ 0 ∷ 0 ∷ []),
           length-append flags-front (0 ∷ 0 ∷ []),
-          taken-long (level .front-flags) (backFlags marks types q) (groupCount (level .front)) p (level .count-flags) (omega (arith, backFlags-long marks types q, v .inside)),
+          taken-long (level .front-flags) (backFlags marks types q) (groupCount (level .front)) p (level .count-flags) enough,
         )
+      where
+        enough : p ≤ length (backFlags marks types q)
+        enough = omega (arith, backFlags-long marks types q, v .inside)
 
     patterns-counted : groupCount (level .front ++ pattern-cut .front) ≡ groupCount (level .front) + (p + 2)
     patterns-counted =
@@ -313,7 +316,8 @@ module _ {marks types : List ℕ} {q p : ℕ} (u : Unequal marks q) (v : Uncoupl
       streaks-count = streaks-counted ∙ omega (arith, length-append (level .front) (pattern-cut .front), level .size);
       patterns-count = patterns-counted ∙ sym hits-long;
       lengths-count =
-          taken-long (level .front-firsts) (backFirsts marks q) (groupCount (level .front)) (p + 2) (level .count-firsts) (omega (arith, backFirsts-long marks q, v .inside))
+          taken-long (level .front-firsts) (backFirsts marks q) (groupCount (level .front)) (p + 2) (level .count-firsts)
+          (omega (arith, backFirsts-long marks q, v .inside))
           ∙ sym hits-long;
       some = omega (arith, length-append (c .front) (streak-cut .front), streak-cut .count, count-le (streak-cut .front), u .some);
     }

@@ -25,7 +25,7 @@ use Rattle.grouping_color.proofs.BoundLaws.{length-patternsOpen, length-hitsOpe
 use Rattle.grouping_color.proofs.BoundLaws.{intervalOf-looked}
 use Rattle.grouping_color.proofs.MadeLaws.{streakOf-made, coupledPatterns-made, hitsOpen-made, hitCount-made, hitSizes-made, hitFirsts-made, hitSeconds-made}
 use Rattle.grouping_color.proofs.MadeLaws.{hitIntervals-made}
-use Rattle.agreement.specs.colour.Agreement.{HitsCut, Agree}
+use Rattle.agreement.specs.colour.Agreement.{FirstAlike, HitsCut, Agree}
 
 -- what stands behind the cut: the marks of each level, and the patterns' first lengths
 pub record Back : Type 0 where
@@ -59,18 +59,56 @@ backPattern k = gathered (groupNumbers (k .patterns)) (groupNumbers (k .streaks)
 unfoldable pub backHit : Back → List ℕ
 backHit k = gathered (groupNumbers (k .hits)) (backPattern k)
 
+-- and each hit pattern's size and first two lengths
+abbrev hitSizesBehind : Back → List ℕ
+hitSizesBehind k = groupSizes (k .hits)
+
+abbrev hitFirstsBehind : Back → List ℕ
+hitFirstsBehind k = groupFirsts (k .hits) (k .lengths)
+
+abbrev hitSecondsBehind : Back → List ℕ
+hitSecondsBehind k = groupFirsts (k .hits) (secondLengths (k .lengths) (k .hits))
+
+-- ---- lists that are cut
+
 -- a level with an item for each group of the level below it, before the cut and in all, has one for each behind the cut too
-back-level : {whole below : List ℕ} (front back front′ back′ : List ℕ) → length whole ≡ groupCount below → whole ≡ front ++ back → below ≡ front′ ++ back′ → Opening back′
-    → groupCount front′ ≡ length front → length back ≡ groupCount back′
+back-level : {whole below : List ℕ} (front back front′ back′ : List ℕ) → length whole ≡ groupCount below → whole ≡ front ++ back
+    → below ≡ front′ ++ back′ → Opening back′ → groupCount front′ ≡ length front → length back ≡ groupCount back′
 back-level front back front′ back′ long e f o h = omega (arith, long, ap length e, length-append front back, ap groupCount f, count-cut front′ back′ o, h)
+
+-- a number behind the cut
+pub split-from : {xs : List ℕ} {at c : ℕ} {back : List ℕ} → Split xs at c back → (i : ℕ) → at ≤ i → i < length xs → c ≤ getD xs i 0
+split-from {xs} {at} {c} s i l h =
+    let o : at + (i - at) ≡ i = omega arith in
+    subst (λ (n : ℕ). c ≤ getD xs n 0) o (omega (arith, split-at s (i - at) (omega (arith, split-length s))))
+
+-- a place behind the cut, in a level whose marks are cut there
+place-behind : {places marks idx numbers : List ℕ} {at : ℕ} (front back : List ℕ) → gathered (groupPlaces marks) idx ≡ places → marks ≡ front ++ back
+    → Opening back → Split idx at (length front) numbers → (j : ℕ) → j < length numbers → getD places (at + j) 0 ≡ getD (groupPlaces back) (getD numbers j 0) 0
+place-behind {idx = idx} {at = at} front back looked whole o s j h =
+    sym (ap (λ (l : List ℕ). getD l (at + j) 0) looked)
+    ∙ ap (λ (l : List ℕ). getD (gathered l idx) (at + j) 0) (ap groupPlaces whole ∙ places-cut front back o)
+    ∙ split-looked s (groupPlaces front) (groupPlaces back) (length-places front) j h
+
+-- two lists that are cut so, with the same numbers behind
+first-alike : {xs ys back : List ℕ} {a b c d : ℕ} → Split xs a c back → Split ys b d back → 0 < a → 0 < b → (j : ℕ) → j < length back → FirstAlike xs ys a b j
+first-alike s t some some′ j h = split-continues s some j h ∙ sym (split-continues t some′ j h)
+
+-- what is left of a list behind the cut
+left-behind : {xs : List ℕ} {n : ℕ} (front back : List ℕ) → xs ≡ front ++ back → length front ≡ n → drop n xs ≡ back
+left-behind {n = n} front back e h = ap (drop n) e ∙ drop-at front back n h
 
 module _ {kinds : List ℕ} {k : Back} (x : Parted kinds k) where
   -- the levels behind the cut fit each other as those of the whole chart do
   back-patterns : length (k .patterns) ≡ groupCount (k .streaks)
-  back-patterns = back-level (x .patterns) (k .patterns) (x .streaks) (k .streaks) (length-patternsOpen kinds) (x .patterns-whole) (x .streaks-whole) (x .streaks-open) (x .streaks-count)
+  back-patterns =
+      back-level (x .patterns) (k .patterns) (x .streaks) (k .streaks) (length-patternsOpen kinds) (x .patterns-whole) (x .streaks-whole) (x .streaks-open)
+      (x .streaks-count)
 
   back-hits : length (k .hits) ≡ groupCount (k .patterns)
-  back-hits = back-level (x .hits) (k .hits) (x .patterns) (k .patterns) (length-hitsOpen kinds) (x .hits-whole) (x .patterns-whole) (x .patterns-open) (x .patterns-count)
+  back-hits =
+      back-level (x .hits) (k .hits) (x .patterns) (k .patterns) (length-hitsOpen kinds) (x .hits-whole) (x .patterns-whole) (x .patterns-open)
+      (x .patterns-count)
 
   -- ---- the numbers
 
@@ -80,35 +118,31 @@ module _ {kinds : List ℕ} {k : Back} (x : Parted kinds k) where
   patterns-table : Split (groupNumbers (patternsOpen kinds)) (length (x .patterns)) (length (x .hits)) (groupNumbers (k .patterns))
   patterns-table = rw (x .patterns-whole, ← x .patterns-count) (split-numbers (x .patterns) (k .patterns) (x .patterns-open))
 
-  streaks-inside : Below (groupNumbers (k .streaks)) (length (k .patterns))
-  streaks-inside i h = omega (arith, below-numbers (k .streaks) i h, back-patterns)
+  streaks-inside : Below (groupNumbers (k .streaks)) (length (groupNumbers (k .patterns)))
+  streaks-inside i h = omega (arith, below-numbers (k .streaks) i h, back-patterns, length-numbers (k .patterns))
 
   pub patterns-split : Split (patternOf kinds) (length (x .streaks)) (length (x .hits)) (backPattern k)
   unfolding backPattern
-  patterns-split = rw (← patternOf-looked kinds) (split-gathered streaks-split patterns-table (λ i h. omega (arith, streaks-inside i h, length-numbers (k .patterns))))
+  patterns-split = rw (← patternOf-looked kinds) (split-gathered streaks-split patterns-table streaks-inside)
 
-  patterns-inside : Below (backPattern k) (length (k .hits))
+  patterns-inside : Below (backPattern k) (length (groupNumbers (k .hits)))
   unfolding backPattern
   patterns-inside i h =
       omega (
         arith,
+        below-gathered (groupNumbers (k .patterns)) (groupNumbers (k .streaks)) (groupCount (k .patterns)) (below-numbers (k .patterns)) streaks-inside i h,
         back-hits,
-        below-gathered (groupNumbers (k .patterns)) (groupNumbers (k .streaks)) (groupCount (k .patterns)) (below-numbers (k .patterns))
-            (λ j l. omega (arith, streaks-inside j l, length-numbers (k .patterns))) i h,
+        length-numbers (k .hits),
       )
 
   hits-split : Split (hitOf kinds) (length (x .streaks)) (groupCount (x .hits)) (backHit k)
   unfolding backHit
   hits-split =
-      rw (← hitOf-looked kinds)
-      (split-gathered patterns-split
-      (rw (x .hits-whole) (split-numbers (x .hits) (k .hits) (x .hits-open)))
-      (λ i h. omega (arith, patterns-inside i h, length-numbers (k .hits))))
+      rw (← hitOf-looked kinds) (split-gathered patterns-split (rw (x .hits-whole) (split-numbers (x .hits) (k .hits) (x .hits-open))) patterns-inside)
 
   hits-inside : Below (backHit k) (groupCount (k .hits))
   unfolding backHit
-  hits-inside =
-      below-gathered (groupNumbers (k .hits)) (backPattern k) (groupCount (k .hits)) (below-numbers (k .hits)) (λ i h. omega (arith, patterns-inside i h, length-numbers (k .hits)))
+  hits-inside = below-gathered (groupNumbers (k .hits)) (backPattern k) (groupCount (k .hits)) (below-numbers (k .hits)) patterns-inside
 
   pub objects-back : length kinds ≡ length (x .streaks) + length (k .streaks)
   objects-back = omega (arith, length-streakMarks kinds, ap length (x .streaks-whole), length-append (x .streaks) (k .streaks))
@@ -128,17 +162,12 @@ module _ {kinds : List ℕ} {k : Back} (x : Parted kinds k) where
   module _ (j : ℕ) (h : j < length (k .streaks)) where
     streak-place-back : getD (streakPlaceOf kinds) (length (x .streaks) + j) 0 ≡ getD (groupPlaces (k .patterns)) (getD (groupNumbers (k .streaks)) j 0) 0
     streak-place-back =
-        ap (λ (l : List ℕ). getD l (length (x .streaks) + j) 0) (sym (streakPlaceOf-looked kinds))
-        ∙ ap (λ (l : List ℕ). getD (gathered l (streakOf kinds)) (length (x .streaks) + j) 0)
-        (ap groupPlaces (x .patterns-whole) ∙ places-cut (x .patterns) (k .patterns) (x .patterns-open))
-        ∙ split-looked streaks-split (groupPlaces (x .patterns)) (groupPlaces (k .patterns)) (length-places (x .patterns)) j (omega (arith, length-numbers (k .streaks)))
+        place-behind (x .patterns) (k .patterns) (streakPlaceOf-looked kinds) (x .patterns-whole) (x .patterns-open) streaks-split j
+        (omega (arith, length-numbers (k .streaks)))
 
     pattern-place-back : getD (patternPlaceOf kinds) (length (x .streaks) + j) 0 ≡ getD (groupPlaces (k .hits)) (getD (backPattern k) j 0) 0
     pattern-place-back =
-        ap (λ (l : List ℕ). getD l (length (x .streaks) + j) 0) (sym (patternPlaceOf-looked kinds))
-        ∙ ap (λ (l : List ℕ). getD (gathered l (patternOf kinds)) (length (x .streaks) + j) 0)
-        (ap groupPlaces (x .hits-whole) ∙ places-cut (x .hits) (k .hits) (x .hits-open))
-        ∙ split-looked patterns-split (groupPlaces (x .hits)) (groupPlaces (k .hits)) (length-places (x .hits)) j (omega (arith, pattern-long))
+        place-behind (x .hits) (k .hits) (patternPlaceOf-looked kinds) (x .hits-whole) (x .hits-open) patterns-split j (omega (arith, pattern-long))
 
   -- ---- the hit patterns
 
@@ -157,10 +186,10 @@ module _ {kinds : List ℕ} {k : Back} (x : Parted kinds k) where
         length-coupled (firstLengths kinds) (streakCounts kinds) (patternTypes kinds),
       )
 
-  sizes-back : hitSizes kinds ≡ groupSizes (x .hits) ++ groupSizes (k .hits)
+  sizes-back : hitSizes kinds ≡ groupSizes (x .hits) ++ hitSizesBehind k
   sizes-back = hitSizes-made kinds ∙ ap groupSizes (x .hits-whole) ∙ sizes-cut (x .hits) (k .hits) (x .hits-open)
 
-  firsts-back : hitFirsts kinds ≡ groupFirsts (x .hits) (x .lengths) ++ groupFirsts (k .hits) (k .lengths)
+  firsts-back : hitFirsts kinds ≡ groupFirsts (x .hits) (x .lengths) ++ hitFirstsBehind k
   firsts-back =
       hitFirsts-made kinds
       ∙ (λ i. groupFirsts (x .hits-whole i) (x .lengths-whole i))
@@ -170,7 +199,7 @@ module _ {kinds : List ℕ} {k : Back} (x : Parted kinds k) where
   seconds-before : List ℕ
   seconds-before = tabulate (secondAt (x .lengths ++ k .lengths) (x .hits ++ k .hits)) (length (x .lengths))
 
-  seconds-back : hitSeconds kinds ≡ groupFirsts (x .hits) seconds-before ++ groupFirsts (k .hits) (secondLengths (k .lengths) (k .hits))
+  seconds-back : hitSeconds kinds ≡ groupFirsts (x .hits) seconds-before ++ hitSecondsBehind k
   unfolding seconds-before
   seconds-back =
       hitSeconds-made kinds
@@ -191,34 +220,37 @@ module _ {kinds : List ℕ} {k : Back} (x : Parted kinds k) where
       length-firsts (x .hits) seconds-before
       (omega (arith, x .lengths-count, length-tabulate (secondAt (x .lengths ++ k .lengths) (x .hits ++ k .hits)) (length (x .lengths))))
 
-  sizes-behind : drop (groupCount (x .hits)) (hitSizes kinds) ≡ groupSizes (k .hits)
-  sizes-behind = ap (drop (groupCount (x .hits))) sizes-back ∙ drop-at (groupSizes (x .hits)) (groupSizes (k .hits)) (groupCount (x .hits)) sizes-long
+  sizes-behind : drop (groupCount (x .hits)) (hitSizes kinds) ≡ hitSizesBehind k
+  sizes-behind = left-behind (groupSizes (x .hits)) (hitSizesBehind k) sizes-back sizes-long
 
-  firsts-behind : drop (groupCount (x .hits)) (hitFirsts kinds) ≡ groupFirsts (k .hits) (k .lengths)
-  firsts-behind =
-      ap (drop (groupCount (x .hits))) firsts-back ∙ drop-at (groupFirsts (x .hits) (x .lengths)) (groupFirsts (k .hits) (k .lengths)) (groupCount (x .hits)) firsts-long
+  firsts-behind : drop (groupCount (x .hits)) (hitFirsts kinds) ≡ hitFirstsBehind k
+  firsts-behind = left-behind (groupFirsts (x .hits) (x .lengths)) (hitFirstsBehind k) firsts-back firsts-long
 
-  seconds-behind : drop (groupCount (x .hits)) (hitSeconds kinds) ≡ groupFirsts (k .hits) (secondLengths (k .lengths) (k .hits))
-  seconds-behind =
-      ap (drop (groupCount (x .hits))) seconds-back
-      ∙ drop-at (groupFirsts (x .hits) seconds-before) (groupFirsts (k .hits) (secondLengths (k .lengths) (k .hits))) (groupCount (x .hits)) seconds-long
+  seconds-behind : drop (groupCount (x .hits)) (hitSeconds kinds) ≡ hitSecondsBehind k
+  seconds-behind = left-behind (groupFirsts (x .hits) seconds-before) (hitSecondsBehind k) seconds-back seconds-long
 
   -- ---- the intervals, from the M-th hit pattern behind the cut on
 
+  -- by the chart's own lists
+  interval-there : (limit j : ℕ) → j < length (backHit k) → getD (intervalOf limit kinds) (length (x .streaks) + j) 0
+      ≡ getD (intervals limit (hitSizes kinds) (hitFirsts kinds) (hitSeconds kinds)) (groupCount (x .hits) + getD (backHit k) j 0) 0
+  interval-there limit j h =
+      let o : ℕ = length (x .streaks) + j in
+      rw (← intervalOf-looked kinds limit, hitIntervals-made kinds limit)
+      (getD-gathered (intervals limit (hitSizes kinds) (hitFirsts kinds) (hitSeconds kinds)) (hitOf kinds) o (omega (arith, split-length hits-split))
+      ∙ ap (λ (n : ℕ). getD (intervals limit (hitSizes kinds) (hitFirsts kinds) (hitSeconds kinds)) n 0) (split-at hits-split j h))
+
   interval-back : (limit j : ℕ) → j < length (k .streaks) → limit ≤ getD (backHit k) j 0 + 1
       → getD (intervalOf limit kinds) (length (x .streaks) + j) 0
-      ≡ getD (intervals limit (groupSizes (k .hits)) (groupFirsts (k .hits) (k .lengths)) (groupFirsts (k .hits) (secondLengths (k .lengths) (k .hits)))) (getD (backHit k) j 0) 0
+      ≡ getD (intervals limit (hitSizesBehind k) (hitFirstsBehind k) (hitSecondsBehind k)) (getD (backHit k) j 0) 0
   interval-back limit j h l =
       let i : ℕ = getD (backHit k) j 0 in
       let b : j < length (backHit k) = omega (arith, hit-long) in
-      let c : i < length (groupSizes (k .hits)) = omega (arith, hits-inside j b, length-sizes (k .hits)) in
-      ap (λ (t : List ℕ). getD t (length (x .streaks) + j) 0) (sym (intervalOf-looked kinds limit) ∙ ap (λ (t : List ℕ). gathered t (hitOf kinds)) (hitIntervals-made kinds limit))
-      ∙ getD-gathered (intervals limit (hitSizes kinds) (hitFirsts kinds) (hitSeconds kinds)) (hitOf kinds) (length (x .streaks) + j) (omega (arith, split-length hits-split))
-      ∙ ap (λ (n : ℕ). getD (intervals limit (hitSizes kinds) (hitFirsts kinds) (hitSeconds kinds)) n 0) (split-at hits-split j b)
+      let c : i < length (hitSizesBehind k) = omega (arith, hits-inside j b, length-sizes (k .hits)) in
+      interval-there limit j b
       ∙ (λ n. getD (intervals limit (sizes-back n) (firsts-back n) (seconds-back n)) (sym sizes-long n + i) 0)
-      ∙ intervals-back (groupSizes (x .hits)) (groupSizes (k .hits)) (groupFirsts (x .hits) (x .lengths)) (groupFirsts (k .hits) (k .lengths))
-      (groupFirsts (x .hits) seconds-before) (groupFirsts (k .hits) (secondLengths (k .lengths) (k .hits)))
-      (firsts-long ∙ sym sizes-long) (seconds-long ∙ sym sizes-long) limit i l c
+      ∙ intervals-back (groupSizes (x .hits)) (hitSizesBehind k) (groupFirsts (x .hits) (x .lengths)) (hitFirstsBehind k)
+      (groupFirsts (x .hits) seconds-before) (hitSecondsBehind k) (firsts-long ∙ sym sizes-long) (seconds-long ∙ sym sizes-long) limit i l c
 
   -- ---- the cut itself
 
@@ -235,12 +267,7 @@ module _ {kinds : List ℕ} {k : Back} (x : Parted kinds k) where
   hits-cut = record {
     some = x .some;
     earlier = split-before hits-split;
-    later = λ i a h.
-        let n : ℕ = i - length (x .streaks) in
-        let e : length (x .streaks) + n ≡ i = omega arith in
-        let b : n < length (backHit k) = omega (arith, hit-long, objects-back) in
-        let v : getD (hitOf kinds) (length (x .streaks) + n) 0 ≡ groupCount (x .hits) + getD (backHit k) n 0 = split-at hits-split n b in
-        subst (λ (t : ℕ). groupCount (x .hits) ≤ getD (hitOf kinds) t 0) e (omega arith);
+    later = λ i a h. split-from hits-split i a (omega (arith, split-length hits-split, hit-long, objects-back));
     opens = λ h.
         let b : 0 < length (backHit k) = omega (arith, hit-long, objects-back) in
         let e : length (x .streaks) + 0 ≡ length (x .streaks) = omega arith in
@@ -263,9 +290,9 @@ parted-agree limit {kinds} {kinds′} {k} x y = record {
   firsts = firsts-behind x ∙ sym (firsts-behind y);
   seconds = seconds-behind x ∙ sym (seconds-behind y);
   hit = λ j h. omega (arith, split-at (hits-split x) j (in-hits j h), split-at (hits-split y) j (in-hits j h));
-  hit-first = λ j h. split-continues (hits-split x) (x .some) j (in-hits j h) ∙ sym (split-continues (hits-split y) (y .some) j (in-hits j h));
-  pattern-first = λ j h. split-continues (patterns-split x) (x .some) j (in-patterns j h) ∙ sym (split-continues (patterns-split y) (y .some) j (in-patterns j h));
-  streak-first = λ j h. split-continues (streaks-split x) (x .some) j (in-streaks j h) ∙ sym (split-continues (streaks-split y) (y .some) j (in-streaks j h));
+  hit-first = λ j h. first-alike (hits-split x) (hits-split y) (x .some) (y .some) j (in-hits j h);
+  pattern-first = λ j h. first-alike (patterns-split x) (patterns-split y) (x .some) (y .some) j (in-patterns j h);
+  streak-first = λ j h. first-alike (streaks-split x) (streaks-split y) (x .some) (y .some) j (in-streaks j h);
   pattern-place = λ j h. pattern-place-back x j (in-back j h) ∙ sym (pattern-place-back y j (in-back j h));
   streak-place = λ j h. streak-place-back x j (in-back j h) ∙ sym (streak-place-back y j (in-back j h));
   interval = λ j h l.

@@ -36,9 +36,11 @@ module _ (kinds : List ℕ) where
   pub pattern-rises : Rising (length kinds) (patternOf kinds)
   pattern-rises =
       rw (← patternOf-looked kinds)
-      (gathered-rises (length kinds) (patternsOpen kinds) (streakOf kinds) (length-streakOf kinds) (λ i h. omega (arith, streak-below kinds i h, length-patternsOpen kinds)) streak-rises)
+      (gathered-rises (length kinds) (patternsOpen kinds) (streakOf kinds) (length-streakOf kinds)
+      (λ i h. omega (arith, streak-below kinds i h, length-patternsOpen kinds)) streak-rises)
 
   pub hit-rises : Rising (length kinds) (hitOf kinds)
   hit-rises =
       rw (← hitOf-looked kinds)
-      (gathered-rises (length kinds) (hitsOpen kinds) (patternOf kinds) (length-patternOf kinds) (λ i h. omega (arith, patternOf-below kinds i h, length-hitsOpen kinds)) pattern-rises)
+      (gathered-rises (length kinds) (hitsOpen kinds) (patternOf kinds) (length-patternOf kinds)
+      (λ i h. omega (arith, patternOf-below kinds i h, length-hitsOpen kinds)) pattern-rises)

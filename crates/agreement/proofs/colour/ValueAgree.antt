@@ -56,5 +56,6 @@ module _ {limit : ℕ} {kinds : List ℕ} {a g : ℕ} {kinds′ : List ℕ} {b h
         → colourAt limit tolerance kinds ratios i ≡ colourAt limit tolerance kinds′ ratios′ i′
     value-agree =
         at-counterparts
-        (λ (i i′ : ℕ). i < length kinds → g + limit ≤ getD (hitOf kinds) i 0 + 1 → colourAt limit tolerance kinds ratios i ≡ colourAt limit tolerance kinds′ ratios′ i′)
+        (λ (i i′ : ℕ). i < length kinds → g + limit ≤ getD (hitOf kinds) i 0 + 1
+        → colourAt limit tolerance kinds ratios i ≡ colourAt limit tolerance kinds′ ratios′ i′)
         value-behind

@@ -49,7 +49,8 @@ module _ {margin : Float} {xs : List Float} {a : ℕ} {ys : List Float} {b : ℕ
       omega (arith, x .1 .1, group-rise margin xs (x .0) a (omega (arith, x .1 .0)) (omega arith), group-rise margin xs a i (omega arith) h) in
       (b, (omega arith, omega (arith, s .shift i i′ (omega arith) h c)))
 
-same-behind-shift : {margin : Float} {xs ys : List Float} {a b : ℕ} → Shifted margin xs a ys b → SameGroups (intervalGroups margin xs) (a + 1) (intervalGroups margin ys) (b + 1)
+same-behind-shift : {margin : Float} {xs ys : List Float} {a b : ℕ} → Shifted margin xs a ys b
+    → SameGroups (intervalGroups margin xs) (a + 1) (intervalGroups margin ys) (b + 1)
 same-behind-shift s = same-groups (record {
   start = omega (arith, s .start);
   share = λ i i′ j j′ l h c l′ h′ c′. (
@@ -98,12 +99,16 @@ module _ (margin : Float) {t : ℕ} {xs ys : List Float} (s : SameLast t xs ys) 
 
 -- ---- the claim is not empty: a group opens at the landmark or at the next note
 
-opens-by-mark : (margin : Float) (deltas : List Float) (p : ℕ) → suc p < length deltas → getD (intervalMarks margin deltas) (suc p) 0 ≡ 1 → OpensAt (intervalGroups margin deltas) (suc p)
+opens-by-mark : (margin : Float) (deltas : List Float) (p : ℕ) → suc p < length deltas → getD (intervalMarks margin deltas) (suc p) 0 ≡ 1
+    → OpensAt (intervalGroups margin deltas) (suc p)
 opens-by-mark margin deltas p l e = record {
   there = l;
   first = λ n h g.
-      omega
-      (arith, number-opens (intervalMarks margin deltas) p (omega (arith, length-marks margin deltas)) e, group-rise margin deltas n p (omega arith) (omega arith));
+      omega (
+        arith,
+        number-opens (intervalMarks margin deltas) p (omega (arith, length-marks margin deltas)) e,
+        group-rise margin deltas n p (omega arith) (omega arith),
+      );
 }
 
 module _ (margin : Float) (deltas : List Float) (t i : ℕ) (m : RhythmLandmark margin deltas t i) where

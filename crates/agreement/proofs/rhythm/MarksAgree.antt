@@ -23,7 +23,8 @@ landmark-marks margin deltas t i m =
 
 -- ---- two lists whose last t deltas are alike
 
-module _ {t : ℕ} {xs ys : List Float} (s : SameLast t xs ys) (margin : Float) (i i′ : ℕ) (c : Counterparts (length xs) (length ys) i i′) (m : RhythmLandmark margin xs t i) where
+module _ {t : ℕ} {xs ys : List Float} (s : SameLast t xs ys) (margin : Float) (i i′ : ℕ)
+    (c : Counterparts (length xs) (length ys) i i′) (m : RhythmLandmark margin xs t i) where
   same-delta : (p q : ℕ) → i - 1 ≤ p → Counterparts (length xs) (length ys) p q → getD xs p nan ≡ getD ys q nan
   same-delta p q l d = same-at s p q (omega (arith, m .of-tail)) d nan
 

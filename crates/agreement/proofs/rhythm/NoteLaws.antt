@@ -35,7 +35,8 @@ module _ (m : ℕ) (c : Chart) (whole : length (c .deltas) ≡ size c) (fits : m
 
   back-long : length back ≡ tailNotes m c
   back-long =
-      length-note-deltas (lastOf m (c .kinds)) (lastOf m (c .deltas)) (omega (arith, length-drop (size c - m) (c .kinds), length-drop (length (c .deltas) - m) (c .deltas)))
+      length-note-deltas (lastOf m (c .kinds)) (lastOf m (c .deltas))
+      (omega (arith, length-drop (size c - m) (c .kinds), length-drop (length (c .deltas) - m) (c .deltas)))
 
   notes-fit : tailNotes m c ≤ noteCount c
   notes-fit = omega (arith, ap length deltas-cut, length-append front back, back-long)

@@ -23,9 +23,11 @@ numbers-left : {margin : Float} {values : List Float} {old new : List ℕ} {r : 
     → SameNumbers (length values) (groupNumbers (intervalMarks margin values)) new
 numbers-left {margin} {values} {old} g p h =
     let numbers : List ℕ = groupNumbers (intervalMarks margin values) in
-    ap (λ (l : List ℕ). getD l p 0) (g .numbers) ∙ getD-over numbers old p 0 (omega (arith, length-numbers (intervalMarks margin values), length-marks margin values))
+    let long = length-numbers (intervalMarks margin values) ∙ length-marks margin values in
+    rw (g .numbers) (getD-over numbers old p 0 (omega arith))
 
 pub runs-agree : (margin : Float) {t : ℕ} {xs ys : List Float} → SameLast t xs ys → (i i′ : ℕ) → Counterparts (length xs) (length ys) i i′
-    → RhythmLandmark margin xs t i ⊎ RhythmLandmark margin ys t i′ → {old new old′ new′ : List ℕ} {r r′ : ℕ} → Grouped margin xs old new r → Grouped margin ys old′ new′ r′
+    → RhythmLandmark margin xs t i ⊎ RhythmLandmark margin ys t i′
+    → {old new old′ new′ : List ℕ} {r r′ : ℕ} → Grouped margin xs old new r → Grouped margin ys old′ new′ r′
     → SameGroups (groups (length xs) new) i (groups (length ys) new′) i′
 runs-agree margin s i i′ c m g g′ = groups-alike (numbers-left g) (numbers-left g′) (rhythm-claim margin s i i′ c m)

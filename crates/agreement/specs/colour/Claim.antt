@@ -37,7 +37,8 @@ pub record HitsClaim (limit : ℕ) (h : Hits) (p : ℕ) (h′ : Hits) (p′ : �
       → Settled limit (h .patterns) p i ↔ Settled limit (h′ .patterns) p′ i′
   -- every object has its counterpart's interval
   pub interval : (i i′ : ℕ) → Settled limit (h .patterns) p i
-      → Counterparts (h .patterns .count) (h′ .patterns .count) i i′ → getD (h .intervals) i 0 ≡ getD (h′ .intervals) i′ 0
+      → Counterparts (h .patterns .count) (h′ .patterns .count) i i′
+      → getD (h .intervals) i 0 ≡ getD (h′ .intervals) i′ 0
 
 -- a chart's hit patterns, and with their intervals
 abbrev pub hitPatterns : Chart → Groups
