@@ -1,9 +1,9 @@
--- How a reading of "landmark" is refuted: two lists end alike, the one has a landmark of the reading, and there a group opens in the one and none in the other.
--- All this is a test that computes.
+-- Readings of "landmark", as tests: where a list has a landmark of one, and how one is refuted. For that two lists end alike, the one has a landmark of the
+-- reading, and there a group opens in the one and none in the other.
 use mathlib.Core.Path.{_≡_, sym, _∙_}
-use mathlib.Core.Bool.{Bool, true, not}
+use mathlib.Core.Bool.{Bool, true, cond, not}
 use mathlib.Core.List.{List, [], _∷_, _++_}
-use Prim.Native.Nat.{ℕ, _+_, _-_, _<_}
+use Prim.Native.Nat.{ℕ, zero, suc, _+_, _-_, _<_}
 use native.Mathlib.Omega.{arith}
 use lib.Dec.{eqb, ltb}
 use lib.ListN.{length, getD, length-append}
@@ -17,6 +17,25 @@ use Rattle.agreement.proofs.TestLaws.{all-first, all-rest, any-found, f
 -- a reading: whether there is a landmark at a place of a list, where the last so many are the tail
 abbrev pub Reading : Type 0 → Type 0
 Reading A = List A → ℕ → ℕ → Bool
+
+-- ---- where there are landmarks
+
+-- a list, as what stands before its tail and the tail, and the offsets in the tail at which there is a landmark
+pub record Example : Type 0 where
+  pub before : List ℕ
+  pub tail : List ℕ
+  pub offsets : List ℕ
+
+-- the offsets below n at which the reading finds one
+unfoldable pub offsetsBelow : Reading ℕ → Example → ℕ → List ℕ
+offsetsBelow reading x zero = []
+offsetsBelow reading x (suc n) =
+    offsetsBelow reading x n ++ cond (reading (x .before ++ x .tail) (length (x .tail)) (length (x .before) + n)) (n ∷ []) []
+
+unfoldable pub offsetsFound : Reading ℕ → Example → List ℕ
+offsetsFound reading x = offsetsBelow reading x (suc (length (x .tail)))
+
+-- ---- how a reading is refuted
 
 -- the claim from every landmark of a reading, read in the one list, where the groups of a list have these numbers
 abbrev pub ClaimFrom : {A : Type 0} → (List A → List ℕ) → Reading A → Type 0

@@ -1,9 +1,9 @@
 -- Landmarks of short charts (d is 0, k is 1, n is 2), each chart as what stands before its tail and the tail, with the offsets in the tail at which the test
 -- finds a landmark.
 use mathlib.Core.Path.{_≡_, refl}
-use mathlib.Core.List.{List, [], _∷_, _++_, map}
-use Prim.Native.Nat.{ℕ, _+_}
-use lib.ListN.{length}
+use mathlib.Core.Bool.{true}
+use mathlib.Core.List.{List, [], _∷_, map}
+use Prim.Native.Nat.{ℕ}
 use Rattle.grouping_marks.specs.Scan.{scan, after, tabulate, gathered}
 use Rattle.grouping_marks.specs.Marks.{opened, groupCount, groupNumbers, sizesFrom, groupSizes, firstsFrom, groupFirsts}
 use Rattle.grouping_chart.specs.Object.{isNote, notes, noteIdx, noteBefore, previousNote}
@@ -13,13 +13,9 @@ use Rattle.grouping_color.specs.Preprocessor.{patternsOpen, firstLengths, strea
 use Rattle.agreement.specs.colour.Landmark.{ColourLandmark}
 use Rattle.agreement.specs.Tests.{allTrue, anyBelow}
 use Rattle.agreement.specs.colour.LandmarkTest.{levelsOf, tailNoteBefore, objectServes, streakServes, patternServes, endsAt, patternFound, streakFound}
-use Rattle.agreement.specs.colour.LandmarkTest.{landmarkFound, isLandmark, landmarksBelow, landmarks}
+use Rattle.agreement.specs.colour.LandmarkTest.{landmarkFound, isLandmark, plain}
+use Rattle.agreement.proofs.Readings.{Example, offsetsBelow, offsetsFound}
 use Rattle.agreement.proofs.colour.LandmarkLaws.{test-landmark}
-
-record Example : Type 0 where
-  before : List ℕ
-  tail : List ℕ
-  offsets : List ℕ
 
 examples : List Example
 examples =
@@ -42,13 +38,23 @@ examples =
     ∷ record { before = []; tail = []; offsets = [] }
     ∷ []
 
--- every chart of the list comes out as it says
-examples-right : map (λ (e : Example). landmarks (e .before ++ e .tail) (length (e .tail))) examples
-    ≡ map (λ (e : Example). map (λ (offset : ℕ). length (e .before) + offset) (e .offsets)) examples
-unfolding examples landmarks landmarksBelow scan after tabulate gathered opened groupCount groupNumbers sizesFrom groupSizes firstsFrom groupFirsts isNote notes noteIdx noteBefore previousNote continues opensStreak streakMarks streakOf streakLengths streakTypes opensPattern patternMarks coupledAt coupled patternsOpen firstLengths streakCounts patternTypes patternOf coupledPatterns anyBelow allTrue levelsOf tailNoteBefore objectServes streakServes patternServes endsAt patternFound streakFound landmarkFound isLandmark
-examples-right = refl
+-- d before the tail d k dd k n k d
+abbrev one : List ℕ
+one = 0 ∷ 0 ∷ 1 ∷ 0 ∷ 0 ∷ 1 ∷ 2 ∷ 1 ∷ 0 ∷ []
 
--- so there are landmarks: d before the tail d k dd k n k d
-one-landmark : ColourLandmark (0 ∷ (0 ∷ 1 ∷ 0 ∷ 0 ∷ 1 ∷ 2 ∷ 1 ∷ 0 ∷ [])) 8 6
-unfolding scan after tabulate gathered opened groupCount groupNumbers sizesFrom groupSizes firstsFrom groupFirsts isNote notes noteIdx noteBefore previousNote continues opensStreak streakMarks streakOf streakLengths streakTypes opensPattern patternMarks coupledAt coupled patternsOpen firstLengths streakCounts patternTypes patternOf coupledPatterns anyBelow allTrue levelsOf tailNoteBefore objectServes streakServes patternServes endsAt patternFound streakFound landmarkFound isLandmark
-one-landmark = test-landmark (0 ∷ (0 ∷ 1 ∷ 0 ∷ 0 ∷ 1 ∷ 2 ∷ 1 ∷ 0 ∷ [])) 8 6 refl
+record Computed : Type 0 where
+  -- every chart of the list comes out as it says
+  examples-right : map (offsetsFound (isLandmark plain)) examples ≡ map (λ (x : Example). x .offsets) examples
+  one-found : isLandmark plain one 8 6 ≡ true
+
+computed : Computed
+unfolding examples offsetsFound offsetsBelow allTrue anyBelow
+    levelsOf tailNoteBefore objectServes streakServes patternServes endsAt patternFound streakFound landmarkFound isLandmark
+    scan after tabulate gathered opened groupCount groupNumbers sizesFrom groupSizes firstsFrom groupFirsts
+    isNote notes noteIdx noteBefore previousNote continues opensStreak streakMarks streakOf streakLengths streakTypes
+    opensPattern patternMarks coupledAt coupled patternsOpen firstLengths streakCounts patternTypes patternOf coupledPatterns
+computed = record { examples-right = refl; one-found = refl }
+
+-- so there are landmarks
+one-landmark : ColourLandmark one 8 6
+one-landmark = test-landmark one 8 6 (computed .one-found)

@@ -1,17 +1,17 @@
 -- Rhythm landmarks of short lists of deltas, each list as what stands before its tail and the tail, with the offsets in the tail at which the test finds a
 -- landmark.
 use mathlib.Core.Path.{_≡_, refl}
-use mathlib.Core.Bool.{false, cond}
-use mathlib.Core.List.{List, [], _∷_, _++_, map}
-use Prim.Native.Nat.{ℕ, zero, suc, _+_}
+use mathlib.Core.Bool.{true, false}
+use mathlib.Core.List.{List, [], _∷_, map}
+use Prim.Native.Nat.{ℕ}
 use lib.IntN.{pos}
-use lib.ListN.{length}
 use lib.Ieee.{Float, fin, binary64, round, sub, le, ofInt}
 use Rattle.numeric.specs.Near.{absOf, isNear}
 use Rattle.grouping_chart.specs.Object.{isNote}
 use Rattle.grouping_chart.specs.Notes.{noteDeltas}
 use Rattle.agreement.specs.Tests.{allTrue}
 use Rattle.agreement.specs.rhythm.Landmark.{RhythmLandmark, isRhythmLandmark}
+use Rattle.agreement.proofs.Readings.{Reading, Example, offsetsBelow, offsetsFound}
 use Rattle.agreement.proofs.rhythm.LandmarkLaws.{test-landmark}
 
 -- 5.0
@@ -24,17 +24,9 @@ wholes = map (λ (n : ℕ). ofInt binary64 (pos n))
 
 -- ---- landmarks
 
-record Example : Type 0 where
-  before : List ℕ
-  tail : List ℕ
-  -- the offsets in the tail of its landmarks
-  offsets : List ℕ
-
--- the offsets from n down to 0 at which there is a landmark
-unfoldable offsetsUpTo : List ℕ → List ℕ → ℕ → List ℕ → List ℕ
-offsetsUpTo before tail zero found = cond (isRhythmLandmark margin (wholes (before ++ tail)) (length tail) (length before)) (0 ∷ found) found
-offsetsUpTo before tail (suc n) found =
-    offsetsUpTo before tail n (cond (isRhythmLandmark margin (wholes (before ++ tail)) (length tail) (length before + suc n)) (suc n ∷ found) found)
+-- a landmark of a list of whole deltas
+unfoldable isWholeLandmark : Reading ℕ
+isWholeLandmark deltas t i = isRhythmLandmark margin (wholes deltas) t i
 
 examples : List Example
 examples =
@@ -53,17 +45,21 @@ examples =
     ∷ record { before = []; tail = []; offsets = [] }
     ∷ []
 
--- every list comes out as it says
-examples-right : map (λ (e : Example). offsetsUpTo (e .before) (e .tail) (length (e .tail)) []) examples ≡ map (λ (e : Example). e .offsets) examples
-unfolding examples offsetsUpTo margin wholes isRhythmLandmark allTrue isNear absOf sub le ofInt round
-examples-right = refl
+-- 100 before the tail 100 100 200
+abbrev one : List ℕ
+one = 100 ∷ 100 ∷ 100 ∷ 200 ∷ []
 
--- so there are landmarks: 100 before the tail 100 100 200
-one-landmark : RhythmLandmark margin (wholes (100 ∷ (100 ∷ 100 ∷ 200 ∷ []))) 3 2
-unfolding margin wholes isRhythmLandmark allTrue isNear absOf sub le ofInt round
-one-landmark = test-landmark margin (wholes (100 ∷ (100 ∷ 100 ∷ 200 ∷ []))) 3 2 refl
+record Computed : Type 0 where
+  -- every list comes out as it says
+  examples-right : map (offsetsFound isWholeLandmark) examples ≡ map (λ (x : Example). x .offsets) examples
+  one-found : isRhythmLandmark margin (wholes one) 3 2 ≡ true
+  -- the deltas of the notes of d n k d
+  notes-only : noteDeltas (0 ∷ 2 ∷ 1 ∷ 0 ∷ []) (wholes (1 ∷ 2 ∷ 3 ∷ 4 ∷ [])) ≡ wholes (1 ∷ 3 ∷ 4 ∷ [])
 
--- the deltas of the notes of d n k d
-notes-only : noteDeltas (0 ∷ 2 ∷ 1 ∷ 0 ∷ []) (wholes (1 ∷ 2 ∷ 3 ∷ 4 ∷ [])) ≡ wholes (1 ∷ 3 ∷ 4 ∷ [])
-unfolding noteDeltas isNote wholes ofInt round
-notes-only = refl
+computed : Computed
+unfolding examples offsetsFound offsetsBelow isWholeLandmark margin wholes isRhythmLandmark allTrue isNear absOf sub le ofInt round noteDeltas isNote
+computed = record { examples-right = refl; one-found = refl; notes-only = refl }
+
+-- so there are landmarks
+one-landmark : RhythmLandmark margin (wholes one) 3 2
+one-landmark = test-landmark margin (wholes one) 3 2 (computed .one-found)

@@ -1,10 +1,10 @@
 -- Two runs of `group_by_interval` on the deltas of two charts' notes: what they leave in lent memory agrees from a rhythm landmark on, by the promise alone.
-use mathlib.Core.Path.{_≡_, ap, _∙_}
+use mathlib.Core.Path.{_≡_, _∙_}
 use mathlib.Core.Logic.{_⊎_}
 use mathlib.Core.List.{List}
 use Prim.Native.Nat.{ℕ}
 use native.Mathlib.Omega.{arith}
-use lib.ListN.{length, getD}
+use lib.ListN.{length}
 use lib.Ieee.{Float}
 use Rattle.grouping_marks.specs.Marks.{groupNumbers}
 use Rattle.grouping_marks.proofs.PieceLaws.{getD-over}

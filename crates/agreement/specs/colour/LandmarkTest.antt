@@ -1,8 +1,8 @@
 -- The landmark of Landmark.antt as a test that computes: the object of (a), the streak of (b) and the pattern of (c)
 -- are searched for. What makes each of them serve is a parameter, so that other conditions can be tried.
-use Prim.Native.Nat.{ℕ, zero, suc, _+_, _-_}
-use mathlib.Core.Bool.{Bool, cond, not}
-use mathlib.Core.List.{List, [], _∷_, _++_}
+use Prim.Native.Nat.{ℕ, _+_, _-_}
+use mathlib.Core.Bool.{Bool, not}
+use mathlib.Core.List.{List, [], _∷_}
 use lib.Dec.{eqb, leb, ltb}
 use lib.ListN.{length, getD}
 use Rattle.grouping_marks.specs.Marks.{groupCount, groupNumbers}
@@ -99,12 +99,3 @@ landmarkFound r l m position =
 
 unfoldable pub isLandmark : Conditions → List ℕ → ℕ → ℕ → Bool
 isLandmark r kinds m position = landmarkFound r (levelsOf kinds) m position
-
--- the positions below n at which there is a landmark, in rising order
-unfoldable pub landmarksBelow : List ℕ → ℕ → ℕ → List ℕ
-landmarksBelow kinds m zero = []
-landmarksBelow kinds m (suc n) = landmarksBelow kinds m n ++ cond (isLandmark plain kinds m n) (n ∷ []) []
-
--- all landmarks of a chart with these kinds, where its last m objects are the common tail
-unfoldable pub landmarks : List ℕ → ℕ → List ℕ
-landmarks kinds m = landmarksBelow kinds m (suc (length kinds))
