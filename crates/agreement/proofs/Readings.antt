@@ -21,18 +21,18 @@ Reading A = List A → ℕ → ℕ → Bool
 -- ---- where there are landmarks
 
 -- a list, as what stands before its tail and the tail, and the offsets in the tail at which there is a landmark
-pub record Example : Type 0 where
+pub record LandmarkExample : Type 0 where
   pub before : List ℕ
   pub tail : List ℕ
   pub offsets : List ℕ
 
 -- the offsets below n at which the reading finds one
-unfoldable pub offsetsBelow : Reading ℕ → Example → ℕ → List ℕ
+unfoldable pub offsetsBelow : Reading ℕ → LandmarkExample → ℕ → List ℕ
 offsetsBelow reading x zero = []
 offsetsBelow reading x (suc n) =
     offsetsBelow reading x n ++ cond (reading (x .before ++ x .tail) (length (x .tail)) (length (x .before) + n)) (n ∷ []) []
 
-unfoldable pub offsetsFound : Reading ℕ → Example → List ℕ
+unfoldable pub offsetsFound : Reading ℕ → LandmarkExample → List ℕ
 offsetsFound reading x = offsetsBelow reading x (suc (length (x .tail)))
 
 -- ---- how a reading is refuted

@@ -36,20 +36,21 @@ all-more b bs e f = rw e f
 
 -- ---- a test of some number
 
-pub record Found (n : ℕ) (test : ℕ → Bool) : Type 0 where
+pub record FoundBelow (n : ℕ) (test : ℕ → Bool) : Type 0 where
   pub number : ℕ
   pub below : number < n
   pub passes : test number ≡ true
 
-pub any-found : (n : ℕ) (test : ℕ → Bool) → anyBelow n test ≡ true → Found n test
+pub any-found : (n : ℕ) (test : ℕ → Bool) → anyBelow n test ≡ true → FoundBelow n test
 unfolding anyBelow
 any-found zero test e = absurd (false-not-true e)
 any-found (suc n) test e = by (test n) refl e (λ q. later (any-found n test q))
   where
-    later : Found n test → Found (suc n) test
+    later : FoundBelow n test → FoundBelow (suc n) test
     later x = record { number = x .number; below = omega (arith, x .below); passes = x .passes }
 
-    by : (b : Bool) → test n ≡ b → elim b [ true ↦ true | false ↦ anyBelow n test ] ≡ true → (anyBelow n test ≡ true → Found (suc n) test) → Found (suc n) test
+    by : (b : Bool) → test n ≡ b → elim b [ true ↦ true | false ↦ anyBelow n test ] ≡ true
+        → (anyBelow n test ≡ true → FoundBelow (suc n) test) → FoundBelow (suc n) test
     by true h q go = record { number = n; below = omega arith; passes = h }
     by false h q go = go q
 

@@ -14,10 +14,10 @@ use Rattle.agreement.specs.colour.Landmark.{ColourLandmark}
 use Rattle.agreement.specs.Tests.{allTrue, anyBelow}
 use Rattle.agreement.specs.colour.LandmarkTest.{levelsOf, tailNoteBefore, objectServes, streakServes, patternServes, endsAt, patternFound, streakFound}
 use Rattle.agreement.specs.colour.LandmarkTest.{landmarkFound, isLandmark, plain}
-use Rattle.agreement.proofs.Readings.{Example, offsetsBelow, offsetsFound}
+use Rattle.agreement.proofs.Readings.{LandmarkExample, offsetsBelow, offsetsFound}
 use Rattle.agreement.proofs.colour.LandmarkLaws.{test-landmark}
 
-examples : List Example
+examples : List LandmarkExample
 examples =
     -- behind d k | dd | k, and further on; the same after every opening
     record { before = []; tail = 0 ∷ 1 ∷ 0 ∷ 0 ∷ 1 ∷ 2 ∷ 1 ∷ 0 ∷ []; offsets = 5 ∷ 7 ∷ 8 ∷ [] }
@@ -44,7 +44,7 @@ one = 0 ∷ 0 ∷ 1 ∷ 0 ∷ 0 ∷ 1 ∷ 2 ∷ 1 ∷ 0 ∷ []
 
 record Computed : Type 0 where
   -- every chart of the list comes out as it says
-  examples-right : map (offsetsFound (isLandmark plain)) examples ≡ map (λ (x : Example). x .offsets) examples
+  examples-right : map (offsetsFound (isLandmark plain)) examples ≡ map (λ (x : LandmarkExample). x .offsets) examples
   one-found : isLandmark plain one 8 6 ≡ true
 
 computed : Computed

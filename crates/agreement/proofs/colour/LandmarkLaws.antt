@@ -18,7 +18,8 @@ use Rattle.agreement.proofs.TestLaws.{not-of, all-first, all-rest, all-
 module _ (kinds : List ℕ) (m position : ℕ) where
   -- the four tests of an object, a streak and a pattern
   landmark-of : (object streak pattern : ℕ) → object < length kinds → objectServes (levelsOf kinds) m object ≡ true
-      → streakServes (levelsOf kinds) object streak ≡ true → patternServes (levelsOf kinds) streak pattern ≡ true → endsAt (levelsOf kinds) (pattern + 1) position ≡ true → ColourLandmark kinds m position
+      → streakServes (levelsOf kinds) object streak ≡ true → patternServes (levelsOf kinds) streak pattern ≡ true
+      → endsAt (levelsOf kinds) (pattern + 1) position ≡ true → ColourLandmark kinds m position
   unfolding levelsOf tailNoteBefore objectServes streakServes patternServes endsAt
   landmark-of object streak pattern h a b c d =
       let y = any-found _ _ (all-first _ _ (all-rest _ _ a)) in

@@ -91,8 +91,8 @@ place-behind {idx = idx} {at = at} front back looked whole o s j h =
     ∙ split-looked s (groupPlaces front) (groupPlaces back) (length-places front) j h
 
 -- two lists that are cut so, with the same numbers behind
-first-alike : {xs ys back : List ℕ} {a b c d : ℕ} → Split xs a c back → Split ys b d back → 0 < a → 0 < b → (j : ℕ) → j < length back → FirstAlike xs ys a b j
-first-alike s t some some′ j h = split-continues s some j h ∙ sym (split-continues t some′ j h)
+first-behind : {xs ys back : List ℕ} {a b c d : ℕ} → Split xs a c back → Split ys b d back → 0 < a → 0 < b → (j : ℕ) → j < length back → FirstAlike xs ys a b j
+first-behind s t some some′ j h = split-continues s some j h ∙ sym (split-continues t some′ j h)
 
 -- what is left of a list behind the cut
 left-behind : {xs : List ℕ} {n : ℕ} (front back : List ℕ) → xs ≡ front ++ back → length front ≡ n → drop n xs ≡ back
@@ -290,9 +290,9 @@ parted-agree limit {kinds} {kinds′} {k} x y = record {
   firsts = firsts-behind x ∙ sym (firsts-behind y);
   seconds = seconds-behind x ∙ sym (seconds-behind y);
   hit = λ j h. omega (arith, split-at (hits-split x) j (in-hits j h), split-at (hits-split y) j (in-hits j h));
-  hit-first = λ j h. first-alike (hits-split x) (hits-split y) (x .some) (y .some) j (in-hits j h);
-  pattern-first = λ j h. first-alike (patterns-split x) (patterns-split y) (x .some) (y .some) j (in-patterns j h);
-  streak-first = λ j h. first-alike (streaks-split x) (streaks-split y) (x .some) (y .some) j (in-streaks j h);
+  hit-first = λ j h. first-behind (hits-split x) (hits-split y) (x .some) (y .some) j (in-hits j h);
+  pattern-first = λ j h. first-behind (patterns-split x) (patterns-split y) (x .some) (y .some) j (in-patterns j h);
+  streak-first = λ j h. first-behind (streaks-split x) (streaks-split y) (x .some) (y .some) j (in-streaks j h);
   pattern-place = λ j h. pattern-place-back x j (in-back j h) ∙ sym (pattern-place-back y j (in-back j h));
   streak-place = λ j h. streak-place-back x j (in-back j h) ∙ sym (streak-place-back y j (in-back j h));
   interval = λ j h l.

@@ -11,7 +11,7 @@ use Rattle.grouping_chart.specs.Object.{isNote}
 use Rattle.grouping_chart.specs.Notes.{noteDeltas}
 use Rattle.agreement.specs.Tests.{allTrue}
 use Rattle.agreement.specs.rhythm.Landmark.{RhythmLandmark, isRhythmLandmark}
-use Rattle.agreement.proofs.Readings.{Reading, Example, offsetsBelow, offsetsFound}
+use Rattle.agreement.proofs.Readings.{Reading, LandmarkExample, offsetsBelow, offsetsFound}
 use Rattle.agreement.proofs.rhythm.LandmarkLaws.{test-landmark}
 
 -- 5.0
@@ -28,7 +28,7 @@ wholes = map (λ (n : ℕ). ofInt binary64 (pos n))
 unfoldable isWholeLandmark : Reading ℕ
 isWholeLandmark deltas t i = isRhythmLandmark margin (wholes deltas) t i
 
-examples : List Example
+examples : List LandmarkExample
 examples =
     -- a rise behind two that are near, and a fall; the same after every opening
     record { before = []; tail = 100 ∷ 100 ∷ 200 ∷ 200 ∷ 100 ∷ []; offsets = 1 ∷ 3 ∷ [] }
@@ -51,7 +51,7 @@ one = 100 ∷ 100 ∷ 100 ∷ 200 ∷ []
 
 record Computed : Type 0 where
   -- every list comes out as it says
-  examples-right : map (offsetsFound isWholeLandmark) examples ≡ map (λ (x : Example). x .offsets) examples
+  examples-right : map (offsetsFound isWholeLandmark) examples ≡ map (λ (x : LandmarkExample). x .offsets) examples
   one-found : isRhythmLandmark margin (wholes one) 3 2 ≡ true
   -- the deltas of the notes of d n k d
   notes-only : noteDeltas (0 ∷ 2 ∷ 1 ∷ 0 ∷ []) (wholes (1 ∷ 2 ∷ 3 ∷ 4 ∷ [])) ≡ wholes (1 ∷ 3 ∷ 4 ∷ [])

@@ -12,10 +12,10 @@ use Rattle.evaluator_calls.specs.Calls.{Memory, chartMean, chartTenths, colourO
 use Rattle.evaluator_calls.specs.declared.Stretching.the-variants.{Done}
 use Rattle.agreement.specs.CommonTail.{Counterparts}
 use Rattle.agreement.specs.SameGroups.{groups}
-use Rattle.agreement.specs.colour.Claim.{Settled, Hits, HitsClaim, hitPatterns}
+use Rattle.agreement.specs.colour.Claim.{Settled, EncodedHits, HitsClaim, hitPatterns}
 
 -- hit patterns and intervals as encode writes them
-abbrev pub hitsWritten : Settings → Chart → encode.Memory → Hits
+abbrev pub hitsWritten : Settings → Chart → encode.Memory → EncodedHits
 hitsWritten s c lent = record {
   patterns = groups (size c) (encodeOutcome s c lent .memory .hit);
   intervals = encodeOutcome s c lent .memory .interval;

@@ -22,12 +22,12 @@ pub record Settled (limit : ℕ) (g : Groups) (p i : ℕ) : Type 0 where
   pub late : groupAt g p + limit ≤ groupAt g i + 1
 
 -- each object's hit pattern, and its interval
-pub record Hits : Type 0 where
+pub record EncodedHits : Type 0 where
   pub patterns : Groups
   pub intervals : List ℕ
 
 -- two charts' hit patterns and intervals, from object p of the one and object p′ of the other on
-pub record HitsClaim (limit : ℕ) (h : Hits) (p : ℕ) (h′ : Hits) (p′ : ℕ) : Type 0 where
+pub record HitsClaim (limit : ℕ) (h : EncodedHits) (p : ℕ) (h′ : EncodedHits) (p′ : ℕ) : Type 0 where
   -- hit patterns open at the same objects, and hold the same objects
   pub same : SameGroups (h .patterns) p (h′ .patterns) p′
   -- one opens at p, if an object is left
@@ -44,7 +44,7 @@ pub record HitsClaim (limit : ℕ) (h : Hits) (p : ℕ) (h′ : Hits) (p′ : �
 abbrev pub hitPatterns : Chart → Groups
 hitPatterns c = groups (size c) (hitOf (c .kinds))
 
-abbrev pub hitsOf : Settings → Chart → Hits
+abbrev pub hitsOf : Settings → Chart → EncodedHits
 hitsOf s c = record { patterns = hitPatterns c; intervals = intervalOf (s .limit) (c .kinds) }
 
 -- the stretch from a to b, b not included, and its counterpart
