@@ -50,13 +50,27 @@ fn named_of_others(text: &str) -> BTreeMap<String, String> {
     names
 }
 
+/// The words of the `unfolding` lines. One goes on in the lines below it that are indented further.
+fn unfolded(text: &str) -> Vec<&str> {
+    let indent = |line: &str| line.len() - line.trim_start().len();
+    let mut words = Vec::new();
+    let mut at = usize::MAX;
+    for line in text.lines() {
+        let list = line.trim().strip_prefix("unfolding ");
+        if list.is_none() && indent(line) <= at {
+            at = usize::MAX;
+            continue;
+        }
+        at = list.map_or(at, |_| indent(line));
+        words.extend(list.unwrap_or(line).split_whitespace());
+    }
+    words
+}
+
 /// The definitions of other crates that a file opens.
 fn opened(text: &str) -> Vec<String> {
     let others = named_of_others(text);
-    let lines = text
-        .lines()
-        .filter_map(|line| line.trim().strip_prefix("unfolding "));
-    let words = lines.flat_map(|line| line.split_whitespace());
+    let words = unfolded(text).into_iter();
     let of_another = |word: &&str| {
         let first = word.split('.').next().unwrap_or(word);
         others.contains_key(*word) || (word.contains('.') && others.contains_key(first))
@@ -90,7 +104,7 @@ fn no_proof_opens_a_definition_of_another_crate() {
 #[test]
 fn an_opened_definition_is_seen() {
     let text = "use Rattle.numeric.specs.Near.{absOf, isNear}\nuse Rattle.numeric.specs.Tenths as tenths\n\
-                use Rattle.own.specs.Own.{mine}\n  unfolding mine isNear tenths.ceiling";
+                use Rattle.own.specs.Own.{mine}\n  unfolding mine isNear\n    tenths.ceiling\n  mine = absOf";
     assert_eq!(opened(text), ["isNear", "tenths.ceiling"]);
 }
 
