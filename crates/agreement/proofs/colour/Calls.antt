@@ -1,7 +1,7 @@
 -- The colour half over the calls: what encode, colour and stretch answer on two accepted charts, from a colour landmark on. Each call leaves the definition's
 -- numbers, place by place, so that what is claimed of these is claimed of what it leaves.
 use mathlib.Core.Path.{_≡_, sym, _∙_}
-use mathlib.Core.Logic.{_⊎_, _↔_}
+use mathlib.Core.Logic.{_⊎_}
 use mathlib.Core.List.{List}
 use Prim.Native.Nat.{ℕ}
 use native.Mathlib.Omega.{arith}
@@ -20,29 +20,30 @@ use Rattle.agreement.specs.SameGroups.{groups}
 use Rattle.agreement.specs.colour.Landmark.{ColourLandmark}
 use Rattle.agreement.specs.colour.Claim.{Settled, HitsClaim, ColourClaim}
 use Rattle.agreement.specs.colour.Calls.{EncodeClaim, CallsClaim}
-use Rattle.agreement.proofs.GroupLaws.{SameNumbers, opens-alike, groups-alike}
+use Rattle.agreement.proofs.GroupLaws.{SameNumbers, numbers-sym, opens-alike, groups-alike}
 use Rattle.agreement.proofs.colour.Claimed.{colour-claim}
 
 -- ---- the same numbers in other lists
 
-settled-alike : {limit n p i : ℕ} {xs ys : List ℕ} → SameNumbers n xs ys → Settled limit (groups n xs) p i ↔ Settled limit (groups n ys) p i
-settled-alike {p = p} {i = i} e = (
-  λ x. record { after = x .after; there = x .there; late = omega (arith, x .late, e p (omega (arith, x .after, x .there)), e i (x .there)) },
-  λ x. record { after = x .after; there = x .there; late = omega (arith, x .late, e p (omega (arith, x .after, x .there)), e i (x .there)) },
-)
+settled-alike : {limit n p i : ℕ} {xs ys : List ℕ} → SameNumbers n xs ys → Settled limit (groups n xs) p i → Settled limit (groups n ys) p i
+settled-alike {p = p} {i = i} e x = record {
+  after = x .after;
+  there = x .there;
+  late = omega (arith, x .late, e .at p (omega (arith, x .after, x .there)), e .at i (x .there));
+}
 
 hits-alike : {limit n n′ p p′ : ℕ} {xs ys ks ls xs′ ys′ ks′ ls′ : List ℕ} → SameNumbers n xs ys → SameNumbers n ks ls
     → SameNumbers n′ xs′ ys′ → SameNumbers n′ ks′ ls′
     → HitsClaim limit (record { patterns = groups n xs; intervals = ks }) p (record { patterns = groups n′ xs′; intervals = ks′ }) p′
     → HitsClaim limit (record { patterns = groups n ys; intervals = ls }) p (record { patterns = groups n′ ys′; intervals = ls′ }) p′
-hits-alike {p = p} e f e′ f′ k = record {
+hits-alike e f e′ f′ k = record {
   same = groups-alike e e′ (k .same);
-  opens-there = λ l. opens-alike e p .0 (k .opens-there l);
+  opens-there = λ l. opens-alike e (k .opens-there l);
   settled = λ i i′ c. (
-    λ x. settled-alike e′ .0 (k .settled i i′ c .0 (settled-alike e .1 x)),
-    λ x. settled-alike e .0 (k .settled i i′ c .1 (settled-alike e′ .1 x)),
+    λ x. settled-alike e′ (k .settled i i′ c .0 (settled-alike (numbers-sym e) x)),
+    λ x. settled-alike e (k .settled i i′ c .1 (settled-alike (numbers-sym e′) x)),
   );
-  interval = λ i i′ x c. f i (x .there) ∙ k .interval i i′ (settled-alike e .1 x) c ∙ sym (f′ i′ (omega (arith, x .there)));
+  interval = λ i i′ x c. f .at i (x .there) ∙ k .interval i i′ (settled-alike (numbers-sym e) x) c ∙ sym (f′ .at i′ (omega (arith, x .there)));
 }
 
 -- ---- the theorems
@@ -55,8 +56,8 @@ module _ (s : Settings) (c c′ : Chart) {m p p′ : ℕ} (k : SameLast m (c .ki
 
   pub encode-claim : (lent lent′ : encode.Memory) → encode.judged c lent ≡ Accepted → encode.judged c′ lent′ ≡ Accepted → EncodeClaim s c c′ lent lent′ p p′
   encode-claim lent lent′ x x′ =
-      hits-alike (hit-written s c lent x) (interval-written s c lent x) (hit-written s c′ lent′ x′) (interval-written s c′ lent′ x′)
-      (accepted-claim _ _ x x′ .hits)
+      hits-alike (record { at = hit-written s c lent x }) (record { at = interval-written s c lent x }) (record { at = hit-written s c′ lent′ x′ })
+      (record { at = interval-written s c′ lent′ x′ }) (accepted-claim _ _ x x′ .hits)
 
   pub calls-claim : (lent lent′ : Memory) → judged c lent ≡ Accepted → judged c′ lent′ ≡ Accepted → CallsClaim s c c′ lent lent′ p p′
   calls-claim lent lent′ x x′ =

@@ -52,14 +52,11 @@ module _ (s : Settings) (c c′ : Chart) {a g b h : ℕ} (r : Agree (s .limit) (
   pub same-hits : SameGroups (hitPatterns c) a (hitPatterns c′) b
   same-hits = same-groups (record {
     start = r .objects;
-    share = λ i i′ j j′ l k e l′ k′ e′. (
-      λ z. omega (arith, hit-agree i i′ l e k, hit-agree j j′ l′ e′ k′),
-      λ z. omega (arith, hit-agree i i′ l e k, hit-agree j j′ l′ e′ k′),
-    );
-    reach = λ i i′ l k e. (
-      λ y. absurd (cut-closed c (r .cut) i l k y),
-      λ y. absurd (cut-closed c′ (r .cut′) i′ (omega (arith, r .objects)) (omega arith) y),
-    );
+    from = g;
+    from′ = h;
+    shift = λ i i′ l k e. hit-agree i i′ l e k;
+    reach = λ i i′ l k e y. absurd (cut-closed c (r .cut) i l k y);
+    reach′ = λ i i′ l k e y. absurd (cut-closed c′ (r .cut′) i′ (omega (arith, r .objects)) (omega arith) y);
   })
 
   settled-agree : (i i′ : ℕ) → Counterparts (size c) (size c′) i i′ → Settled (s .limit) (hitPatterns c) a i ↔ Settled (s .limit) (hitPatterns c′) b i′

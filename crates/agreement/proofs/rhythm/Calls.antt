@@ -77,13 +77,18 @@ note-at ks j h =
 -- what an accepted call writes for the notes, in order
 numbers-written : (s : Settings) (c : Chart) (lent : Memory) → judged c lent ≡ Accepted
     → SameNumbers (noteCount c) (rhythmGroups s c .numbers) (groupsWritten s c lent .numbers)
-numbers-written s c lent x j h =
-    let objects : List ℕ = noteObjects (c .kinds) in
-    let l : j < length objects =
-    omega (arith, length-note-objects (c .kinds), length-note-deltas (c .kinds) (c .deltas) (accepted-good c _ x .lengths .delta)) in
-    let n = note-at (c .kinds) j l in
-    getD-gathered (rhythmOutcome s c lent .memory .group) objects j l ∙ group-written s c lent x (getD objects j 0) (n .there) (n .is-note)
-    ∙ ap (groupAt (rhythmGroups s c)) (note-number (c .kinds) (getD objects j 0) (n .is-note) ∙ n .before)
+numbers-written s c lent x = record { at = at }
+  where
+    objects : List ℕ
+    objects = noteObjects (c .kinds)
+
+    at : (j : ℕ) → j < noteCount c → groupAt (groupsWritten s c lent) j ≡ groupAt (rhythmGroups s c) j
+    at j h =
+        let l : j < length objects =
+        omega (arith, length-note-objects (c .kinds), length-note-deltas (c .kinds) (c .deltas) (accepted-good c _ x .lengths .delta)) in
+        let n = note-at (c .kinds) j l in
+        getD-gathered (rhythmOutcome s c lent .memory .group) objects j l ∙ group-written s c lent x (getD objects j 0) (n .there) (n .is-note)
+        ∙ ap (groupAt (rhythmGroups s c)) (note-number (c .kinds) (getD objects j 0) (n .is-note) ∙ n .before)
 
 pub rhythm-call : (s : Settings) (c c′ : Chart) (lent lent′ : Memory) {m : ℕ} → judged c lent ≡ Accepted → judged c′ lent′ ≡ Accepted
     → SameLast m (c .kinds) (c′ .kinds) → SameLast m (c .deltas) (c′ .deltas) → (i i′ : ℕ) → Counterparts (noteCount c) (noteCount c′) i i′

@@ -51,16 +51,13 @@ module _ {margin : Float} {xs : List Float} {a : ℕ} {ys : List Float} {b : ℕ
 
 same-behind-shift : {margin : Float} {xs ys : List Float} {a b : ℕ} → Shifted margin xs a ys b
     → SameGroups (intervalGroups margin xs) (a + 1) (intervalGroups margin ys) (b + 1)
-same-behind-shift s = same-groups (record {
+same-behind-shift {margin} {xs} {ys} {a} {b} s = same-groups (record {
   start = omega (arith, s .start);
-  share = λ i i′ j j′ l h c l′ h′ c′. (
-    λ e. omega (arith, s .shift i i′ (omega arith) h c, s .shift j j′ (omega arith) h′ c′),
-    λ e. omega (arith, s .shift i i′ (omega arith) h c, s .shift j j′ (omega arith) h′ c′),
-  );
-  reach = λ i i′ l h c. (
-    reach-over s i i′ (omega arith) h c,
-    reach-over (shifted-sym s) i′ i (omega (arith, s .start)) (omega arith) (sym c),
-  );
+  from = numberAt margin xs a;
+  from′ = numberAt margin ys b;
+  shift = λ i i′ l h c. s .shift i i′ (omega arith) h c;
+  reach = λ i i′ l h c. reach-over s i i′ (omega arith) h c;
+  reach′ = λ i i′ l h c. reach-over (shifted-sym s) i′ i (omega (arith, s .start)) (omega arith) (sym c);
 })
 
 -- ---- two lists of deltas whose last t are alike, with a landmark there, read in either

@@ -21,10 +21,10 @@ use Rattle.agreement.proofs.rhythm.Claimed.{rhythm-claim}
 -- a run leaves each note's group number
 numbers-left : {margin : Float} {values : List Float} {old new : List ℕ} {r : ℕ} → Grouped margin values old new r
     → SameNumbers (length values) (groupNumbers (intervalMarks margin values)) new
-numbers-left {margin} {values} {old} g p h =
-    let numbers : List ℕ = groupNumbers (intervalMarks margin values) in
-    let long = length-numbers (intervalMarks margin values) ∙ length-marks margin values in
-    rw (g .numbers) (getD-over numbers old p 0 (omega arith))
+numbers-left {margin} {values} {old} g = record { at = λ p h. rw (g .numbers) (getD-over (groupNumbers (intervalMarks margin values)) old p 0 (omega (arith, long))) }
+  where
+    long : length (groupNumbers (intervalMarks margin values)) ≡ length values
+    long = length-numbers (intervalMarks margin values) ∙ length-marks margin values
 
 pub runs-agree : (margin : Float) {t : ℕ} {xs ys : List Float} → SameLast t xs ys → (i i′ : ℕ) → Counterparts (length xs) (length ys) i i′
     → RhythmLandmark margin xs t i ⊎ RhythmLandmark margin ys t i′
