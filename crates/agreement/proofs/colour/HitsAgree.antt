@@ -117,8 +117,8 @@ module _ (front rest : List ℕ) {n position : ℕ} (m : ColourLandmark (front +
   uncoupled : Uncoupled marks types q p
   uncoupled = record {
     inside = omega (arith, p-is, m .pattern-next, ap groupCount (level .whole), count-cut (level .front) (backMarks marks q) (level .opening));
-    this = sym (flag-at (m .pattern) p p-is) ∙ m .pattern-uncoupled;
-    next = sym (flag-at (m .pattern + 1) (p + 1) (omega (arith, p-is))) ∙ m .next-uncoupled;
+    this = omega (arith, flag-at (m .pattern) p p-is, m .pattern-uncoupled);
+    next = omega (arith, flag-at (m .pattern + 1) (p + 1) (omega (arith, p-is)), m .next-uncoupled);
   }
 
   -- ---- the cut at the landmark

@@ -21,9 +21,12 @@ use Rattle.agreement.proofs.rhythm.Claimed.{rhythm-claim}
 -- a run leaves each note's group number
 numbers-left : {margin : Float} {values : List Float} {old new : List ℕ} {r : ℕ} → Grouped margin values old new r
     → SameNumbers (length values) (groupNumbers (intervalMarks margin values)) new
-numbers-left {margin} {values} {old} g = record { at = λ p h. rw (g .numbers) (getD-over (groupNumbers (intervalMarks margin values)) old p 0 (omega (arith, long))) }
+numbers-left {margin} {values} {old} g = record { at = λ p h. rw (g .numbers) (getD-over numbers old p 0 (omega (arith, long))) }
   where
-    long : length (groupNumbers (intervalMarks margin values)) ≡ length values
+    numbers : List ℕ
+    numbers = groupNumbers (intervalMarks margin values)
+
+    long : length numbers ≡ length values
     long = length-numbers (intervalMarks margin values) ∙ length-marks margin values
 
 pub runs-agree : (margin : Float) {t : ℕ} {xs ys : List Float} → SameLast t xs ys → (i i′ : ℕ) → Counterparts (length xs) (length ys) i i′
