@@ -33,6 +33,5 @@ pub record TailAgreement (s : Settings) (c c′ : Chart) (m : ℕ) : Type 0 wher
   pub rhythm : (i i′ : ℕ) → Counterparts (noteCount c) (noteCount c′) i i′
       → LandmarkNote s c m i ⊎ LandmarkNote s c′ m i′
       → SameGroups (rhythmGroups s c) i (rhythmGroups s c′) i′
-  -- Counterparts as objects are counterparts as notes: object o of the tail is a note exactly when its counterpart is
-  -- one.
+  -- Objects of the tail that are counterparts are notes both or neither, and as notes they are counterparts too.
   pub notes : (o o′ : ℕ) → size c ≤ o + m → o < size c → Counterparts (size c) (size c′) o o′ → SameNote c o c′ o′
