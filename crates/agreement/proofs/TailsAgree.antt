@@ -1,5 +1,5 @@
--- Demand 3, proved: two accepted charts with a common tail agree from every landmark in it on. It holds for every set of settings, and so for every `Permitted` one.
--- Colour and rhythm are put together here.
+-- Demand 3, proved: two accepted charts with a common tail agree from every landmark in it on. It holds for every set of settings, and so for every `Permitted`
+-- one. Colour and rhythm are put together here.
 use mathlib.Core.Path.{_≡_}
 use Prim.Native.Nat.{ℕ}
 use Rattle.grouping_chart.specs.Chart.{Chart}
