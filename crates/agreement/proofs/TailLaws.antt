@@ -1,5 +1,5 @@
 -- Two lists whose last t items are alike: counterparts among these are the same, and have the same items behind them.
-use mathlib.Core.Path.{_≡_, sym, ap, _∙_}
+use mathlib.Core.Path.{_≡_, sym, ap}
 use mathlib.Core.List.{List}
 use Prim.Native.Nat.{ℕ, _+_, _-_, _≤_}
 use native.Mathlib.Numerals.{unary-clauses}
@@ -20,4 +20,6 @@ module _ {A : Type 0} {t : ℕ} {xs ys : List A} (s : SameLast t xs ys) (p q : �
       rw (a, b, ← drop-drop k (length xs - t) xs, ← drop-drop k (length ys - t) ys) (ap (drop k) (s .alike))
 
   pub same-at : (d : A) → getD xs p d ≡ getD ys q d
-  same-at d = simp unary-clauses at (sym (getD-drop p xs 0 d) ∙ ap (λ (l : List A). getD l 0 d) same-behind ∙ getD-drop q ys 0 d)
+  same-at d =
+      let first : getD (drop p xs) 0 d ≡ getD (drop q ys) 0 d = rw same-behind in
+      simp (getD-drop, unary-clauses) at first

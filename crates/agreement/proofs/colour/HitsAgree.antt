@@ -241,7 +241,7 @@ module _ (pre tail : List ℕ) (offset : ℕ) (m : ColourLandmark (pre ++ tail) 
   front-long before = omega (arith, length-append before (take lead tail), length-take-le lead tail lead-le)
 
   seam : (before : List ℕ) → fronted before ++ drop lead tail ≡ before ++ tail
-  seam before = append-assoc before (take lead tail) (drop lead tail) ∙ ap (λ (l : List ℕ). before ++ l) (take-append-drop lead tail)
+  seam before = rw (append-assoc, take-append-drop)
 
   agreement : (limit : ℕ) (pre′ : List ℕ) → Agreement limit (pre ++ tail) (length pre + offset) (pre′ ++ tail) (length pre′ + offset)
   agreement limit pre′ =
@@ -287,7 +287,7 @@ colour-agree limit kinds kinds′ m position position′ s far x =
     whole = take-append-drop (length kinds - m) kinds
 
     whole′ : front′ ++ lastOf m kinds ≡ kinds′
-    whole′ = ap (λ (l : List ℕ). front′ ++ l) (s .alike) ∙ take-append-drop (length kinds′ - m) kinds′
+    whole′ = rw (s .alike) (take-append-drop (length kinds′ - m) kinds′)
 
     size : length (lastOf m kinds) ≡ m
     size = omega (arith, length-drop (length kinds - m) kinds, s .inside)

@@ -28,7 +28,7 @@ use Rattle.agreement.proofs.colour.PartLaws.{Back, Parted}
 
 -- a list that is cut, cut once more in its back
 cut-again : {xs d : List ℕ} (a b c : List ℕ) → xs ≡ a ++ d → d ≡ b ++ c → xs ≡ (a ++ b) ++ c
-cut-again a b c e f = e ∙ ap (λ (l : List ℕ). a ++ l) f ∙ sym (append-assoc a b c)
+cut-again a b c e f = rw (e, f, append-assoc)
 
 cut-taken : {xs : List ℕ} (a d : List ℕ) (q : ℕ) → xs ≡ a ++ d → xs ≡ (a ++ take q d) ++ drop q d
 cut-taken a d q e = cut-again a (take q d) (drop q d) e (sym (take-append-drop q d))
@@ -58,9 +58,9 @@ streaks-cut front back marks e o = record {
   front = streakMarks front;
   front-lengths = streakLengths front;
   front-types = streakTypes front;
-  whole = streakMarks-cut front back ∙ ap (λ (l : List ℕ). streakMarks front ++ l) e;
-  lengths = streakLengths-cut front back (rw e o) ∙ ap (λ (l : List ℕ). streakLengths front ++ groupSizes l) e;
-  types-whole = streakTypes-cut front back (rw e o) ∙ ap (λ (l : List ℕ). streakTypes front ++ groupFirsts l back) e;
+  whole = rw (← e) (streakMarks-cut front back);
+  lengths = rw (← e) (streakLengths-cut front back (rw e o));
+  types-whole = rw (← e) (streakTypes-cut front back (rw e o));
   size = length-streakMarks front;
   count = ap length (streakLengths-made front) ∙ length-sizes (streakMarks front);
   count-types = ap length (streakTypes-made front) ∙ length-firsts (streakMarks front) front (omega (arith, length-streakMarks front));
@@ -155,15 +155,12 @@ module _ {kinds : List ℕ} {position : ℕ} {marks types : List ℕ} (c : Strea
   first-whole : firstLengths kinds ≡ groupFirsts front-marks before ++ backFirsts marks q
   unfolding front-marks backMarks backFirsts
   first-whole =
-      firstLengths-made kinds ∙ ap (λ (l : List ℕ). groupFirsts l (streakLengths kinds)) (patternsOpen-made kinds)
-      ∙ ap (λ (l : List ℕ). groupFirsts (patternMarks l) l) lengths-split
-      ∙ listed-cut before (backLengths marks q) uneven before (backLengths marks q) refl refl
+      rw (firstLengths-made kinds, patternsOpen-made kinds, lengths-split) (listed-cut before (backLengths marks q) uneven before (backLengths marks q) refl refl)
 
   counts-whole : streakCounts kinds ≡ groupSizes front-marks ++ groupSizes (backMarks marks q)
   unfolding front-marks backMarks
   counts-whole =
-      streakCounts-made kinds ∙ ap groupSizes (patternsOpen-made kinds) ∙ ap (λ (l : List ℕ). groupSizes (patternMarks l)) lengths-split
-      ∙ counts-cut before (backLengths marks q) uneven
+      rw (streakCounts-made kinds, patternsOpen-made kinds, lengths-split) (counts-cut before (backLengths marks q) uneven)
 
   pattern-types-whole : patternTypes kinds ≡ groupFirsts front-marks before-types ++ groupFirsts (backMarks marks q) (drop q types)
   unfolding front-marks backMarks
@@ -292,12 +289,12 @@ module _ {marks types : List ℕ} {q p : ℕ} (u : Unequal marks q) (v : Uncoupl
     patterns-counted : groupCount (level .front ++ pattern-cut .front) ≡ groupCount (level .front) + (p + 2)
     patterns-counted =
         count-cut (level .front) (pattern-cut .front) (opening-front (pattern-cut .front) (pattern-cut .back) (rw (pattern-cut .whole) at (level .opening)))
-        ∙ ap (λ (n : ℕ). groupCount (level .front) + n) (pattern-cut .count)
+        ∙ rw (pattern-cut .count)
 
     streaks-counted : groupCount (c .front ++ streak-cut .front) ≡ groupCount (c .front) + (q + length (pattern-cut .front))
     streaks-counted =
         count-cut (c .front) (streak-cut .front) (opening-front (streak-cut .front) (streak-cut .back) (rw (streak-cut .whole) at (c .opening)))
-        ∙ ap (λ (n : ℕ). groupCount (c .front) + n) (streak-cut .count)
+        ∙ rw (streak-cut .count)
 
     pub parted : Parted kinds back
     unfolding back

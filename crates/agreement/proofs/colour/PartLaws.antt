@@ -86,9 +86,7 @@ split-from {xs} {at} {c} s i l h =
 place-behind : {places marks idx numbers : List ℕ} {at : ℕ} (front back : List ℕ) → gathered (groupPlaces marks) idx ≡ places → marks ≡ front ++ back
     → Opening back → Split idx at (length front) numbers → (j : ℕ) → j < length numbers → getD places (at + j) 0 ≡ getD (groupPlaces back) (getD numbers j 0) 0
 place-behind {idx = idx} {at = at} front back looked whole o s j h =
-    sym (ap (λ (l : List ℕ). getD l (at + j) 0) looked)
-    ∙ ap (λ (l : List ℕ). getD (gathered l idx) (at + j) 0) (ap groupPlaces whole ∙ places-cut front back o)
-    ∙ split-looked s (groupPlaces front) (groupPlaces back) (length-places front) j h
+    rw (← looked, whole, places-cut front back o) (split-looked s (groupPlaces front) (groupPlaces back) (length-places front) j h)
 
 -- two lists that are cut so, with the same numbers behind
 first-behind : {xs ys back : List ℕ} {a b c d : ℕ} → Split xs a c back → Split ys b d back → 0 < a → 0 < b → (j : ℕ) → j < length back → FirstAlike xs ys a b j

@@ -57,8 +57,7 @@ module _ (c c′ : Chart) {m : ℕ} (whole : length (c .deltas) ≡ size c) (who
   notes-alike = record {
     inside = notes-fit m c whole (k .inside);
     inside′ = omega (arith, same-count, notes-fit m c′ whole′ (k .inside′));
-    alike = notes-last m c whole (k .inside) ∙ (λ i. noteDeltas (k .alike i) (d .alike i)) ∙ sym (notes-last m c′ whole′ (k .inside′))
-        ∙ ap (λ (n : ℕ). lastOf n (deltasOf c′)) (sym same-count);
+    alike = rw (notes-last m c whole (k .inside), same-count, notes-last m c′ whole′ (k .inside′)) (λ i. noteDeltas (k .alike i) (d .alike i));
   }
 
   module _ (o o′ : ℕ) (h : size c ≤ o + m) (l : o < size c) (e : Counterparts (size c) (size c′) o o′) where
