@@ -1,8 +1,10 @@
--- The laws of this crate. Those that are public are for the crates above, or are results of their own; the others serve the proofs of this crate alone.
+-- The laws of this crate: the theorem whole, and the rooms `colour` and `rhythm`, which prove its parts. Those that are public are results of their own; the
+-- others serve the proofs of this crate alone.
+pub mod TailsAgree
+pub mod TestLaws
 pub mod TailLaws
-pub mod ColourAgree
-pub mod LandmarkLaws
-mod PartLaws
-mod LevelLaws
-mod AgreementLaws
+pub mod GroupLaws
+pub mod Readings
+pub mod colour
+pub mod rhythm
 mod Examples

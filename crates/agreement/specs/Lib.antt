@@ -1,5 +1,7 @@
--- The definitions that this crate's promises and laws cite.
+-- The definitions of this crate. The claim whole is TailAgreement; its parts are in the rooms `colour` and `rhythm`.
+pub mod Tests
 pub mod CommonTail
-pub mod Landmark
-pub mod LandmarkTest
-pub mod Agreement
+pub mod SameGroups
+pub mod colour
+pub mod rhythm
+pub mod TailAgreement

@@ -1,1 +1,1 @@
-// No functions: the theorem that from a landmark on the encoder says the same of two charts, whatever stands before their common tail.
+// No functions: the theorem that from a landmark on two charts get the same answers, whatever stands before their end.

@@ -1,0 +1,41 @@
+-- Stretches behind a landmark: where every settled object has its counterpart's value, the sums, and so the means and the tenths, are the counterpart's.
+use mathlib.Core.Path.{_≡_}
+use Prim.Native.Nat.{ℕ, _+_, _-_, _≤_, _<_}
+use native.Mathlib.Omega.{arith}
+use lib.Ieee.{Float}
+use Rattle.grouping_chart.specs.Chart.{Chart, size}
+use Rattle.grouping_chart.specs.Settings.{Settings}
+use Rattle.evaluator_values.specs.Colour.{colourAt}
+use Rattle.evaluator_calls.specs.Stretch.{Stretch}
+use Rattle.evaluator_calls.proofs.AlikeLaws.{mean-alike, tenths-alike}
+use Rattle.agreement.specs.CommonTail.{Counterparts}
+use Rattle.agreement.specs.colour.Claim.{hitPatterns, Settled, SameStretch}
+use Rattle.agreement.proofs.colour.RiseLaws.{hit-rises}
+
+-- object i's colour value
+abbrev pub valueAt : Settings → Chart → ℕ → Float
+valueAt s c i = colourAt (s .limit) (s .tolerance) (c .kinds) (c .ratios) i
+
+-- hit patterns are numbered in order
+pub settled-onwards : (c : Chart) {limit p : ℕ} (i j : ℕ) → Settled limit (hitPatterns c) p i → i ≤ j → j < size c → Settled limit (hitPatterns c) p j
+settled-onwards c i j x l h = record { after = omega (arith, x .after); there = h; late = omega (arith, x .late, hit-rises (c .kinds) i j l h) }
+
+module _ (s : Settings) (c c′ : Chart) (p : ℕ)
+    (values : (i i′ : ℕ) → Settled (s .limit) (hitPatterns c) p i → Counterparts (size c) (size c′) i i′ → valueAt s c i ≡ valueAt s c′ i′)
+    (a b a′ b′ : ℕ) (x : Settled (s .limit) (hitPatterns c) p a) (y : Stretch (c .kinds) a b)
+    (from : Counterparts (size c) (size c′) a a′) (to : Counterparts (size c) (size c′) b b′) where
+  same-values : (i : ℕ) → i < b - a → valueAt s c (a + i) ≡ valueAt s c′ (a′ + i)
+  same-values i k = values (a + i) (a′ + i) (settled-onwards c a (a + i) x (omega arith) (omega (arith, y .inside))) (omega arith)
+
+  same-size : b - a ≡ b′ - a′
+  same-size = omega (arith, y .some)
+
+  other : Stretch (c′ .kinds) a′ b′
+  other = record { some = omega (arith, y .some); inside = omega (arith, y .inside) }
+
+  pub same-stretch : SameStretch s c a b c′ a′ b′
+  same-stretch = record {
+    accepted = other;
+    mean = mean-alike (s .limit) (s .tolerance) (c .kinds) (c .ratios) (c′ .kinds) (c′ .ratios) a b a′ b′ y other same-size same-values;
+    tenths = tenths-alike (s .limit) (s .tolerance) (c .kinds) (c .ratios) (c′ .kinds) (c′ .ratios) a b a′ b′ y other same-size same-values;
+  }
