@@ -18,7 +18,8 @@ use Rattle.grouping_color.specs.MonoStreak.{continues, opensStreak, streakMarks
 use Rattle.grouping_color.specs.AlternatingMonoPattern.{opensPattern, patternMarks, coupledAt, coupled}
 use Rattle.grouping_color.specs.Preprocessor.{patternsOpen, firstLengths, streakCounts, patternTypes, coupledPatterns, hitsOpen, alternatingOf, hitOf}
 use Rattle.evaluator_values.specs.Colour.{valuesOf}
-use Rattle.evaluator_calls.specs.Stretch.{Stretch}
+use Rattle.evaluator_calls.specs.Stretch.{GoodStretch}
+use Rattle.evaluator_calls.proofs.StretchCases.{lies-good}
 use Rattle.evaluator_calls.specs.Calls.{chartMean}
 use Rattle.agreement.specs.CommonTail.{SameLast}
 use Rattle.agreement.specs.colour.Landmark.{ColourLandmark}
@@ -96,5 +97,5 @@ module _ (starts deltas ratios : List Float) (whole : length ratios ≡ 39) wher
     -- and the stretch of its last two the mean
     pub any-stretch : chartMean baseSettings alone 37 39 ≡ chartMean baseSettings c (size c - 2) (size c)
     any-stretch =
-        let last-two : Stretch tail 37 39 = record { some = omega arith; inside = omega arith } in
+        let last-two : GoodStretch tail 37 39 = lies-good tail 37 39 (record { some = omega arith; inside = omega arith }) in
         claim .stretch 37 39 (size c - 2) (size c) settled last-two (omega (arith, kinds-alike .inside′)) (omega arith) .mean

@@ -8,11 +8,11 @@ use Rattle.grouping_marks.specs.Over.{over}
 use Rattle.grouping_marks.proofs.OverLaws.{over-agree}
 use Rattle.grouping_chart.specs.Settings.{Settings}
 use Rattle.grouping_preprocessor.specs.Passes.{Tables}
-use Rattle.grouping_preprocessor.specs.declared.Counts.{Counts}
+use Rattle.grouping_preprocessor.specs.declared.Levels.{Levels}
 use Rattle.evaluator_values.specs.Colour.{colourValues}
 use Rattle.evaluator_calls.specs.Calls.{Memory, memory, filled}
 
-pub filled-is : (s : Settings) {kinds w work : List ℕ} {k : Counts} {value scratch : List Float} (ratios : List Float) (m : Memory)
+pub filled-is : (s : Settings) {kinds w work : List ℕ} {k : Levels} {value scratch : List Float} (ratios : List Float) (m : Memory)
     → Tables (s .limit) kinds (m .work) w k
     → value ≡ over (colourValues (k .limit) (s .tolerance) kinds ratios) (m .value)
     → work ≡ over (replicate (8 * length kinds) 0) w

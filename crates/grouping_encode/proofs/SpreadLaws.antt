@@ -9,7 +9,7 @@ use Rattle.grouping_marks.specs.Over.{over, part}
 use Rattle.grouping_marks.specs.Scan.{gathered}
 use Rattle.grouping_marks.proofs.OverLaws.{front, length-part, lent-part, lent-front}
 use Rattle.grouping_marks.proofs.FillLaws.{length-gathered, getD-gathered}
-use Rattle.grouping_preprocessor.specs.declared.Counts.{Counts}
+use Rattle.grouping_preprocessor.specs.declared.Levels.{Levels}
 use Rattle.grouping_encode.specs.Passes.{Below, PatternsRoom, HitsRoom}
 
 -- the front of a slice that was written over
@@ -40,7 +40,7 @@ below-gathered {n} {s} {k} {entries} {numbers} l b t = record { below = go }
 
 -- ---- by the streaks
 
-module _ {n : ℕ} {k : Counts} {work streak place pattern : List ℕ} (r : PatternsRoom n k work streak place pattern) where
+module _ {n : ℕ} {k : Levels} {work streak place pattern : List ℕ} (r : PatternsRoom n k work streak place pattern) where
   -- the front of the slice that the streaks' numbers were copied to
   pub streak-front : (old : List ℕ) {new : List ℕ} → new ≡ over (take n work) old → take n new ≡ part 0 n work
   streak-front old e = written-front old n (length-take-le n work (omega (arith, r .tables))) e ∙ lent-front n work
@@ -51,7 +51,7 @@ module _ {n : ℕ} {k : Counts} {work streak place pattern : List ℕ} (r : Patt
 
 -- ---- by the patterns, and by their hit patterns
 
-module _ {n : ℕ} {k : Counts} {work pattern place hit interval : List ℕ} (r : HitsRoom n k work pattern place hit interval) where
+module _ {n : ℕ} {k : Levels} {work pattern place hit interval : List ℕ} (r : HitsRoom n k work pattern place hit interval) where
   patterns-long : length (take n pattern) ≡ n
   patterns-long = length-take-le n pattern (r .pattern-room)
 

@@ -8,7 +8,7 @@ use lib.ListN.{length, getD}
 use Rattle.grouping_chart.specs.Chart.{Chart, size}
 use Rattle.grouping_chart.specs.Settings.{Settings}
 use Rattle.grouping_color.specs.Preprocessor.{hitOf, intervalOf}
-use Rattle.evaluator_values.proofs.LookLaws.{value-of}
+use Rattle.evaluator_values.proofs.StandingLaws.{value-of}
 use Rattle.agreement.specs.CommonTail.{Counterparts, SameLast}
 use Rattle.agreement.specs.SameGroups.{OpensAt, SameGroups}
 use Rattle.agreement.specs.colour.Landmark.{ColourLandmark}

@@ -6,7 +6,8 @@ use lib.Ieee.{Float}
 use Rattle.grouping_chart.specs.Chart.{Chart, size}
 use Rattle.grouping_chart.specs.Settings.{Settings}
 use Rattle.evaluator_values.specs.Colour.{colourAt}
-use Rattle.evaluator_calls.specs.Stretch.{Stretch}
+use Rattle.evaluator_calls.specs.Stretch.{GoodStretch}
+use Rattle.evaluator_calls.proofs.StretchCases.{StretchLies, good-lies, lies-good}
 use Rattle.evaluator_calls.proofs.AlikeLaws.{mean-alike, tenths-alike}
 use Rattle.agreement.specs.CommonTail.{Counterparts}
 use Rattle.agreement.specs.colour.Claim.{hitPatterns, Settled, SameStretch}
@@ -22,16 +23,19 @@ settled-onwards c i j x l h = record { after = omega (arith, x .after); there = 
 
 module _ (s : Settings) (c c′ : Chart) (p : ℕ)
     (values : (i i′ : ℕ) → Settled (s .limit) (hitPatterns c) p i → Counterparts (size c) (size c′) i i′ → valueAt s c i ≡ valueAt s c′ i′)
-    (a b a′ b′ : ℕ) (x : Settled (s .limit) (hitPatterns c) p a) (y : Stretch (c .kinds) a b)
+    (a b a′ b′ : ℕ) (x : Settled (s .limit) (hitPatterns c) p a) (y : GoodStretch (c .kinds) a b)
     (from : Counterparts (size c) (size c′) a a′) (to : Counterparts (size c) (size c′) b b′) where
+  lies : StretchLies (c .kinds) a b
+  lies = good-lies (c .kinds) a b y
+
   same-values : (i : ℕ) → i < b - a → valueAt s c (a + i) ≡ valueAt s c′ (a′ + i)
-  same-values i k = values (a + i) (a′ + i) (settled-onwards c a (a + i) x (omega arith) (omega (arith, y .inside))) (omega arith)
+  same-values i k = values (a + i) (a′ + i) (settled-onwards c a (a + i) x (omega arith) (omega (arith, lies .inside))) (omega arith)
 
   same-size : b - a ≡ b′ - a′
-  same-size = omega (arith, y .some)
+  same-size = omega (arith, lies .some)
 
-  other : Stretch (c′ .kinds) a′ b′
-  other = record { some = omega (arith, y .some); inside = omega (arith, y .inside) }
+  other : GoodStretch (c′ .kinds) a′ b′
+  other = lies-good (c′ .kinds) a′ b′ (record { some = omega (arith, lies .some); inside = omega (arith, lies .inside) })
 
   pub same-stretch : SameStretch s c a b c′ a′ b′
   same-stretch = record {

@@ -10,8 +10,8 @@ use lib.Ieee.{Float, nan}
 use Rattle.grouping_color.specs.MonoStreak.{streakOf}
 use Rattle.grouping_color.specs.Preprocessor.{alternatingOf, hitOf}
 use Rattle.evaluator_values.specs.Colour.{isFirst, colourAt}
-use Rattle.evaluator_values.proofs.LookLaws.{change-first}
-use Rattle.evaluator_values.proofs.AlikeLaws.{LookedAlike, colour-alike}
+use Rattle.evaluator_values.proofs.StandingLaws.{change-first}
+use Rattle.evaluator_values.proofs.AlikeLaws.{StandingAlike, colour-alike}
 use Rattle.agreement.specs.CommonTail.{Counterparts, SameLast}
 use Rattle.agreement.specs.colour.Agreement.{FirstAlike, Agree}
 use Rattle.agreement.proofs.TailLaws.{same-at}
@@ -29,7 +29,7 @@ module _ {limit : ℕ} {kinds : List ℕ} {a g : ℕ} {kinds′ : List ℕ} {b h
       let y : b + (i - a) ≡ i′ = omega (arith, r .objects) in
       subst₂ P x y (f (i - a))
 
-  looked-agree : (j : ℕ) → a + j < length kinds → g + limit ≤ getD (hitOf kinds) (a + j) 0 + 1 → LookedAlike limit kinds (a + j) kinds′ (b + j)
+  looked-agree : (j : ℕ) → a + j < length kinds → g + limit ≤ getD (hitOf kinds) (a + j) 0 + 1 → StandingAlike limit kinds (a + j) kinds′ (b + j)
   looked-agree j l n = record {
     interval = r .interval j l n;
     outer = r .pattern-place j l;

@@ -13,7 +13,7 @@ use lib.Ieee.{Float, nan}
 use Rattle.grouping_marks.proofs.NumberLaws.{number-opens, numbers-rise, numbers-shift}
 use Rattle.grouping_chart.specs.Chart.{Chart, size}
 use Rattle.grouping_chart.specs.Settings.{Settings}
-use Rattle.grouping_interval.specs.IntervalGrouping.{rises, marksAfter, intervalMarks}
+use Rattle.grouping_interval.specs.IntervalGrouping.{isRise, marksAfter, intervalMarks}
 use Rattle.grouping_interval.proofs.IntervalLaws.{marks-rise, marks-neither, length-marks}
 use Rattle.agreement.specs.CommonTail.{Counterparts, SameLast}
 use Rattle.agreement.specs.SameGroups.{groupAt, OpensAt, SameGroups}
@@ -129,9 +129,9 @@ module _ (margin : Float) (deltas : List Float) (t i : ℕ) (m : RhythmLandmark 
   mark-at k n ms f e = rw (← f, ← getD-drop i (intervalMarks margin deltas) k 0, e)
 
   pub landmark-opens : OpensAt (intervalGroups margin deltas) i ⊎ OpensAt (intervalGroups margin deltas) (i + 1)
-  landmark-opens = by (rises margin v w) refl
+  landmark-opens = by (isRise margin v w) refl
     where
-      by : (b : Bool) → rises margin v w ≡ b → OpensAt (intervalGroups margin deltas) i ⊎ OpensAt (intervalGroups margin deltas) (i + 1)
+      by : (b : Bool) → isRise margin v w ≡ b → OpensAt (intervalGroups margin deltas) i ⊎ OpensAt (intervalGroups margin deltas) (i + 1)
       by true r =
           let e = marks-there ∙ marks-rise margin true (getD deltas (i - 1) nan) v w rest (m .not-near) r in
           inr (rw (add-one i) (opens-by-mark margin deltas i (omega (arith, m .next-there)) (mark-at 1 (suc i) _ (omega arith) e)))

@@ -10,7 +10,7 @@ use lib.Ieee.{Float, nan, round, add, sub, le, lt, ofInt}
 use Rattle.numeric.specs.Near.{absOf, isNear}
 use Rattle.grouping_marks.specs.Scan.{scan}
 use Rattle.grouping_marks.specs.Marks.{opened, groupNumbers}
-use Rattle.grouping_interval.specs.IntervalGrouping.{rises, marksAfter, intervalMarks}
+use Rattle.grouping_interval.specs.IntervalGrouping.{isRise, marksAfter, intervalMarks}
 use Rattle.agreement.specs.Tests.{allTrue, anyBelow}
 use Rattle.agreement.specs.rhythm.Landmark.{isRhythmLandmark}
 use Rattle.agreement.proofs.Readings.{Reading, ClaimFrom, opensThere, refutes, refuted}
@@ -36,7 +36,7 @@ unfoldable nearAt : List Float → ℕ → Bool
 nearAt deltas i = isNear margin (getD deltas i nan) (getD deltas (i + 1) nan)
 
 unfoldable risesAt : List Float → ℕ → Bool
-risesAt deltas i = rises margin (getD deltas i nan) (getD deltas (i + 1) nan)
+risesAt deltas i = isRise margin (getD deltas i nan) (getD deltas (i + 1) nan)
 
 -- note i rises from note i − 1, and there is a note i + 1
 unfoldable riseBefore : Reading Float
@@ -80,7 +80,7 @@ record Computed : Type 0 where
 
 computed : Computed
 unfolding refutes opensThere allTrue anyBelow riseBefore riseThenNotNear nearBefore noteEarlier ofTail nearAt risesAt isRhythmLandmark
-    margin wholes scan opened groupNumbers intervalMarks marksAfter rises isNear absOf add sub le lt ofInt round
+    margin wholes scan opened groupNumbers intervalMarks marksAfter isRise isNear absOf add sub le lt ofInt round
 computed = record { rise-refuted = refl; rise-then-not-near-refuted = refl; last-refuted = refl; earlier-refuted = refl }
 
 rise-fails : ClaimFrom numbers riseBefore → ⊥

@@ -7,7 +7,7 @@ use Rattle.grouping_chart.specs.Chart.{Chart, size}
 use Rattle.grouping_chart.specs.Settings.{Settings}
 use Rattle.grouping_encode.specs.Encode as encode
 use Rattle.grouping_encode.specs.Encode.{encodeOutcome}
-use Rattle.evaluator_calls.specs.Stretch.{Stretch}
+use Rattle.evaluator_calls.specs.Stretch.{GoodStretch}
 use Rattle.evaluator_calls.specs.Calls.{Memory, chartMean, chartTenths, colourOutcome, stretchOutcome}
 use Rattle.evaluator_calls.specs.declared.Stretching.the-variants.{Done}
 use Rattle.agreement.specs.CommonTail.{Counterparts}
@@ -31,9 +31,9 @@ pub record CallsClaim (s : Settings) (c c′ : Chart) (lent lent′ : Memory) (p
   pub written : (i i′ : ℕ) → Settled (s .limit) (hitPatterns c) p i → Counterparts (size c) (size c′) i i′
       → getD (colourOutcome s c lent .memory .value) i nan ≡ getD (colourOutcome s c′ lent′ .memory .value) i′ nan
   -- stretch answers a mean and its tenths, no refusal,
-  pub done : (a b : ℕ) → Stretch (c .kinds) a b
+  pub done : (a b : ℕ) → GoodStretch (c .kinds) a b
       → stretchOutcome s c a b lent .answer ≡ Done (chartMean s c a b) (chartTenths s c a b)
   -- and the same ones for the counterpart
-  pub stretch : (a b a′ b′ : ℕ) → Settled (s .limit) (hitPatterns c) p a → Stretch (c .kinds) a b
+  pub stretch : (a b a′ b′ : ℕ) → Settled (s .limit) (hitPatterns c) p a → GoodStretch (c .kinds) a b
       → Counterparts (size c) (size c′) a a′ → Counterparts (size c) (size c′) b b′
       → stretchOutcome s c a b lent .answer ≡ stretchOutcome s c′ a′ b′ lent′ .answer

@@ -10,7 +10,7 @@ use Rattle.grouping_chart.specs.Chart.{Chart, size}
 use Rattle.grouping_chart.specs.Settings.{Settings}
 use Rattle.grouping_color.specs.Preprocessor.{hitOf, intervalOf}
 use Rattle.evaluator_values.specs.Colour.{valuesOf}
-use Rattle.evaluator_calls.specs.Stretch.{Stretch}
+use Rattle.evaluator_calls.specs.Stretch.{GoodStretch}
 use Rattle.evaluator_calls.specs.Calls.{chartMean, chartTenths}
 use Rattle.agreement.specs.CommonTail.{Counterparts}
 use Rattle.agreement.specs.SameGroups.{Groups, groups, groupAt, OpensAt, SameGroups}
@@ -50,7 +50,7 @@ hitsOf s c = record { patterns = hitPatterns c; intervals = intervalOf (s .limit
 -- the stretch from a to b, b not included, and its counterpart
 pub record SameStretch (s : Settings) (c : Chart) (a b : ℕ) (c′ : Chart) (a′ b′ : ℕ) : Type 0 where
   -- the counterpart is not refused either
-  pub accepted : Stretch (c′ .kinds) a′ b′
+  pub accepted : GoodStretch (c′ .kinds) a′ b′
   pub mean : chartMean s c a b ≡ chartMean s c′ a′ b′
   pub tenths : chartTenths s c a b ≡ chartTenths s c′ a′ b′
 
@@ -64,5 +64,5 @@ pub record ColourClaim (s : Settings) (c c′ : Chart) (p p′ : ℕ) : Type 0 w
   pub onwards : (i j : ℕ) → Settled (s .limit) (hitPatterns c) p i → i ≤ j → j < size c
       → Settled (s .limit) (hitPatterns c) p j
   -- every stretch there that is not refused has its counterpart's mean and tenths
-  pub stretch : (a b a′ b′ : ℕ) → Settled (s .limit) (hitPatterns c) p a → Stretch (c .kinds) a b
+  pub stretch : (a b a′ b′ : ℕ) → Settled (s .limit) (hitPatterns c) p a → GoodStretch (c .kinds) a b
       → Counterparts (size c) (size c′) a a′ → Counterparts (size c) (size c′) b b′ → SameStretch s c a b c′ a′ b′
