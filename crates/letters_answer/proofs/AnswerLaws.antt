@@ -1,6 +1,6 @@
 -- What is lent to the writing of the lines is what the definition shows, and what each case of a reading has written is the whole output.
 -- What is read of an input is enough to answer all of it, and the answer lies within what was lent.
-use mathlib.Core.Path.{_≡_, refl, sym, ap, _∙_, subst}
+use mathlib.Core.Path.{_≡_, refl, sym, ap, _∙_}
 use mathlib.Core.List.{List}
 use Prim.Native.Nat.{ℕ, _≤_}
 use native.Mathlib.Omega.{arith}
@@ -49,7 +49,8 @@ lent kinds streak pattern hit interval = record {
 }
 
 module _ {kinds streak₀ streak streakPlace₀ streakPlace pattern₀ pattern patternPlace₀ patternPlace hit₀ hit interval₀ interval work₀ work : List ℕ} {count : ℕ}
-    (x : Encoded (baseSettings .limit) kinds streak₀ streak streakPlace₀ streakPlace pattern₀ pattern patternPlace₀ patternPlace hit₀ hit interval₀ interval work₀ work count) where
+    (x : Encoded (baseSettings .limit) kinds streak₀ streak streakPlace₀ streakPlace pattern₀ pattern patternPlace₀ patternPlace
+    hit₀ hit interval₀ interval work₀ work count) where
   lent-columns : columns kinds ≡ lent kinds streak pattern hit interval
   unfolding columns
   lent-columns =
@@ -62,9 +63,10 @@ module _ {kinds streak₀ streak streakPlace₀ streakPlace pattern₀ pattern p
       cc
 
   pub lines-fit : {room : ℕ} → LettersRoom (length kinds) room → LinesFit (lent kinds streak pattern hit interval) room
-  lines-fit {room} y = subst (λ (c : Columns). LinesFit c room) lent-columns (columns-fit kinds room y)
+  lines-fit {room} y = rw lent-columns at (columns-fit kinds room y)
 
-  pub lines-written : {old new : List ℕ} {r : ℕ} → Written (lines (lent kinds streak pattern hit interval)) old new r → Written (lines (columns kinds)) old new r
+  pub lines-written : {old new : List ℕ} {r : ℕ} → Written (lines (lent kinds streak pattern hit interval)) old new r
+      → Written (lines (columns kinds)) old new r
   lines-written y = written-same (ap lines lent-columns) y
 
 -- ---- the three cases of a reading
