@@ -11,7 +11,7 @@ use Rattle.cases_record.specs.Record.{RecordHolds}
 use Rattle.replay_cases.specs.declared.Next.{Next}
 use Rattle.replay_cases.specs.declared.Next.the-variants.{Body, Part, Nothing}
 
--- a file holds the cases of one call; among those of colour, 2, are stretches, 3, and among those of rhythm, 4, records, 5
+-- a file holds the cases of one call; one of colour, 2, has stretches, 3, too, and one of rhythm, 4, records, 5
 unfoldable pub followsIn : ℕ → Head → Next
 followsIn call h =
     cond (eqb (h .call) call) Body
