@@ -1,5 +1,6 @@
--- What the call that is asked hands back on the lent slices is what its definition gives on slices full of sentinels; and each of its parts is held to the case.
-use mathlib.Core.Path.{_≡_, ap, _∙_, subst}
+-- What the call that is asked hands back on the lent slices is what its definition gives on slices full of sentinels;
+-- and each of its parts is held to the case.
+use mathlib.Core.Path.{_≡_, ap, _∙_}
 use mathlib.Core.List.{List, map}
 use mathlib.Core.Bool.{Bool, true, false, _&&_}
 use Prim.Native.Nat.{ℕ, _+_, _-_, _*_, _≤_}
@@ -26,7 +27,8 @@ use Rattle.vectors.proofs.TableLaws.{entries-front}
 use Rattle.vectors.proofs.TellsLaws.{denied, tells-as, tells-both, tells-of}
 use Rattle.vectors.proofs.FormLaws.{ill-at, well-at}
 use Rattle.vectors.proofs.LentLaws.{ones-lent, work-lent, floats-lent}
-use Rattle.cases_colour.specs.Colour.{colourChart, colourLent, stretchOf, MeanIs, Answers, leaves, Answered, ValuesHeld, CallStored, ColourRoom, ColourForm, ColourHolds, StretchHolds}
+use Rattle.cases_colour.specs.Colour.{colourChart, colourLent, stretchOf, MeanIs, Answers, leaves, Answered, ValuesHeld, CallStored}
+use Rattle.cases_colour.specs.Colour.{ColourRoom, ColourForm, ColourHolds, StretchHolds}
 use Rattle.cases_colour.specs.declared.StoredStretch.{StoredStretch}
 use Rattle.cases_colour.specs.declared.Asked.{Asked}
 use Rattle.cases_colour.specs.declared.Asked.the-variants as asked
@@ -37,20 +39,24 @@ pub colour-refused : (answer : Colouring) (number : ℕ) (place : ObjectIndex) �
 colour-refused answer number place e = denied (λ h. let z : _≡_ {A = ℕ} 0 1 = cc in omega arith)
 
 module _ {call : Asked} {c : Chart} {m : Memory} {r : Bool} where
-  pub colour-answered : {o : Outcome Colouring Memory} → call ≡ asked.Colour → o ≡ colourOutcome baseSettings c m → Tells r (o .answer ≡ colouring.Done) → Answered call c m (o .memory) r
+  pub colour-answered : {o : Outcome Colouring Memory} → call ≡ asked.Colour → o ≡ colourOutcome baseSettings c m
+      → Tells r (o .answer ≡ colouring.Done) → Answered call c m (o .memory) r
   unfolding Answers leaves
   colour-answered a e t =
-      rw a (record { told = subst (λ (x : Outcome Colouring Memory). Tells r (x .answer ≡ colouring.Done)) e t; memory = ap (λ (x : Outcome Colouring Memory). x .memory) e })
+      let told = tells-of (λ (x : Outcome Colouring Memory). x .answer ≡ colouring.Done) e t in
+      rw a (record { told = told; memory = ap (λ (x : Outcome Colouring Memory). x .memory) e })
 
-  pub stretch-answered : {o : Outcome Stretching Memory} (s : StoredStretch) → call ≡ asked.Stretched s → o ≡ stretchOutcome baseSettings c (s .a) (s .b) m → Tells r (MeanIs s (o .answer))
-      → Answered call c m (o .memory) r
+  pub stretch-answered : {o : Outcome Stretching Memory} (s : StoredStretch) → call ≡ asked.Stretched s
+      → o ≡ stretchOutcome baseSettings c (s .a) (s .b) m → Tells r (MeanIs s (o .answer)) → Answered call c m (o .memory) r
   unfolding Answers leaves
   stretch-answered s a e t =
-      rw a (record { told = subst (λ (x : Outcome Stretching Memory). Tells r (MeanIs s (x .answer))) e t; memory = ap (λ (x : Outcome Stretching Memory). x .memory) e })
+      let told = tells-of (λ (x : Outcome Stretching Memory). MeanIs s (x .answer)) e t in
+      rw a (record { told = told; memory = ap (λ (x : Outcome Stretching Memory). x .memory) e })
 
-pub values-told : {size n : ℕ} {body : List ℕ} {m : Memory} {r : Bool}
-    → Tells r (Held (words body (2 + n + size) n) (toBits binary64 floatSentinel) (map (toBits binary64) (m .value)) × Cleared n (m .work) (m .scratch)) → Tells r (ValuesHeld size n body m)
-values-told = tells-as (λ p. record { values = p .0; cleared = p .1 }) (λ p. (p .values, p .cleared))
+pub values-told : {size n : ℕ} {body : List ℕ} {m : Memory} {a b r : Bool} → r ≡ (a && b)
+    → Tells a (Held (words body (2 + n + size) n) (toBits binary64 floatSentinel) (map (toBits binary64) (m .value)))
+    → Tells b (Cleared n (m .work) (m .scratch)) → Tells r (ValuesHeld size n body m)
+values-told q t u = tells-as (λ p. record { values = p .0; cleared = p .1 }) (λ p. (p .values, p .cleared)) (tells-both _ _ q t u)
 
 -- the answer, and what the call leaves
 pub call-told : {call : Asked} {size n : ℕ} {body : List ℕ} {c : Chart} {m m′ : Memory} {a b r : Bool}
@@ -98,9 +104,10 @@ module _ {n spare : ℕ} (few : Few n spare) (size width : ℕ) (body : List ℕ
 pub form-told : (size : ℕ) (h : Head) (body : List ℕ) (ratios : ℕ) {r : Bool} → ratios ≡ pairAt body 0
     → Tells r (Formed 2 1 2 (2 + 9 * h .objects + size + 8 * ratios) h (length body)) → Tells r (ColourForm size h body)
 unfolding ColourForm
-form-told size h body ratios {r} e t = subst (λ (k : ℕ). Tells r (Formed 2 1 2 (2 + 9 * h .objects + size + 8 * k) h (length body))) e t
+form-told size h body ratios e t = tells-of (λ (k : ℕ). Formed 2 1 2 (2 + 9 * h .objects + size + 8 * k) h (length body)) e t
 
-pub form-room : (h : Head) (body : List ℕ) (spare size : ℕ) → h .objects ≤ 16384 → spare ≤ 7 → size ≤ 2 * h .objects → ColourForm size h body → ColourRoom size (h .objects) body spare
+pub form-room : (h : Head) (body : List ℕ) (spare size : ℕ) → h .objects ≤ 16384 → spare ≤ 7 → size ≤ 2 * h .objects
+    → ColourForm size h body → ColourRoom size (h .objects) body spare
 unfolding ColourForm
 form-room h body spare size l k z f = record { few = record { objects = l; places = k }; small = z; whole = omega (arith, f .whole) }
 
@@ -128,11 +135,11 @@ module _ (h : Head) (body : List ℕ) (spare size : ℕ) (e : size ≡ columnSiz
     unfolding StretchHolds
     stretch-ill t f = ill-at forms (stored (asked.Stretched (stretchOf part))) e t f
 
-    pub stretch-told : {b r : Bool} (s : StoredStretch) → s ≡ stretchOf part → h .objects ≤ 16384 → Tells b (forms size) → b ≡ true → Tells r (stored (asked.Stretched s) size)
-        → Tells r (StretchHolds h body k part spare)
+    pub stretch-told : {b r : Bool} (s : StoredStretch) → s ≡ stretchOf part → h .objects ≤ 16384 → Tells b (forms size) → b ≡ true
+        → Tells r (stored (asked.Stretched s) size) → Tells r (StretchHolds h body k part spare)
     unfolding StretchHolds
-    stretch-told {r} s q l t f u =
-        well-at forms (stored (asked.Stretched (stretchOf part))) e t l f (subst (λ (x : StoredStretch). Tells r (stored (asked.Stretched x) size)) q u)
+    stretch-told s q l t f u =
+        well-at forms (stored (asked.Stretched (stretchOf part))) e t l f (tells-of (λ (x : StoredStretch). stored (asked.Stretched x) size) q u)
 
 pub colour-call : (h : Head) (body : List ℕ) (spare : ℕ) → ColourHolds h body spare → h .call ≡ 2
 unfolding ColourHolds ColourForm

@@ -1,5 +1,5 @@
--- When a stored case of colour, or of a stretch of its chart, holds: on the chart that its bytes say and slices full of sentinels
--- the call's definition gives the original's answer.
+-- When a stored case of colour, or of a stretch of its chart, holds: on the chart that its bytes say and slices
+-- full of sentinels the call's definition gives the original's answer.
 use mathlib.Core.Path.{_≡_}
 use mathlib.Core.Bool.{Bool, cond}
 use mathlib.Core.List.{List, map}
@@ -27,7 +27,8 @@ use Rattle.cases_colour.specs.declared.Asked.the-variants as asked
 
 -- ---- what is stored
 
--- behind a number and the kinds stand a column of so many bytes, the values, and the table of ratios that the column names; starts and deltas are not stored, since no value looks at them
+-- behind a number and the kinds stand a column of so many bytes, the values, and the table of ratios that the column
+-- names; starts and deltas are not stored, since no value looks at them
 unfoldable pub colourChart : ℕ → ℕ → ℕ → List ℕ → Chart
 colourChart size width n body = record {
   kinds = part 2 n body;
@@ -99,7 +100,8 @@ unfoldable pub ColourHolds : Head → List ℕ → ℕ → Type 0
 ColourHolds h body spare =
     let n : ℕ = h .objects in
     let size : ℕ = columnSize n (h .width) in
-    Holds n (ColourForm size h body) (CallStored asked.Colour size n body (colourChart size (h .width) n body) (colourLent n spare))
+    Holds n (ColourForm size h body)
+    (CallStored asked.Colour size n body (colourChart size (h .width) n body) (colourLent n spare))
 
 -- a stretch with this head and these bytes, of the chart of a colour case
 unfoldable pub StretchHolds : Head → List ℕ → Head → List ℕ → ℕ → Type 0
@@ -107,4 +109,5 @@ StretchHolds chart body h part spare =
     let n : ℕ = chart .objects in
     let size : ℕ = columnSize n (chart .width) in
     Holds n (ColourForm size chart body × PartFormed 3 1 16 n h (length part))
-    (CallStored (asked.Stretched (stretchOf part)) size n body (colourChart size (chart .width) n body) (colourLent n spare))
+    (CallStored (asked.Stretched (stretchOf part)) size n body
+    (colourChart size (chart .width) n body) (colourLent n spare))

@@ -6,7 +6,8 @@ ghost use Rattle.evaluator_calls.specs.Calls.{before, after};
 ghost use Rattle.evaluator_calls.specs.declared.Colouring.the-variants as colouring;
 ghost use Rattle.vectors.specs.Held.{Tells};
 ghost use Rattle.cases_colour.specs.Colour.{colourChart, colourLent, signedOf, stretchOf, MeanIs, Answered};
-ghost use Rattle.cases_colour.specs.Colour.{ValuesHeld, CallStored, ColourRoom, ColourForm, ColourHolds, StretchHolds};
+ghost use Rattle.cases_colour.specs.Colour.{ValuesHeld, CallStored, ColourRoom, ColourForm};
+ghost use Rattle.cases_colour.specs.Colour.{ColourHolds, StretchHolds};
 use evaluator_calls::Colouring;
 use evaluator_calls::Stretching;
 use numeric::canonical::bits;
@@ -92,7 +93,8 @@ fn answer_holds(
     work: &mut [u16],
     scratch: &mut [f64],
 ) -> bool
-    ensures { λ r. ⌜ Answered asked (chart kind one one ratio) (before value work scratch) (after value work scratch) r ⌝ }
+    ensures { λ r. ⌜ Answered asked (chart kind one one ratio)
+        (before value work scratch) (after value work scratch) r ⌝ }
 {
     match asked {
         Asked::Colour => done(evaluator_calls::colour(kind, one, one, ratio, value, work, scratch)),
@@ -134,7 +136,8 @@ fn lent_holds(
     scratch: &mut [f64],
 ) -> bool
     requires { ⌜ (n ≤ 16384) × (size ≤ 2 * n) ⌝ }
-    ensures { λ r. ⌜ Tells r (CallStored asked size n (lent body) (chart kind one one ratio) (before value work scratch)) ⌝ }
+    ensures { λ r. ⌜ Tells r (CallStored asked size n (lent body)
+        (chart kind one one ratio) (before value work scratch)) ⌝ }
 {
     let answer = answer_holds(asked, kind, one, ratio, value, work, scratch);
     both(answer, values_hold(size, n, body, value, work, scratch))

@@ -1,5 +1,5 @@
 -- What encode hands back on the lent slices is what its definition gives on slices full of sentinels; and each of its parts is held to the case.
-use mathlib.Core.Path.{_≡_, ap, _∙_, subst}
+use mathlib.Core.Path.{_≡_, ap, _∙_}
 use mathlib.Core.List.{List}
 use mathlib.Core.Bool.{Bool, true, false, _&&_}
 use Prim.Native.Nat.{ℕ, _+_, _-_, _*_, _≤_}
@@ -21,7 +21,7 @@ use Rattle.vectors.specs.Held.{Tells, Held}
 use Rattle.vectors.specs.declared.case.Head.{Head}
 use Rattle.vectors.specs.Form.{Formed}
 use Rattle.vectors.specs.Lent.{numberSentinel, byteSentinel, floatSentinel, one, Columns, Cleared, Few}
-use Rattle.vectors.proofs.TellsLaws.{denied, tells-as, tells-both, tells-eqb}
+use Rattle.vectors.proofs.TellsLaws.{denied, tells-as, tells-both, tells-of, tells-eqb}
 use Rattle.vectors.proofs.FormLaws.{ill-at, well-at}
 use Rattle.vectors.proofs.LentLaws.{ones-lent, numbers-lent, bytes-lent, work-lent, floats-lent}
 use Rattle.cases_encode.specs.Encode.{encodeChart, encodeLent, EncodeStored, EncodeHolds}
@@ -94,9 +94,10 @@ module _ {n spare : ℕ} (few : Few n spare) where
   unfolding encodeLent
   memory-is = rw (numbers-lent few, bytes-lent few, work-lent few, floats-lent few)
 
-  pub made-outcome : (body : List ℕ)
-      → encodeOutcome baseSettings (made-chart n body) (made-memory n spare) ≡ encodeOutcome baseSettings (encodeChart n body) (encodeLent n spare)
-  made-outcome body = λ i. encodeOutcome baseSettings (chart-is body i) (memory-is i)
+  pub made-told : {size width : ℕ} {body : List ℕ} {r : Bool}
+      → Tells r (EncodeStored size width n body (encodeOutcome baseSettings (made-chart n body) (made-memory n spare)))
+      → Tells r (EncodeStored size width n body (encodeOutcome baseSettings (encodeChart n body) (encodeLent n spare)))
+  made-told {size} {width} {body} t = tells-of (EncodeStored size width n body) (λ i. encodeOutcome baseSettings (chart-is body i) (memory-is i)) t
 
 -- ---- the case
 

@@ -1,9 +1,10 @@
--- When a stored case of encode holds: on the chart that its bytes say and slices full of sentinels the call's definition gives
--- the original's answer.
+-- When a stored case of encode holds: on the chart that its bytes say and slices full of sentinels
+-- the call's definition gives the original's answer.
 use mathlib.Core.Path.{_≡_}
 use mathlib.Core.List.{List}
 use Prim.Native.Nat.{ℕ, _+_, _*_, _≤_}
 use lib.ListN.{length, replicate}
+use lib.Ieee.{Float}
 use Rattle.grouping_marks.specs.Over.{part}
 use Rattle.grouping_chart.specs.Chart.{Chart}
 use Rattle.grouping_chart.specs.Lent.{Outcome}
@@ -19,7 +20,9 @@ use Rattle.vectors.specs.Lent.{numberSentinel, byteSentinel, floatSentinel, one
 
 -- the kinds are stored behind a number; starts, deltas and ratios are not, since encode answers by the kinds alone
 unfoldable pub encodeChart : ℕ → List ℕ → Chart
-encodeChart n body = record { kinds = part 2 n body; starts = replicate n one; deltas = replicate n one; ratios = replicate n one }
+encodeChart n body =
+    let ones : List Float = replicate n one in
+    record { kinds = part 2 n body; starts = ones; deltas = ones; ratios = ones }
 
 -- so many places to spare in each slice
 unfoldable pub encodeLent : ℕ → ℕ → Memory
@@ -34,7 +37,7 @@ encodeLent n spare = record {
   scratch = replicate (n + spare) floatSentinel;
 }
 
--- the number of hit patterns, five columns of numbers that have so many bytes each, a row of bytes, and cleared work slices
+-- the number of hit patterns, five columns of numbers with so many bytes each, a row of bytes, and cleared work slices
 pub record EncodeStored (size width n : ℕ) (body : List ℕ) (o : Outcome Encoding Memory) : Type 0 where
   pub answer : o .answer ≡ Done (pairAt body 0)
   pub streak : Held (column body (2 + n) width n) numberSentinel (o .memory .streak)
@@ -66,4 +69,5 @@ unfoldable pub EncodeHolds : Head → List ℕ → ℕ → Type 0
 EncodeHolds h body spare =
     let n : ℕ = h .objects in
     let size : ℕ = columnSize n (h .width) in
-    Holds n (Formed 1 1 2 (2 + 2 * n + 5 * size) h (length body)) (EncodeStored size (h .width) n body (encodeOutcome baseSettings (encodeChart n body) (encodeLent n spare)))
+    Holds n (Formed 1 1 2 (2 + 2 * n + 5 * size) h (length body))
+    (EncodeStored size (h .width) n body (encodeOutcome baseSettings (encodeChart n body) (encodeLent n spare)))

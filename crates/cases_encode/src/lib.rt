@@ -7,7 +7,8 @@ ghost use Rattle.grouping_encode.specs.Encode.{before, encodeOutcome};
 ghost use Rattle.grouping_encode.specs.declared.Encoding.the-variants as encoding;
 ghost use Rattle.vectors.specs.Case.{pairAt};
 ghost use Rattle.vectors.specs.Held.{Tells};
-ghost use Rattle.cases_encode.specs.Encode.{encodeChart, encodeLent, EncodeStored, EncodeCompared, EncodeRoom, EncodeHolds};
+ghost use Rattle.cases_encode.specs.Encode.{encodeChart, encodeLent, EncodeStored};
+ghost use Rattle.cases_encode.specs.Encode.{EncodeCompared, EncodeRoom, EncodeHolds};
 use grouping_encode::Encoding;
 use vectors::case::Head;
 use vectors::form::ENCODE;
@@ -31,29 +32,29 @@ fn count_holds(body: &[u8], answer: Encoding) -> bool
 
 // Whether an answer and slices are those of the body, each of whose columns has so many bytes.
 fn outcome_holds(
+    h: Head,
     size: usize,
-    width: u8,
-    n: usize,
     body: &[u8],
     answer: Encoding,
     streak: &[u16],
-    streak_place: &[u16],
+    inner: &[u16],
     pattern: &[u16],
-    pattern_place: &[u16],
+    outer: &[u16],
     hit: &[u16],
     interval: &[u8],
     work: &[u16],
     scratch: &[f64],
 ) -> bool
-    requires { ⌜ EncodeCompared size n (now body) (now interval) ⌝ }
-    ensures { λ r. ⌜ Tells r (EncodeStored size width n (lent body)
-        (outcome answer (before streak «streak_place» pattern «pattern_place» hit interval work scratch))) ⌝ }
+    requires { ⌜ EncodeCompared size (h .objects) (now body) (now interval) ⌝ }
+    ensures { λ r. ⌜ Tells r (EncodeStored size (h .width) (h .objects) (lent body)
+        (outcome answer (before streak inner pattern outer hit interval work scratch))) ⌝ }
 {
+    let n = h.objects;
     let at = 2 + n;
     let count = count_holds(body, answer);
-    let streaks = lent::columns_held(body, at, size, width, n, streak, streak_place);
-    let patterns = lent::columns_held(body, at + 2 * size, size, width, n, pattern, pattern_place);
-    let hits = held::column_held(body, at + 4 * size, width, n, NUMBER_SENTINEL, hit);
+    let streaks = lent::columns_held(body, at, size, h.width, n, streak, inner);
+    let patterns = lent::columns_held(body, at + 2 * size, size, h.width, n, pattern, outer);
+    let hits = held::column_held(body, at + 4 * size, h.width, n, NUMBER_SENTINEL, hit);
     let intervals = held::bytes_held(body, at + 5 * size, n, BYTE_SENTINEL, interval);
     let cleared = lent::work_cleared(n, work, scratch);
     let first = both(count, both(streaks, patterns));
@@ -63,49 +64,48 @@ fn outcome_holds(
 
 // Encode in lent slices, held to the body.
 fn lent_holds(
+    h: Head,
     size: usize,
-    width: u8,
-    n: usize,
     body: &[u8],
     kind: &[u8],
     one: &[f64],
     streak: &mut [u16],
-    streak_place: &mut [u16],
+    inner: &mut [u16],
     pattern: &mut [u16],
-    pattern_place: &mut [u16],
+    outer: &mut [u16],
     hit: &mut [u16],
     interval: &mut [u8],
     work: &mut [u16],
     scratch: &mut [f64],
 ) -> bool
-    requires { ⌜ EncodeCompared size n (now body) (now interval) ⌝ }
-    ensures { λ r. ⌜ Tells r (EncodeStored size width n (lent body) (encodeOutcome baseSettings (chart kind one one one)
-        (before streak «streak_place» pattern «pattern_place» hit interval work scratch))) ⌝ }
+    requires { ⌜ EncodeCompared size (h .objects) (now body) (now interval) ⌝ }
+    ensures { λ r. ⌜ Tells r (EncodeStored size (h .width) (h .objects) (lent body)
+        (encodeOutcome baseSettings (chart kind one one one)
+        (before streak inner pattern outer hit interval work scratch))) ⌝ }
 {
-    let answer = grouping_encode::encode(
+    let got = grouping_encode::encode(
         kind,
         one,
         one,
         one,
         streak,
-        streak_place,
+        inner,
         pattern,
-        pattern_place,
+        outer,
         hit,
         interval,
         work,
         scratch,
     );
     outcome_holds(
+        h,
         size,
-        width,
-        n,
         body,
-        answer,
+        got,
         streak,
-        streak_place,
+        inner,
         pattern,
-        pattern_place,
+        outer,
         hit,
         interval,
         work,
@@ -114,16 +114,16 @@ fn lent_holds(
 }
 
 // Encode in slices full of sentinels, held to the body.
-fn call_holds(size: usize, width: u8, n: usize, body: &[u8], spare: usize) -> bool
-    requires { ⌜ EncodeRoom size n (now body) spare ⌝ }
-    ensures { λ r. ⌜ Tells r (EncodeStored size width n (lent body)
-        (encodeOutcome baseSettings (encodeChart n (lent body)) (encodeLent n spare))) ⌝ }
+fn call_holds(h: Head, size: usize, body: &[u8], spare: usize) -> bool
+    requires { ⌜ EncodeRoom size (h .objects) (now body) spare ⌝ }
+    ensures { λ r. ⌜ Tells r (EncodeStored size (h .width) (h .objects) (lent body)
+        (encodeOutcome baseSettings (encodeChart (h .objects) (lent body)) (encodeLent (h .objects) spare))) ⌝ }
 {
+    let n = h.objects;
     let room = n + spare;
     lent_holds(
+        h,
         size,
-        width,
-        n,
         body,
         &body[2..2 + n],
         &[1.0; 16384][..n],
@@ -149,7 +149,7 @@ pub fn holds(h: Head, body: &[u8], spare: usize) -> bool
     }
     let size = vectors::case::column_size(n, h.width);
     if formed(h, ENCODE, 1, 2, 2 + 2 * n + 5 * size, body.len()) {
-        return call_holds(size, h.width, n, body, spare);
+        return call_holds(h, size, body, spare);
     }
     false
 }

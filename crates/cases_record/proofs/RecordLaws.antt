@@ -1,5 +1,5 @@
 -- What record hands back on the lent slices is what its definition gives on slices full of sentinels; and its fields are compared one by one.
-use mathlib.Core.Path.{_≡_, refl, sym, _∙_, subst}
+use mathlib.Core.Path.{_≡_, refl, sym, _∙_}
 use mathlib.Core.List.{List}
 use mathlib.Core.Bool.{Bool, false, _&&_}
 use Prim.Native.Nat.{ℕ, _+_, _*_}
@@ -21,7 +21,7 @@ use Rattle.vectors.specs.Held.{Tells}
 use Rattle.vectors.specs.declared.case.Head.{Head}
 use Rattle.vectors.specs.Lent.{numberSentinel, floatSentinel, Cleared, Few}
 use Rattle.vectors.proofs.LentLaws.{work-lent, floats-lent}
-use Rattle.vectors.proofs.TellsLaws.{denied, tells-as, tells-both, tells-of, tells-eqb-as}
+use Rattle.vectors.proofs.TellsLaws.{denied, tells-as, tells-both, tells-four, tells-of, tells-eqb-as}
 use Rattle.cases_rhythm.specs.Rhythm.{rhythmChart, TimesRead}
 use Rattle.cases_rhythm.proofs.RhythmLaws.{made-chart, zeros, chart-is}
 use Rattle.cases_record.specs.Record.{recordLent, askedOutcome, OwnIs, PlacesAre, ScoresAre, RecordIs, RecordStored, RecordHolds}
@@ -45,7 +45,7 @@ module _ {part : List ℕ} {s : GroupRecord} {a b c d ab cd r : Bool} (p : ab �
   places-told ta tb tc td =
       tells-as (λ p. record { first = p .0 .0; notes = p .0 .1; pattern = p .1 .0; own = p .1 .1 })
       (λ q. ((q .first, q .notes), (q .pattern, q .own)))
-      (tells-both _ _ e (tells-both _ _ p ta tb) (tells-both _ _ q tc td))
+      (tells-four p q e ta tb tc td)
 
   pub scores-told : Tells a (toBits binary64 (s .ratio) ≡ wordAt part 26) → Tells b (toBits binary64 (s .interval) ≡ wordAt part 34)
       → Tells c (toBits binary64 (s .penalty) ≡ wordAt part 42) → Tells d (toBits binary64 (s .patternratio) ≡ wordAt part 50)
@@ -53,7 +53,7 @@ module _ {part : List ℕ} {s : GroupRecord} {a b c d ab cd r : Bool} (p : ab �
   scores-told ta tb tc td =
       tells-as (λ p. record { ratio = p .0 .0; interval = p .0 .1; penalty = p .1 .0; patternratio = p .1 .1 })
       (λ q. ((q .ratio, q .interval), (q .penalty, q .patternratio)))
-      (tells-both _ _ e (tells-both _ _ p ta tb) (tells-both _ _ q tc td))
+      (tells-four p q e ta tb tc td)
 
 module _ (part : List ℕ) (answer : Recording) where
   pub fields-told : (s : GroupRecord) {a b r : Bool} → answer ≡ Done s → Tells a (PlacesAre part s) → Tells b (ScoresAre part s) → r ≡ (a && b)

@@ -1,5 +1,5 @@
--- When a stored record of a rhythm case's chart holds: on that chart and slices full of sentinels the call's definition gives
--- the original's answer.
+-- When a stored record of a rhythm case's chart holds: on that chart and slices full of sentinels
+-- the call's definition gives the original's answer.
 use mathlib.Core.Path.{_≡_}
 use mathlib.Core.List.{List}
 use Prim.Native.Nat.{ℕ, _+_, _*_}
@@ -22,7 +22,8 @@ use Rattle.cases_rhythm.specs.Rhythm.{rhythmChart, RhythmForm}
 
 -- so many places to spare in each slice
 unfoldable pub recordLent : ℕ → ℕ → Memory
-recordLent n spare = record { work = replicate (8 * n + spare) numberSentinel; scratch = replicate (n + spare) floatSentinel }
+recordLent n spare =
+    record { work = replicate (8 * n + spare) numberSentinel; scratch = replicate (n + spare) floatSentinel }
 
 -- the group's own interval: 1 and its bits, or 0 and 0 where there is none
 unfoldable pub OwnIs : List ℕ → Own → Type 0

@@ -1,5 +1,5 @@
 -- What rhythm hands back on the lent slices is what its definition gives on slices full of sentinels; and each of its parts is held to the case.
-use mathlib.Core.Path.{_≡_, ap, _∙_, subst}
+use mathlib.Core.Path.{_≡_, ap, _∙_}
 use mathlib.Core.List.{List}
 use mathlib.Core.Bool.{Bool, false, _&&_}
 use Prim.Native.Nat.{ℕ, _+_, _-_, _*_, _≤_}
@@ -28,7 +28,8 @@ use Rattle.cases_rhythm.specs.Rhythm.{rhythmChart, rhythmLent, TimesRead
 -- ---- the answer of rhythm
 
 module _ (body : List ℕ) (answer : Grouping) where
-  pub counts-told : (groups patterns : ℕ) {a b : ℕ} {r : Bool} → answer ≡ Done groups patterns → a ≡ pairAt body 0 → b ≡ pairAt body 2 → r ≡ (eqb groups a && eqb patterns b)
+  pub counts-told : (groups patterns : ℕ) {a b : ℕ} {r : Bool} → answer ≡ Done groups patterns
+      → a ≡ pairAt body 0 → b ≡ pairAt body 2 → r ≡ (eqb groups a && eqb patterns b)
       → Tells r (answer ≡ Done (pairAt body 0) (pairAt body 2))
   counts-told groups patterns {a} {b} e p q c =
       tells-as (λ h. e ∙ (λ i. Done ((h .0 ∙ p) i) ((h .1 ∙ q) i))) (λ h. (cc, cc)) (tells-both _ _ c (tells-eqb groups a) (tells-eqb patterns b))

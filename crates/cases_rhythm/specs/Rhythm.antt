@@ -1,5 +1,5 @@
--- When a stored case of rhythm holds: on the chart that its bytes say and slices full of sentinels the call's definition gives
--- the original's answer.
+-- When a stored case of rhythm holds: on the chart that its bytes say and slices full of sentinels
+-- the call's definition gives the original's answer.
 use mathlib.Core.Path.{_≡_}
 use mathlib.Core.List.{List}
 use Prim.Native.Nat.{ℕ, _+_, _*_, _≤_}
@@ -20,9 +20,15 @@ use Rattle.vectors.specs.Lent.{numberSentinel, floatSentinel, one, Columns, Cle
 
 -- ---- what is stored
 
--- behind two numbers and the kinds stand the starts and the deltas, in turn; ratios are not stored, since neither call looks at them
+-- behind two numbers and the kinds stand the starts and the deltas, in turn;
+-- ratios are not stored, since neither call looks at them
 unfoldable pub rhythmChart : ℕ → List ℕ → Chart
-rhythmChart n body = record { kinds = part 4 n body; starts = entries body (4 + n) 0 0 n; deltas = entries body (4 + 9 * n) 0 0 n; ratios = replicate n one }
+rhythmChart n body = record {
+  kinds = part 4 n body;
+  starts = entries body (4 + n) 0 0 n;
+  deltas = entries body (4 + 9 * n) 0 0 n;
+  ratios = replicate n one;
+}
 
 -- both columns, read over what was there
 pub record TimesRead (n : ℕ) (body : List ℕ) (start₀ start delta₀ delta : List Float) : Type 0 where
@@ -63,4 +69,5 @@ RhythmForm h body = Formed 4 2 2 (4 + 21 * h .objects) h (length body)
 unfoldable pub RhythmHolds : Head → List ℕ → ℕ → Type 0
 RhythmHolds h body spare =
     let n : ℕ = h .objects in
-    Holds n (RhythmForm h body) (RhythmStored n body (rhythmOutcome baseSettings (rhythmChart n body) (rhythmLent n spare)))
+    Holds n (RhythmForm h body)
+    (RhythmStored n body (rhythmOutcome baseSettings (rhythmChart n body) (rhythmLent n spare)))

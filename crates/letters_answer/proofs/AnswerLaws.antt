@@ -1,6 +1,6 @@
 -- What is lent to the writing of the lines is what the definition shows, and what each case of a reading has written is the whole output.
 -- What is read of an input is enough to answer all of it, and the answer lies within what was lent.
-use mathlib.Core.Path.{_≡_, refl, sym, ap, _∙_, subst}
+use mathlib.Core.Path.{_≡_, refl, sym, ap, _∙_}
 use mathlib.Core.List.{List}
 use Prim.Native.Nat.{ℕ, _≤_}
 use native.Mathlib.Omega.{arith}
@@ -62,10 +62,11 @@ module _ {kinds : List ℕ} {count : ℕ} {old new : Memory} (x : Encoded (baseS
       cc
 
   pub lines-fit : {room : ℕ} → LettersRoom (length kinds) room → LinesFit (lent kinds (new .streak) (new .pattern) (new .hit) (new .interval)) room
-  lines-fit {room} y = subst (λ (c : Columns). LinesFit c room) lent-columns (columns-fit kinds room y)
+  lines-fit {room} y = rw lent-columns at (columns-fit kinds room y)
 
   pub lines-written : {out₀ out : List ℕ} {r : ℕ}
-      → Written (lines (lent kinds (new .streak) (new .pattern) (new .hit) (new .interval))) out₀ out r → Written (lines (columns kinds)) out₀ out r
+      → Written (lines (lent kinds (new .streak) (new .pattern) (new .hit) (new .interval))) out₀ out r
+      → Written (lines (columns kinds)) out₀ out r
   lines-written y = written-same (ap lines lent-columns) y
 
 -- ---- the three cases of a reading

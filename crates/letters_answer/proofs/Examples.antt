@@ -8,7 +8,8 @@ use Rattle.grouping_chart.specs.Object.{isNote, notes, noteIdx, noteBefore, pre
 use Rattle.grouping_hits.specs.RepeatingHitPatterns.{coupledRun, hitSize, hitMarksAfter, hitMarks, secondAt, secondLengths, matches, nearestMatch, intervalAt, intervals}
 use Rattle.grouping_color.specs.MonoStreak.{continues, opensStreak, streakMarks, streakOf, streakLengths, streakTypes}
 use Rattle.grouping_color.specs.AlternatingMonoPattern.{opensPattern, patternMarks, coupledAt, coupled}
-use Rattle.grouping_color.specs.Preprocessor.{patternsOpen, firstLengths, streakCounts, patternTypes, coupledPatterns, hitsOpen, hitSizes, hitFirsts, hitSeconds, hitIntervals, alternatingOf, hitOf, intervalOf}
+use Rattle.grouping_color.specs.Preprocessor.{patternsOpen, firstLengths, streakCounts, patternTypes, coupledPatterns}
+use Rattle.grouping_color.specs.Preprocessor.{hitsOpen, hitSizes, hitFirsts, hitSeconds, hitIntervals, alternatingOf, hitOf, intervalOf}
 use Rattle.letters_text.specs.Letters.{trimmed, isLetter, kindOf, letterOf, kindsOf, firstBad, reading}
 use Rattle.letters_text.specs.Decimal.{digitAt, decimal}
 use Rattle.letters_text.specs.Lines.{lineHead, parting, firstLetter, nextLetter, linesAfter, linesOf, objectAt, objects, lines, badLine, longLine, printed}
@@ -39,5 +40,11 @@ examples =
     ∷ []
 
 examples-right : map (λ (e : Example). lettersOutput (e .input)) examples ≡ map (λ (e : Example). e .output) examples
-unfolding examples lettersOutput columns scan after tabulate gathered opened groupCount groupNumbers placeByMark groupPlaces sizesFrom groupSizes firstsFrom groupFirsts isNote notes noteIdx noteBefore previousNote continues opensStreak streakMarks streakOf streakLengths streakTypes opensPattern patternMarks coupledAt coupled coupledRun hitSize hitMarksAfter hitMarks secondAt secondLengths matches nearestMatch intervalAt intervals patternsOpen firstLengths streakCounts patternTypes coupledPatterns hitsOpen hitSizes hitFirsts hitSeconds hitIntervals alternatingOf hitOf intervalOf trimmed isLetter kindOf letterOf kindsOf firstBad reading digitAt decimal lineHead parting firstLetter nextLetter linesAfter linesOf objectAt objects lines badLine longLine printed
+unfolding examples lettersOutput columns scan after tabulate gathered
+    opened groupCount groupNumbers placeByMark groupPlaces sizesFrom groupSizes firstsFrom groupFirsts
+    isNote notes noteIdx noteBefore previousNote continues opensStreak streakMarks streakOf streakLengths streakTypes
+    opensPattern patternMarks coupledAt coupled coupledRun hitSize hitMarksAfter hitMarks secondAt secondLengths matches nearestMatch intervalAt intervals
+    patternsOpen firstLengths streakCounts patternTypes coupledPatterns hitsOpen hitSizes hitFirsts hitSeconds hitIntervals alternatingOf hitOf intervalOf
+    trimmed isLetter kindOf letterOf kindsOf firstBad reading digitAt decimal
+    lineHead parting firstLetter nextLetter linesAfter linesOf objectAt objects lines badLine longLine printed
 examples-right = refl

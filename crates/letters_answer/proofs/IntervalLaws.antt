@@ -15,5 +15,6 @@ module _ (kinds : List ℕ) where
 
   pub interval-small : (i : ℕ) → i < length kinds → getD (intervalOf (baseSettings .limit) kinds) i 0 < 100
   interval-small i h =
-      rw (← intervalOf-looked kinds (baseSettings .limit), getD-gathered (hitIntervals (baseSettings .limit) kinds) (hitOf kinds) i (omega (arith, length-hitOf kinds)))
+      let limit : ℕ = baseSettings .limit in
+      rw (← intervalOf-looked kinds limit, getD-gathered (hitIntervals limit kinds) (hitOf kinds) i (omega (arith, length-hitOf kinds)))
       (hit-interval-small (getD (hitOf kinds) i 0) (hitOf-below kinds i h))

@@ -23,7 +23,8 @@ unfolding spareOf
 spare-is r number e = (ap (λ (k : ℕ). k % 8) e, omega arith)
 
 module _ {r : Replay} {c : Replayed} (some : 0 < r .left) where
-  pub after-chart : (h : Head) (held : Bool) (objects : ℕ) (charts : Tally) → c ≡ Chart h held → objects ≡ (r .objects + h .objects) % 2 ^ 64 → charts ≡ oneMore (r .charts) held
+  pub after-chart : (h : Head) (held : Bool) (objects : ℕ) (charts : Tally) → c ≡ Chart h held
+      → objects ≡ (r .objects + h .objects) % 2 ^ 64 → charts ≡ oneMore (r .charts) held
       → After r c (record { left = r .left - 1; objects = objects; charts = charts; parts = r .parts; chart = h })
   unfolding afterCase
   after-chart h held objects charts e p q = record { counted = rw (e, p, q); fewer = omega arith }

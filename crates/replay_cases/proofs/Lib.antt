@@ -1,3 +1,4 @@
+-- The laws of this crate.
 pub mod CasesLaws
 pub mod CountLaws
 pub mod TallyLaws

@@ -11,10 +11,11 @@ use Rattle.cases_record.specs.Record.{RecordHolds}
 use Rattle.replay_cases.specs.declared.Next.{Next}
 use Rattle.replay_cases.specs.declared.Next.the-variants.{Body, Part, Nothing}
 
--- a file holds the cases of one call; among those of colour, 2, stand stretches, 3, and among those of rhythm, 4, records, 5
+-- a file holds the cases of one call; one of colour, 2, has stretches, 3, too, and one of rhythm, 4, records, 5
 unfoldable pub followsIn : ℕ → Head → Next
 followsIn call h =
-    cond (eqb (h .call) call) Body (cond (eqb call 2 && eqb (h .call) 3) Part (cond (eqb call 4 && eqb (h .call) 5) Part Nothing))
+    cond (eqb (h .call) call) Body
+    (cond (eqb call 2 && eqb (h .call) 3) Part (cond (eqb call 4 && eqb (h .call) 5) Part Nothing))
 
 -- a case with a chart of its own
 pub data ChartHolds (h : Head) (body : List ℕ) (spare : ℕ) : Type 0 where

@@ -18,10 +18,22 @@ atStart = record { left = 1000000; objects = 0; charts = noCases; parts = noCase
 unfoldable pub endedWith : Replay → Tally → Replay
 endedWith r charts = record { left = 0; objects = r .objects; charts = charts; parts = r .parts; chart = r .chart }
 
--- after a case, or at the file's end; one that can't be read counts as one with a chart that differs, and ends the replay
+-- after a case, or at the file's end; one that can't be read counts as one with a chart that differs, and ends it
 unfoldable pub afterCase : Replay → Replayed → Replay
-afterCase r (Chart h held) = record { left = r .left - 1; objects = (r .objects + h .objects) % 2 ^ 64; charts = oneMore (r .charts) held; parts = r .parts; chart = h }
-afterCase r (Part held) = record { left = r .left - 1; objects = r .objects; charts = r .charts; parts = oneMore (r .parts) held; chart = r .chart }
+afterCase r (Chart h held) = record {
+  left = r .left - 1;
+  objects = (r .objects + h .objects) % 2 ^ 64;
+  charts = oneMore (r .charts) held;
+  parts = r .parts;
+  chart = h;
+}
+afterCase r (Part held) = record {
+  left = r .left - 1;
+  objects = r .objects;
+  charts = r .charts;
+  parts = oneMore (r .parts) held;
+  chart = r .chart;
+}
 afterCase r Broken = endedWith r (oneMore (r .charts) false)
 afterCase r End = endedWith r (r .charts)
 

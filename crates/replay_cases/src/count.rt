@@ -6,7 +6,8 @@ use crate::tally;
 use crate::tally::Tally;
 use vectors::case::Head;
 
-// How many cases may follow, the objects of the charts, a tally of the cases with a chart and of those on one, and the head of the last chart.
+// How many cases may follow, the objects of the charts, a tally of the cases with a chart and of those on one, and the
+// head of the last chart.
 pub struct Replay {
     pub left: u64,
     pub objects: u64,
@@ -51,7 +52,8 @@ fn ended(r: Replay, charts: Tally) -> Replay
     }
 }
 
-// After a case, or at the file's end. A case that can't be read counts as one with a chart that differs, and ends the replay.
+// After a case, or at the file's end. A case that can't be read counts as one with a chart that differs, and ends the
+// replay.
 pub fn after(r: Replay, c: Replayed) -> Replay
     requires { ⌜ 0 < r .left ⌝ }
     ensures { λ s. ⌜ After r c s ⌝ }

@@ -1,1 +1,2 @@
+-- The laws of this crate, for its own proofs.
 mod ReadLaws

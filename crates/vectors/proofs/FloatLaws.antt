@@ -29,7 +29,8 @@ pub place-own : (s : List ℕ) (column width i : ℕ) → width ≡ 0 → i ≤ 
 unfolding placeAt
 place-own s column width i e h = (rw (eq-eqb width 0 e), omega arith)
 
-pub place-named : (s : List ℕ) (column width i r : ℕ) → (width ≡ 0 → ⊥) → r ≡ numberAt s column width i → r < 65536 → (r ≡ placeAt s column width i) × (r < 65536)
+pub place-named : (s : List ℕ) (column width i r : ℕ) → (width ≡ 0 → ⊥) → r ≡ numberAt s column width i → r < 65536
+    → (r ≡ placeAt s column width i) × (r < 65536)
 unfolding placeAt
 place-named s column width i r e q h = (rw (ne-eqb width 0 e) q, h)
 

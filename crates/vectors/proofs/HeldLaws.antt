@@ -2,7 +2,7 @@
 use mathlib.Core.Path.{_≡_, refl, sym, ap, subst, _∙_}
 use mathlib.Core.Bool.{Bool, true, false}
 use mathlib.Core.List.{List, []}
-use Prim.Native.Nat.{ℕ, zero, suc, _+_, _<_, _≤_}
+use Prim.Native.Nat.{ℕ, _+_, _<_, _≤_}
 use native.Mathlib.Nat.{not-suc-le-zero}
 use native.Mathlib.Omega.{arith}
 use borrow.Author.Count.{below-more}
@@ -50,14 +50,16 @@ length-written new sentinel room h =
     length-over new (replicate room sentinel) (omega arith) ∙ old
 
 -- more sentinels than there is room for may be cut off
-pub written-cut : (new : List ℕ) (sentinel room more : ℕ) → length new ≤ room → room ≤ more → take room (over new (replicate more sentinel)) ≡ over new (replicate room sentinel)
+pub written-cut : (new : List ℕ) (sentinel room more : ℕ) → length new ≤ room → room ≤ more
+    → take room (over new (replicate more sentinel)) ≡ over new (replicate room sentinel)
 written-cut new sentinel room more h l =
     let long : length (over new (replicate more sentinel)) ≡ more = length-written new sentinel more (omega arith) in
     let cut : length (take room (over new (replicate more sentinel))) ≡ room = length-take-le room (over new (replicate more sentinel)) (omega arith) in
     ext-getD 0 (take room (over new (replicate more sentinel))) (over new (replicate room sentinel)) (cut ∙ sym (length-written new sentinel room h))
     (λ i k. getD-take room (over new (replicate more sentinel)) i 0 (omega arith) ∙ by i (omega arith) (ltb i (length new)) refl)
   where
-    by : (i : ℕ) → i < room → (b : Bool) → ltb i (length new) ≡ b → getD (over new (replicate more sentinel)) i 0 ≡ getD (over new (replicate room sentinel)) i 0
+    by : (i : ℕ) → i < room → (b : Bool) → ltb i (length new) ≡ b
+        → getD (over new (replicate more sentinel)) i 0 ≡ getD (over new (replicate room sentinel)) i 0
     by i k true e = written-front new sentinel more i (ltb-true _ _ e) ∙ sym (written-front new sentinel room i (ltb-true _ _ e))
     by i k false e = written-past new sentinel more i (ltb-false _ _ e) (omega arith) ∙ sym (written-past new sentinel room i (ltb-false _ _ e) k)
 
@@ -104,7 +106,8 @@ module _ {n sentinel : ℕ} {want : ℕ → ℕ} {got : List ℕ} where
       let new : length (tabulate want n) ≡ n = length-tabulate want n in
       granted
       (record {
-        all = ext-getD 0 got (over (tabulate want n) (replicate (length got) sentinel)) (sym (length-written (tabulate want n) sentinel (length got) (omega arith)))
+        all = ext-getD 0 got (over (tabulate want n) (replicate (length got) sentinel))
+            (sym (length-written (tabulate want n) sentinel (length got) (omega arith)))
             (λ k l. p .each k (omega arith) ∙ sym (answers-at want n sentinel (length got) k l));
       })
 

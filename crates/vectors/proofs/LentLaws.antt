@@ -47,5 +47,6 @@ pub columns-told : {s : List ℕ} {at size width n : ℕ} {a b : List ℕ} {r : 
 columns-told = tells-as (λ p. record { first = p .0; second = p .1 }) (λ p. (p .first, p .second))
 
 pub cleared-told : {n : ℕ} {work : List ℕ} {scratch : List Float} {r : Bool}
-    → Tells r (Held (replicate (8 * n) 0) numberSentinel work × Held (replicate n 0) (toBits binary64 floatSentinel) (map (toBits binary64) scratch)) → Tells r (Cleared n work scratch)
+    → Tells r (Held (replicate (8 * n) 0) numberSentinel work × Held (replicate n 0) (toBits binary64 floatSentinel) (map (toBits binary64) scratch))
+    → Tells r (Cleared n work scratch)
 cleared-told = tells-as (λ p. record { numbers = p .0; floats = p .1 }) (λ p. (p .numbers, p .floats))

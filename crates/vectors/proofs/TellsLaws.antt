@@ -1,4 +1,4 @@
--- Answers that tell whether something holds: of a false one, of a true one, of two put together, and of the same said in other words.
+-- Answers that tell whether something holds: of a false one, of a true one, of some put together, and of the same said in other words.
 use mathlib.Core.Path.{_≡_, refl, sym, _∙_, subst}
 use mathlib.Core.Bool.{Bool, true, false, _&&_}
 use Prim.Native.Nat.{ℕ}
@@ -17,6 +17,10 @@ pub tells-both : {P Q : Type 0} (a b : Bool) {r : Bool} → r ≡ (a && b) → T
 tells-both true true e t u = (λ h. (t .0 refl, u .0 refl), λ p. e)
 tells-both true false e t u = (λ h. absurd (let z : _≡_ {A = ℕ} 0 1 = cc in omega arith), λ p. e ∙ u .1 (p .1))
 tells-both false b e t u = (λ h. absurd (let z : _≡_ {A = ℕ} 0 1 = cc in omega arith), λ p. e ∙ t .1 (p .0))
+
+pub tells-four : {P Q R S : Type 0} {a b c d ab cd r : Bool} → ab ≡ (a && b) → cd ≡ (c && d) → r ≡ (ab && cd)
+    → Tells a P → Tells b Q → Tells c R → Tells d S → Tells r ((P × Q) × (R × S))
+tells-four p q e t u v w = tells-both _ _ e (tells-both _ _ p t u) (tells-both _ _ q v w)
 
 pub tells-as : {P Q : Type 0} {r : Bool} → (P → Q) → (Q → P) → Tells r P → Tells r Q
 tells-as f g t = (λ e. f (t .0 e), λ q. t .1 (g q))

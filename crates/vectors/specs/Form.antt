@@ -3,7 +3,7 @@ use mathlib.Core.Path.{_≡_}
 use Prim.Native.Nat.{ℕ, _≤_}
 use Rattle.vectors.specs.declared.case.Head.{Head}
 
--- the case is of this call, its numbers have so many bytes, and `room` bytes follow the head, which are as many as there must be
+-- the case is of this call, its numbers have so many bytes, and the `room` bytes that follow the head are `size`
 pub record Formed (call low high size : ℕ) (h : Head) (room : ℕ) : Type 0 where
   pub asked : h .call ≡ call
   pub least : low ≤ h .width

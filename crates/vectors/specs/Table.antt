@@ -8,7 +8,8 @@ use lib.Ieee.{Float, binary64, ofBits}
 use Rattle.grouping_marks.specs.Scan.{tabulate}
 use Rattle.vectors.specs.Case.{numberAt, columnWord}
 
--- which float of the table is meant at i: the one that number i of the column names or, for a column whose numbers have no bytes, the next
+-- which float of the table is meant at i: the one that number i of the column names or,
+-- for a column whose numbers have no bytes, the next
 unfoldable pub placeAt : List ℕ → ℕ → ℕ → ℕ → ℕ
 placeAt s column width i = cond (eqb width 0) i (numberAt s column width i)
 

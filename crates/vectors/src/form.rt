@@ -14,7 +14,7 @@ pub const RHYTHM: u8 = 4;
 
 pub const RECORD: u8 = 5;
 
-// Whether the case is of this call, its numbers have from `low` to `high` bytes, and its `room` bytes are as many as there must be.
+// Whether the case is of this call, its numbers have from `low` to `high` bytes, and its `room` bytes are `size`.
 pub fn formed(h: Head, call: u8, low: u8, high: u8, size: usize, room: usize) -> bool
     ensures { λ r. ⌜ Tells r (Formed call low high size h room) ⌝ }
 {

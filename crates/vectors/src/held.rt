@@ -1,4 +1,5 @@
-// Whether a slice that was lent full of a sentinel holds what a call must leave there: its answers, and the sentinel in every other place.
+// Whether a slice that was lent full of a sentinel holds what a call must leave there:
+// its answers, and the sentinel in every other place.
 ghost use mathlib.Core.Path.{_≡_};
 ghost use mathlib.Core.Bool.{_&&_};
 ghost use mathlib.Core.List.{map};
@@ -84,7 +85,8 @@ fn bits_expected(s: &[u8], at: usize, n: usize, sentinel: f64, i: usize) -> u64
 // Whether `got` holds the n floats from a place on, and then the sentinel, by their bits.
 pub fn floats_held(s: &[u8], at: usize, n: usize, sentinel: f64, got: &[f64]) -> bool
     requires { ⌜ at + 8 * n < 2 ^ 32 ⌝ }
-    ensures { λ r. ⌜ Tells r (Held (words (now (s .entry)) at n) (Ieee.toBits binary64 sentinel) (map (Ieee.toBits binary64) (now (got .entry)))) ⌝ }
+    ensures { λ r. ⌜ Tells r (Held (words (now (s .entry)) at n) (Ieee.toBits binary64 sentinel)
+        (map (Ieee.toBits binary64) (now (got .entry)))) ⌝ }
 {
     let room = got.len();
     if room < n {
@@ -103,7 +105,8 @@ pub fn floats_held(s: &[u8], at: usize, n: usize, sentinel: f64, got: &[f64]) ->
 // Whether `got` holds n times +0.0, and then the sentinel, by their bits.
 pub fn zero_floats_held(n: usize, sentinel: f64, got: &[f64]) -> bool
     requires { ⌜ 8 * n < 2 ^ 32 ⌝ }
-    ensures { λ r. ⌜ Tells r (Held (replicate n 0) (Ieee.toBits binary64 sentinel) (map (Ieee.toBits binary64) (now (got .entry)))) ⌝ }
+    ensures { λ r. ⌜ Tells r (Held (replicate n 0) (Ieee.toBits binary64 sentinel)
+        (map (Ieee.toBits binary64) (now (got .entry)))) ⌝ }
 {
     floats_held(b"", 0, n, sentinel, got)
 }

@@ -24,7 +24,8 @@ fn entry_at(s: &[u8], table: usize, column: usize, width: u8, i: usize) -> f64
     case::float_of(case::word_at(s, table + 8 * place_at(s, column, width, i)))
 }
 
-// Reads n floats of the table that begins at a place: those that the column names or, where the column's numbers have no bytes, the first n.
+// Reads n floats of the table that begins at a place: those that the column names or,
+// where the column's numbers have no bytes, the first n.
 pub fn read(s: &[u8], table: usize, column: usize, width: u8, n: usize, out: &mut [f64])
     requires { ⌜ EntriesRoom table column n (now out) ⌝ }
     ensures { λ r. ⌜ now (out .exit) ≡ over (entries (now (s .entry)) table column width n) (now (out .entry)) ⌝ }

@@ -66,7 +66,7 @@ impl<'a> Reading<'a> {
         a.length == b.length && this.count == other.count && a.kind == b.kind
     }
 
-    /// (a): a streak that opens in the tail, with a note of the tail before it.
+    /// (a): the streak opens in the tail, where at least one note precedes it.
     fn has_note_before(&self, streak: usize, tail_start: usize) -> bool {
         let first = self.streaks[streak].first;
         (tail_start..first).any(|object| self.kinds[object] != NON_HIT)

@@ -6,7 +6,7 @@ const NO_INTERVAL: u8 = 17;
 /// The six numbers of every object, and how many hit patterns there are.
 #[derive(Debug, PartialEq, Eq)]
 pub struct Answers {
-    /// Streak, its place in its pattern, alternating pattern, its place in its hit pattern, hit pattern.
+    /// Numbers of streaks, of alternating patterns (at 2) and of hit patterns (at 4); between them the places within the next level.
     pub numbers: [Vec<u16>; 5],
     pub interval: Vec<u8>,
     pub hit_patterns: u64,

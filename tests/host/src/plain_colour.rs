@@ -46,7 +46,7 @@ pub fn mean(values: &[f64]) -> f64 {
     values.iter().fold(0.0, |sum, x| sum + x) / values.len() as f64
 }
 
-/// The largest whole number not above ten times x, by 128-bit integers.
+/// Ten times x, rounded down, by 128-bit integers.
 pub fn tenths(x: f64) -> i64 {
     let bits = x.to_bits();
     let (field, rest) = ((bits >> 52) & 2047, (bits & ((1 << 52) - 1)) as i128);

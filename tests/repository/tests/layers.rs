@@ -113,7 +113,6 @@ fn an_opened_definition_is_seen() {
 fn layer(krate: &str) -> usize {
     match krate {
         "numeric" => 0,
-        _ if krate.ends_with("_host") => 3,
         _ if krate.starts_with("grouping_") => 1,
         _ if krate.starts_with("evaluator_") => 2,
         _ => 3,

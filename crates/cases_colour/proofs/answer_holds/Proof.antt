@@ -5,10 +5,14 @@ use Rattle.cases_colour.proofs.answer_holds.Statement.{statement}
 use Rattle.cases_colour.proofs.answer_holds.Tie as tie
 
 returns : tie.Need-returns
-returns c = colour-answered (c .before .before .before .before .before .before .before .before .before .before .before .enum-told .given .1) (c .before .before .before .before .before .before .before .colour .ensures) (c .done .ensures)
+returns c =
+    let called = c .before .before .before .before .before .before .before in
+    colour-answered (called .before .before .before .before .enum-told .given .1) (called .colour .ensures) (c .done .ensures)
 
 returns-2 : tie.Need-returns-2
-returns-2 c = stretch-answered _ (c .before .before .before .before .before .before .before .before .before .before .before .before .asked .given .1) (c .before .before .before .before .before .before .before .stretch .ensures) (c .mean-holds .ensures)
+returns-2 c =
+    let called = c .before .before .before .before .before .before .before in
+    stretch-answered _ (called .before .before .before .before .before .asked .given .1) (called .stretch .ensures) (c .mean-holds .ensures)
 
 pub answer-holds-spec : {M : Type 1} → statement M
 answer-holds-spec =

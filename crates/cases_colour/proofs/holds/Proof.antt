@@ -11,10 +11,14 @@ unfolding ColourHolds
 returns c = too-many (c .if1 .taken)
 
 call-holds-requires : tie.Need-call-holds-requires
-call-holds-requires c κs = form-room _ _ _ _ (c .before .before .before .if1 .left) (c .before .before .before .before .before .pre) (c .before .before .column-size .ensures .1) (c .before .colour-formed .ensures .0 (c .if2 .taken))
+call-holds-requires c κs =
+    form-room _ _ _ _ (c .before .before .before .if1 .left) (c .before .before .before .before .before .pre)
+    (c .before .before .column-size .ensures .1) (c .before .colour-formed .ensures .0 (c .if2 .taken))
 
 returns-2 : tie.Need-returns-2
-returns-2 c = colour-told _ _ _ _ (c .before .before .before .column-size .ensures .0) (c .before .before .before .before .if1 .left) (c .before .before .colour-formed .ensures) (c .before .if2 .taken) (c .call-holds .ensures)
+returns-2 c =
+    colour-told _ _ _ _ (c .before .before .before .column-size .ensures .0) (c .before .before .before .before .if1 .left)
+    (c .before .before .colour-formed .ensures) (c .before .if2 .taken) (c .call-holds .ensures)
 
 returns-3 : tie.Need-returns-3
 returns-3 c = colour-ill _ _ _ _ (c .before .before .column-size .ensures .0) (c .before .colour-formed .ensures) (c .if2 .left)

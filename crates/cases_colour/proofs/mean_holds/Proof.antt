@@ -6,10 +6,16 @@ use Rattle.cases_colour.proofs.mean_holds.Statement.{statement}
 use Rattle.cases_colour.proofs.mean_holds.Tie as tie
 
 returns : tie.Need-returns
-returns c = mean-told _ _ _ _ (c .before .before .before .before .before .answer .given .1) (omega (arith, c .before .before .before .before .known-told)) _ (c .before .before .before .signed .ensures) (omega (arith, c .before .before .before .signed)) _ (c .before .before .if1 .taken) (c .before .bits .ensures)
+returns c =
+    let read = c .before .before .before in
+    mean-told _ _ _ _ (read .before .before .answer .given .1) (omega (arith, read .before .known-told)) _ (read .signed .ensures)
+    (omega (arith, read .signed)) _ (c .before .before .if1 .taken) (c .before .bits .ensures)
 
 returns-2 : tie.Need-returns-2
-returns-2 c = tenths-differ _ _ _ _ (c .before .before .before .answer .given .1) (omega (arith, c .before .before .known-told)) _ (c .before .signed .ensures) (omega (arith, c .before .signed)) (c .if1 .left)
+returns-2 c =
+    let read = c .before in
+    tenths-differ _ _ _ _ (read .before .before .answer .given .1) (omega (arith, read .before .known-told)) _ (read .signed .ensures)
+    (omega (arith, read .signed)) (c .if1 .left)
 
 returns-3 : tie.Need-returns-3
 returns-3 c = mean-refused _ _ _ _ (c .enum-told .given .1)

@@ -2,24 +2,22 @@
 use Prim.Native.Nat.{_+_}
 use native.Mathlib.Omega.{arith}
 use Rattle.vectors.specs.Lent.{byteSentinel}
-use Rattle.vectors.proofs.TellsLaws.{tells-of}
 use Rattle.vectors.proofs.LentLaws.{front-counts, front-fits}
-use Rattle.cases_encode.specs.Encode.{EncodeStored}
-use Rattle.cases_encode.proofs.EncodeLaws.{made-outcome}
+use Rattle.cases_encode.proofs.EncodeLaws.{made-told}
 use Rattle.cases_encode.proofs.call_holds.Statement.{statement}
 use Rattle.cases_encode.proofs.call_holds.Tie as tie
 
 lent-holds-requires : tie.Need-lent-holds-requires
 lent-holds-requires c κs =
     let entry = c .before .before .before .before .before .before .before .before .before .before .before in
-    let most = front-fits (entry .args .n + entry .args .spare) 16391 byteSentinel in
+    let most = front-fits (entry .args .h .objects + entry .args .spare) 16391 byteSentinel in
     record { objects = entry .pre .few .objects; stored = entry .pre .stored; most = most }
 
 returns : tie.Need-returns
 returns c =
     let called = c .before .before .before .before .before .before .before .before in
     let entry = called .before .before .before .before .before .before .before .before .before .before .before .before in
-    tells-of (EncodeStored _ _ _ _) (made-outcome (entry .pre .few) _) (called .lent-holds .ensures)
+    made-told (entry .pre .few) (called .lent-holds .ensures)
 
 pub call-holds-spec : {M : Type 1} → statement M
 call-holds-spec =

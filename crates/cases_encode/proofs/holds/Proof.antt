@@ -19,7 +19,9 @@ call-holds-requires c κs =
     }
 
 returns-2 : tie.Need-returns-2
-returns-2 c = case-told _ _ _ _ (c .before .before .before .column-size .ensures .0) (c .before .before .before .before .if1 .left) (c .before .before .formed .ensures) (c .before .if2 .taken) (c .call-holds .ensures)
+returns-2 c =
+    case-told _ _ _ _ (c .before .before .before .column-size .ensures .0) (c .before .before .before .before .if1 .left)
+    (c .before .before .formed .ensures) (c .before .if2 .taken) (c .call-holds .ensures)
 
 returns-3 : tie.Need-returns-3
 returns-3 c = case-ill _ _ _ _ (c .before .before .column-size .ensures .0) (c .before .formed .ensures) (c .if2 .left)

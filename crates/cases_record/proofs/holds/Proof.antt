@@ -13,16 +13,24 @@ returns c = too-many (c .if1 .taken)
 
 call-holds-requires : tie.Need-call-holds-requires
 call-holds-requires c κs =
-    let f = tells-both _ _ (c .before .both .ensures) (c .before .before .before .rhythm-formed .ensures) (c .before .before .part-formed .ensures) .0 (c .if2 .taken) in
-    form-room _ _ _ (c .before .before .before .before .if1 .left) (c .before .before .before .before .before .before .before .pre) (f .0)
+    let formed = c .before .before .before in
+    let f = tells-both _ _ (c .before .both .ensures) (formed .rhythm-formed .ensures) (c .before .before .part-formed .ensures) .0 (c .if2 .taken) in
+    form-room _ _ _ (formed .before .if1 .left) (formed .before .before .before .before .pre) (f .0)
 
 returns-2 : tie.Need-returns-2
 unfolding RecordHolds
-returns-2 c = well-formed (c .before .before .before .before .before .if1 .left) (tells-both _ _ (c .before .before .both .ensures) (c .before .before .before .before .rhythm-formed .ensures) (c .before .before .before .part-formed .ensures)) (c .before .if2 .taken) (c .call-holds .ensures)
+returns-2 c =
+    let formed = c .before .before .before .before in
+    well-formed (formed .before .if1 .left)
+    (tells-both _ _ (c .before .before .both .ensures) (formed .rhythm-formed .ensures) (c .before .before .before .part-formed .ensures))
+    (c .before .if2 .taken) (c .call-holds .ensures)
 
 returns-3 : tie.Need-returns-3
 unfolding RecordHolds
-returns-3 c = ill-formed (tells-both _ _ (c .before .both .ensures) (c .before .before .before .rhythm-formed .ensures) (c .before .before .part-formed .ensures)) (c .if2 .left)
+returns-3 c =
+    ill-formed
+    (tells-both _ _ (c .before .both .ensures) (c .before .before .before .rhythm-formed .ensures) (c .before .before .part-formed .ensures))
+    (c .if2 .left)
 
 pub holds-spec : {M : Type 1} → statement M
 holds-spec =

@@ -5,7 +5,9 @@ use Rattle.cases_rhythm.proofs.counts_hold.Statement.{statement}
 use Rattle.cases_rhythm.proofs.counts_hold.Tie as tie
 
 returns : tie.Need-returns
-returns c = counts-told _ _ _ _ (c .before .before .before .before .answer .given .1) (c .before .before .pair-at .ensures) (c .before .pair-at2 .ensures) (c .both .ensures)
+returns c =
+    counts-told _ _ _ _ (c .before .before .before .before .answer .given .1) (c .before .before .pair-at .ensures)
+    (c .before .pair-at2 .ensures) (c .both .ensures)
 
 returns-2 : tie.Need-returns-2
 returns-2 c = counts-refused _ _ _ _ (c .enum-told .given .1)

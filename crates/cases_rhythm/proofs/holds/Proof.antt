@@ -11,7 +11,8 @@ unfolding RhythmHolds
 returns c = too-many (c .if1 .taken)
 
 call-holds-requires : tie.Need-call-holds-requires
-call-holds-requires c κs = form-room _ _ _ (c .before .before .if1 .left) (c .before .before .before .before .pre) (c .before .rhythm-formed .ensures .0 (c .if2 .taken))
+call-holds-requires c κs =
+    form-room _ _ _ (c .before .before .if1 .left) (c .before .before .before .before .pre) (c .before .rhythm-formed .ensures .0 (c .if2 .taken))
 
 returns-2 : tie.Need-returns-2
 unfolding RhythmHolds

@@ -9,25 +9,39 @@ use Rattle.letters_answer.proofs.answer.Statement.{statement}
 use Rattle.letters_answer.proofs.answer.Tie as tie
 
 write-bad-requires : tie.Need-write-bad-requires
-write-bad-requires c κs = omega (arith, read-bad-at (c .before .before .before .before .before .read-letters .ensures) _ (c .before .before .place .given .1))
+write-bad-requires c κs =
+    let told = c .before .before in
+    omega (arith, read-bad-at (told .before .before .before .read-letters .ensures) _ (told .place .given .1))
 
 array-share-prefix-kinds : tie.Need-array-share-prefix-kinds
-array-share-prefix-kinds c = omega (arith, read-all (c .before .before .before .before .read-letters .ensures) _ (c .before .n .given .1))
+array-share-prefix-kinds c =
+    let told = c .before in
+    omega (arith, read-all (told .before .before .before .read-letters .ensures) _ (told .n .given .1))
 
 slice-aggregate-answer-letters : tie.Need-slice-aggregate-answer-letters
-slice-aggregate-answer-letters c = sym (length-take-le _ _ (omega (arith, read-all (c .before .before .before .before .before .read-letters .ensures) _ (c .before .before .n .given .1))))
+slice-aggregate-answer-letters c =
+    let told = c .before .before in
+    sym (length-take-le _ _ (omega (arith, read-all (told .before .before .before .read-letters .ensures) _ (told .n .given .1))))
 
 answer-letters-requires : tie.Need-answer-letters-requires
-answer-letters-requires c κs = letters-room _ (c .before .before .before .before .before .before .read-letters .ensures) _ (c .before .before .before .n .given .1) (omega arith)
+answer-letters-requires c κs =
+    let told = c .before .before .before in
+    letters-room _ (told .before .before .before .read-letters .ensures) _ (told .n .given .1) (omega arith)
 
 returns : tie.Need-returns
-returns c = answer-long _ (c .before .before .before .before .before .read-letters .ensures) (c .before .before .enum-told .given .1) (c .write-long .ensures)
+returns c =
+    let told = c .before .before in
+    answer-long _ (told .before .before .before .read-letters .ensures) (told .enum-told .given .1) (c .write-long .ensures)
 
 returns-2 : tie.Need-returns-2
-returns-2 c = answer-bad _ (c .before .before .before .before .before .before .read-letters .ensures) _ (c .before .before .before .place .given .1) (c .write-bad .ensures)
+returns-2 c =
+    let told = c .before .before .before in
+    answer-bad _ (told .before .before .before .read-letters .ensures) _ (told .place .given .1) (c .write-bad .ensures)
 
 returns-3 : tie.Need-returns-3
-returns-3 c = answer-lines _ (c .before .before .before .before .before .before .before .read-letters .ensures) _ (c .before .before .before .before .n .given .1) (c .answer-letters .ensures)
+returns-3 c =
+    let told = c .before .before .before .before in
+    answer-lines _ (told .before .before .before .read-letters .ensures) _ (told .n .given .1) (c .answer-letters .ensures)
 
 pub answer-spec : {M : Type 1} → statement M
 answer-spec =

@@ -7,23 +7,16 @@ use borrow.Author.Needs.{needs}
 use Rattle.letters_answer.proofs.answer_letters.Statement.{statement}
 use Rattle.letters_answer.proofs.answer_letters.Tie as tie
 
-slice-aggregate-write-lines : tie.Need-slice-aggregate-write-lines
-slice-aggregate-write-lines c = sym (length-take-le _ _ (omega arith))
-
-slice-aggregate-write-lines-2 : tie.Need-slice-aggregate-write-lines-2
-slice-aggregate-write-lines-2 c = sym (length-take-le _ _ (omega arith))
-
-slice-aggregate-write-lines-3 : tie.Need-slice-aggregate-write-lines-3
-slice-aggregate-write-lines-3 c = sym (length-take-le _ _ (omega arith))
-
-slice-aggregate-write-lines-4 : tie.Need-slice-aggregate-write-lines-4
-slice-aggregate-write-lines-4 c = sym (length-take-le _ _ (omega arith))
-
 write-lines-requires : tie.Need-write-lines-requires
-write-lines-requires c κs = lines-fit (c .before .before .before .before .before .before .before .before .before .before .before .before .encode-kinds .ensures) (c .before .before .before .before .before .before .before .before .before .before .before .before .before .before .before .before .before .before .before .before .before .before .pre)
+write-lines-requires c κs =
+    let encoded = c .before .before .before .before .before .before .before .before .before .before .before .before in
+    let start = encoded .before .before .before .before .before .before .before .before .before .before in
+    lines-fit (encoded .encode-kinds .ensures) (start .pre)
 
 returns : tie.Need-returns
-returns c = lines-written (c .before .before .before .before .before .before .before .before .before .before .before .before .before .before .before .encode-kinds .ensures) (c .before .before .write-lines .ensures)
+returns c =
+    let encoded = c .before .before .before .before .before .before .before .before .before .before .before .before .before .before .before in
+    lines-written (encoded .encode-kinds .ensures) (c .before .before .write-lines .ensures)
 
 pub answer-letters-spec : {M : Type 1} → statement M
 answer-letters-spec =
@@ -38,13 +31,13 @@ answer-letters-spec =
     (λ c. search needs)
     (λ c κs. search needs)
     (λ c. search needs)
-    slice-aggregate-write-lines
+    (λ c. sym (length-take-le _ _ (omega arith)))
     (λ c. search needs)
-    slice-aggregate-write-lines-2
+    (λ c. sym (length-take-le _ _ (omega arith)))
     (λ c. search needs)
-    slice-aggregate-write-lines-3
+    (λ c. sym (length-take-le _ _ (omega arith)))
     (λ c. search needs)
-    slice-aggregate-write-lines-4
+    (λ c. sym (length-take-le _ _ (omega arith)))
     write-lines-requires
     (λ c. search needs)
     returns)

@@ -11,10 +11,16 @@ returns-2 : tie.Need-returns-2
 returns-2 c = stretch-follows _ _ (c .before .before .before .if1 .left) (c .before .both .ensures) (c .if2 .taken)
 
 returns-3 : tie.Need-returns-3
-returns-3 c = record-follows _ _ (c .before .before .before .before .before .before .if1 .left) (c .before .before .before .before .both .ensures) (c .before .both2 .ensures) (c .before .before .before .if2 .left) (c .if3 .taken)
+returns-3 c =
+    let second = c .before .before .before in
+    let first = second .before .before .before in
+    record-follows _ _ (first .if1 .left) (second .before .both .ensures) (c .before .both2 .ensures) (second .if2 .left) (c .if3 .taken)
 
 returns-4 : tie.Need-returns-4
-returns-4 c = none-follows _ _ (c .before .before .before .before .before .before .if1 .left) (c .before .before .before .before .both .ensures) (c .before .both2 .ensures) (c .before .before .before .if2 .left) (c .if3 .left)
+returns-4 c =
+    let second = c .before .before .before in
+    let first = second .before .before .before in
+    none-follows _ _ (first .if1 .left) (second .before .both .ensures) (c .before .both2 .ensures) (second .if2 .left) (c .if3 .left)
 
 pub follows-spec : {M : Type 1} → statement M
 follows-spec =

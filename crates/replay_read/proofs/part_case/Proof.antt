@@ -2,19 +2,9 @@
 use mathlib.Core.Path.{sym}
 use lib.Seq.{length-take-le}
 use native.Mathlib.Omega.{arith}
-use Rattle.replay_read.specs.Read.{PartRead}
 use Rattle.replay_read.specs.Read.PartRead.{told, broken}
 use Rattle.replay_read.proofs.part_case.Statement.{statement}
 use Rattle.replay_read.proofs.part_case.Tie as tie
-
-slice-aggregate-read-full : tie.Need-slice-aggregate-read-full
-slice-aggregate-read-full c = sym (length-take-le _ _ (omega arith))
-
-slice-aggregate-part-holds : tie.Need-slice-aggregate-part-holds
-slice-aggregate-part-holds c = sym (length-take-le _ _ (omega arith))
-
-slice-aggregate-part-holds-2 : tie.Need-slice-aggregate-part-holds-2
-slice-aggregate-part-holds-2 c = sym (length-take-le _ _ (omega arith))
 
 returns-4 : tie.Need-returns-4
 returns-4 c = told (omega arith) (omega arith) (c .part-holds .ensures)
@@ -26,13 +16,13 @@ part-case-spec =
     (λ c. broken)
     (λ c. broken)
     (λ c. omega arith)
-    slice-aggregate-read-full
+    (λ c. sym (length-take-le _ _ (omega arith)))
     (λ c κs. omega arith)
     (λ c. omega arith)
     (λ c. broken)
-    slice-aggregate-part-holds
+    (λ c. sym (length-take-le _ _ (omega arith)))
     (λ c. omega arith)
-    slice-aggregate-part-holds-2
+    (λ c. sym (length-take-le _ _ (omega arith)))
     (λ c κs. omega arith)
     (λ c. omega arith)
     returns-4)

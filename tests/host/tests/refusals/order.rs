@@ -1,4 +1,4 @@
-//! The order: 1, 2, 3, then object by object 4, 5, 6, 7.
+//! Which refusal goes first: of the whole chart 1 to 3, and then the first object that has one of 4 to 7.
 
 use crate::faults::some_bad;
 use host_tests::chart::Chart;

@@ -5,16 +5,28 @@ use Rattle.replay_cases.proofs.count.after.Statement.{statement}
 use Rattle.replay_cases.proofs.count.after.Tie as tie
 
 returns : tie.Need-returns
-returns c = after-chart (c .before .before .before .before .before .before .before .before .before .pre) _ _ _ _ (c .before .before .before .before .c .given .1) (c .before .wrapping-add-u64 .ensures) (c .counted .ensures)
+returns c =
+    let told = c .before .before .before .before in
+    let start = told .before .before .before .before .before in
+    after-chart (start .pre) _ _ _ _ (told .c .given .1) (c .before .wrapping-add-u64 .ensures) (c .counted .ensures)
 
 returns-2 : tie.Need-returns-2
-returns-2 c = after-part (c .before .before .before .before .before .before .before .before .pre) _ _ (c .before .before .before .c2 .given .1) (c .counted2 .ensures)
+returns-2 c =
+    let told = c .before .before .before in
+    let start = told .before .before .before .before .before in
+    after-part (start .pre) _ _ (told .c2 .given .1) (c .counted2 .ensures)
 
 returns-3 : tie.Need-returns-3
-returns-3 c = after-broken (c .before .before .before .before .before .before .before .pre) _ (c .before .before .enum-told .given .1) (c .before .counted3 .ensures) (c .ended .ensures)
+returns-3 c =
+    let told = c .before .before in
+    let start = told .before .before .before .before .before in
+    after-broken (start .pre) _ (told .enum-told .given .1) (c .before .counted3 .ensures) (c .ended .ensures)
 
 returns-4 : tie.Need-returns-4
-returns-4 c = after-end (c .before .before .before .before .before .before .pre) (c .before .enum-told2 .given .1) (c .ended2 .ensures)
+returns-4 c =
+    let told = c .before in
+    let start = told .before .before .before .before .before in
+    after-end (start .pre) (told .enum-told2 .given .1) (c .ended2 .ensures)
 
 pub after-spec : {M : Type 1} → statement M
 after-spec =

@@ -8,7 +8,11 @@ returns : tie.Need-returns
 returns c = counted-held _ _ _ (c .before .wrapping-add-u64 .ensures) (c .if1 .taken)
 
 returns-2 : tie.Need-returns-2
-returns-2 c = counted-differing _ _ _ (c .before .before .before .wrapping-add-u64 .ensures) _ _ (c .before .before .if1 .left) (c .before .wrapping-add-u642 .ensures) (c .first-differing .ensures)
+returns-2 c =
+    let test = c .before .before in
+    counted-differing _ _ _ (test .before .wrapping-add-u64 .ensures) _ _ (test .if1 .left)
+    (c .before .wrapping-add-u642 .ensures)
+    (c .first-differing .ensures)
 
 pub counted-spec : {M : Type 1} → statement M
 counted-spec =

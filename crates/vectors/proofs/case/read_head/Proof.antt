@@ -5,7 +5,9 @@ use Rattle.vectors.proofs.case.read_head.Statement.{statement}
 use Rattle.vectors.proofs.case.read_head.Tie as tie
 
 returns : tie.Need-returns
-returns c = head-is _ _ _ _ _ (c .before .before .before .byte-at .ensures) (c .before .before .byte-at2 .ensures) (c .before .pair-at .ensures) (c .quad-at .ensures .0)
+returns c =
+    head-is _ _ _ _ _ (c .before .before .before .byte-at .ensures) (c .before .before .byte-at2 .ensures) (c .before .pair-at .ensures)
+    (c .quad-at .ensures .0)
 
 pub read-head-spec : {M : Type 1} → statement M
 read-head-spec =

@@ -14,7 +14,10 @@ returns-3 : tie.Need-returns-3
 returns-3 c = denied (λ p. omega (arith, p .most, c .if3 .taken))
 
 returns-4 : tie.Need-returns-4
-returns-4 c = tells-as (λ e. record { asked = c .before .before .before .before .if1 .left; least = c .before .before .if2 .left; most = c .if3 .left; whole = e }) (λ p. p .whole) (tells-eqb _ _)
+returns-4 c =
+    tells-as
+    (λ e. record { asked = c .before .before .before .before .if1 .left; least = c .before .before .if2 .left; most = c .if3 .left; whole = e })
+    (λ p. p .whole) (tells-eqb _ _)
 
 pub formed-spec : {M : Type 1} → statement M
 formed-spec = tie.close (tie.spec returns returns-2 returns-3 returns-4)

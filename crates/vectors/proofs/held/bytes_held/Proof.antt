@@ -17,8 +17,8 @@ slice-aggregate-same c = sym (length-take-le _ _ (omega arith))
 
 returns-2 : tie.Need-returns-2
 returns-2 c =
-    row-same _ _ _ _ _ (c .before .before .before .before .before .before .before .before .before .pre) _ (c .before .before .before .before .before .before .if1 .left)
-    (c .before .before .before .copy .ensures .1) (c .same .ensures)
+    let fits = c .before .before .before .before .before .before in
+    row-same _ _ _ _ _ (fits .before .before .before .pre) _ (fits .if1 .left) (c .before .before .before .copy .ensures .1) (c .same .ensures)
 
 pub bytes-held-spec : {M : Type 1} → statement M
 bytes-held-spec =
