@@ -1,5 +1,5 @@
--- How long the six lists are, one number an object, and how far the numbers go: each is below its level's count, and an interval is
--- below the search limit or one above it.
+-- How long the lists of patterns and hit patterns are, one number an object, and how far the numbers go: each is below its
+-- level's count, and an interval is below the search limit or one above it.
 use mathlib.Core.Path.{_≡_, refl, _∙_}
 use mathlib.Core.Logic.{_⊎_}
 use mathlib.Core.List.{List}
@@ -9,29 +9,25 @@ use lib.ListN.{length, getD}
 use Rattle.grouping_marks.specs.Scan.{gathered}
 use Rattle.grouping_marks.specs.Marks.{groupCount, groupNumbers, groupPlaces}
 use Rattle.grouping_marks.proofs.FillLaws.{length-gathered, getD-gathered}
-use Rattle.grouping_marks.proofs.MarksLaws.{length-numbers, numbers-below, length-sizes, length-firsts}
+use Rattle.grouping_marks.proofs.MarksLaws.{numbers-below, length-sizes, length-firsts}
 use Rattle.grouping_hits.proofs.LengthLaws.{length-hitMarks}
 use Rattle.grouping_hits.proofs.RangeLaws.{interval-range, interval-byte}
 use Rattle.grouping_color.specs.MonoStreak.{streakMarks, streakOf, streakLengths}
 use Rattle.grouping_color.specs.Preprocessor.{patternsOpen, firstLengths, streakCounts, patternTypes, coupledPatterns, hitsOpen}
 use Rattle.grouping_color.specs.Preprocessor.{hitCount, hitSizes, hitFirsts, hitSeconds, hitIntervals}
 use Rattle.grouping_color.specs.Preprocessor.{streakPlaceOf, alternatingOf, patternPlaceOf, hitOf, intervalOf}
-use Rattle.grouping_color.proofs.LengthLaws.{length-streakMarks, length-patternMarks, length-coupled}
+use Rattle.grouping_color.proofs.LengthLaws.{length-patternMarks, length-coupled}
+use Rattle.grouping_color.proofs.StreakListLaws.{length-streakOf, length-streakLengths, streak-below}
 
 -- ---- the levels of a chart's kinds
 
 module _ (kinds : List ℕ) where
-  pub length-streakOf : length (streakOf kinds) ≡ length kinds
-  unfolding streakOf
-  length-streakOf = length-numbers (streakMarks kinds) ∙ length-streakMarks kinds
-
   lengths-even : length (patternsOpen kinds) ≡ length (streakLengths kinds)
   unfolding patternsOpen
   lengths-even = length-patternMarks (streakLengths kinds)
 
   pub length-patternsOpen : length (patternsOpen kinds) ≡ groupCount (streakMarks kinds)
-  unfolding streakLengths
-  length-patternsOpen = lengths-even ∙ length-sizes (streakMarks kinds)
+  length-patternsOpen = lengths-even ∙ length-streakLengths kinds
 
   pub length-hitsOpen : length (hitsOpen kinds) ≡ groupCount (patternsOpen kinds)
   unfolding coupledPatterns hitsOpen firstLengths
@@ -40,10 +36,6 @@ module _ (kinds : List ℕ) where
       ∙ length-firsts (patternsOpen kinds) (streakLengths kinds) (omega (arith, lengths-even))
 
   -- each number is below its level's count
-  pub streak-below : (i : ℕ) → i < length kinds → getD (streakOf kinds) i 0 < groupCount (streakMarks kinds)
-  unfolding streakOf
-  streak-below i h = numbers-below (streakMarks kinds) i (omega (arith, length-streakMarks kinds))
-
   pub pattern-below : (j : ℕ) → j < groupCount (streakMarks kinds) → getD (groupNumbers (patternsOpen kinds)) j 0 < groupCount (patternsOpen kinds)
   pattern-below j h = numbers-below (patternsOpen kinds) j (omega (arith, length-patternsOpen))
 
@@ -63,7 +55,7 @@ module _ (kinds : List ℕ) where
 
   pub length-alternatingOf : length (alternatingOf kinds) ≡ length kinds
   unfolding alternatingOf
-  length-alternatingOf = length-gathered (groupNumbers (patternsOpen kinds)) (streakOf kinds) ∙ length-streakOf
+  length-alternatingOf = length-gathered (groupNumbers (patternsOpen kinds)) (streakOf kinds) ∙ length-streakOf kinds
 
   pub length-hitOf : length (hitOf kinds) ≡ length kinds
   unfolding hitOf
@@ -76,8 +68,8 @@ module _ (kinds : List ℕ) where
   pub alternatingOf-below : (i : ℕ) → i < length kinds → getD (alternatingOf kinds) i 0 < groupCount (patternsOpen kinds)
   unfolding alternatingOf
   alternatingOf-below i h =
-      rw (getD-gathered (groupNumbers (patternsOpen kinds)) (streakOf kinds) i (omega (arith, length-streakOf)))
-      (pattern-below (getD (streakOf kinds) i 0) (streak-below i h))
+      rw (getD-gathered (groupNumbers (patternsOpen kinds)) (streakOf kinds) i (omega (arith, length-streakOf kinds)))
+      (pattern-below (getD (streakOf kinds) i 0) (streak-below kinds i h))
 
   pub hitOf-below : (i : ℕ) → i < length kinds → getD (hitOf kinds) i 0 < hitCount kinds
   unfolding hitOf

@@ -1,4 +1,4 @@
--- What each list of a chart is made of, an equation each, for crates above this one.
+-- What each list of the encoder is made of, an equation each, for crates above this one.
 use mathlib.Core.Path.{_≡_, refl}
 use mathlib.Core.List.{List}
 use Prim.Native.Nat.{ℕ}
@@ -10,18 +10,6 @@ use Rattle.grouping_color.specs.Preprocessor.{patternsOpen, firstLengths
 use Rattle.grouping_color.specs.Preprocessor.{hitCount, hitSizes, hitFirsts, hitSeconds, hitIntervals}
 
 module _ (kinds : List ℕ) where
-  pub streakOf-made : streakOf kinds ≡ groupNumbers (streakMarks kinds)
-  unfolding streakOf
-  streakOf-made = refl
-
-  pub streakLengths-made : streakLengths kinds ≡ groupSizes (streakMarks kinds)
-  unfolding streakLengths
-  streakLengths-made = refl
-
-  pub streakTypes-made : streakTypes kinds ≡ groupFirsts (streakMarks kinds) kinds
-  unfolding streakTypes
-  streakTypes-made = refl
-
   pub patternsOpen-made : patternsOpen kinds ≡ patternMarks (streakLengths kinds)
   unfolding patternsOpen
   patternsOpen-made = refl

@@ -15,7 +15,7 @@ use Rattle.grouping_chart.specs.Settings.{Settings}
 use Rattle.grouping_chart.specs.declared.chart.Verdict.the-variants.{Accepted}
 use Rattle.grouping_chart.proofs.AcceptedLaws.{accepted-good}
 use Rattle.grouping_chart.proofs.ObjectLaws.{seen₀, seenAfter, seenAfter-take, seenNext-notes, seen-count, notes-few}
-use Rattle.grouping_interval.proofs.NoteLaws.{length-note-objects, length-of-notes, objects-all, objects-at, objects-over}
+use Rattle.grouping_interval.proofs.NoteLaws.{length-note-objects, length-of-notes, objects-all, objects-step, objects-over}
 use Rattle.grouping_chart.proofs.CutLaws.{note-number}
 use Rattle.grouping_rhythm.specs.Rhythm.{Memory, judged, rhythmOutcome}
 use Rattle.grouping_rhythm.proofs.RhythmLaws.{group-written}
@@ -56,16 +56,16 @@ note-from ks (suc left) i e j h = by (isNote (getD ks i 0)) refl j h (note-from 
     by : (b : Bool) → isNote (getD ks i 0) ≡ b → (j : ℕ) → j < length (onwards ks i)
         → ((j : ℕ) → j < length (onwards ks (i + 1)) → NoteAt ks (length (notes (take (i + 1) ks)) + j) (getD (onwards ks (i + 1)) j 0))
         → NoteAt ks (length (notes (take i ks)) + j) (getD (onwards ks i) j 0)
-    by true n zero h later = rw (objects-at ks i true within n) (record { there = within; is-note = n; before = omega arith })
+    by true n zero h later = rw (objects-step ks i true within n) (record { there = within; is-note = n; before = omega arith })
     by true n (suc j) h later =
-        let l = rw (objects-at ks i true within n) at h in
+        let l = rw (objects-step ks i true within n) at h in
         let x = later j (omega arith) in
         let counted = rw n at (count-next ks i within) in
-        rw (objects-at ks i true within n) (record { there = x .there; is-note = x .is-note; before = omega (arith, x .before, counted) })
+        rw (objects-step ks i true within n) (record { there = x .there; is-note = x .is-note; before = omega (arith, x .before, counted) })
     by false n j h later =
-        let x = later j (rw (objects-at ks i false within n) at h) in
+        let x = later j (rw (objects-step ks i false within n) at h) in
         let counted = rw n at (count-next ks i within) in
-        rw (objects-at ks i false within n) (record { there = x .there; is-note = x .is-note; before = omega (arith, x .before, counted) })
+        rw (objects-step ks i false within n) (record { there = x .there; is-note = x .is-note; before = omega (arith, x .before, counted) })
 
 note-at : (ks : List ℕ) (j : ℕ) → j < length (noteObjects ks) → NoteAt ks j (getD (noteObjects ks) j 0)
 note-at ks j h =

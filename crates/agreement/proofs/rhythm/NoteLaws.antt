@@ -11,8 +11,8 @@ use lib.Ieee.{Float}
 use Rattle.grouping_chart.specs.Object.{isNote, notes, noteIdx}
 use Rattle.grouping_chart.specs.Chart.{Chart, size}
 use Rattle.grouping_interval.specs.Notes.{ofNotes}
-use Rattle.grouping_interval.proofs.NoteLaws.{length-of-notes}
-use Rattle.grouping_chart.proofs.CutLaws.{note-deltas-append, notes-split, note-number}
+use Rattle.grouping_interval.proofs.NoteLaws.{length-of-notes, of-notes-append}
+use Rattle.grouping_chart.proofs.CutLaws.{notes-split, note-number}
 use Rattle.agreement.specs.CommonTail.{Counterparts, lastOf, SameLast}
 use Rattle.agreement.specs.rhythm.Claim.{deltasOf, noteCount, tailNotes, SameNote}
 use Rattle.agreement.proofs.TailLaws.{same-behind, same-at}
@@ -30,7 +30,7 @@ module _ (m : ℕ) (c : Chart) (whole : length (c .deltas) ≡ size c) (fits : m
   unfolding front
   deltas-cut =
       sym (λ i. ofNotes (take-append-drop (size c - m) (c .kinds) i) (take-append-drop (length (c .deltas) - m) (c .deltas) i))
-      ∙ note-deltas-append (take (size c - m) (c .kinds)) (lastOf m (c .kinds)) (take (length (c .deltas) - m) (c .deltas)) (lastOf m (c .deltas))
+      ∙ of-notes-append (take (size c - m) (c .kinds)) (lastOf m (c .kinds)) (take (length (c .deltas) - m) (c .deltas)) (lastOf m (c .deltas))
       (omega (arith, length-take-le (size c - m) (c .kinds) (omega arith), length-take-le (length (c .deltas) - m) (c .deltas) (omega arith)))
 
   back-long : length back ≡ tailNotes m c
