@@ -8,7 +8,7 @@ rt fmt --check
 
 # an archive's own crate is proved once more as it is made, so these are made side by side, and what they use is proved before;
 # few of these crates can be proved at the same time, so all that can are
-RT_JOBS=4 rt check evaluator_calls evaluator_record letters replay
+RT_JOBS=4 rt check call_colour call_record letters replay
 rt staticlib dresserduck &
 archive=$!
 rt staticlib test_host

@@ -8,19 +8,19 @@ use Prim.Native.Nat.{ℕ, _+_, _-_, _<_}
 use native.Mathlib.Omega.{arith}
 use lib.ListN.{length, getD}
 use lib.Ieee.{Float, nan}
-use Rattle.grouping_marks.specs.Scan.{scan, after, tabulate, gathered}
+use Rattle.lent.specs.Scan.{scan, endState, tabulate, gathered}
 use Rattle.grouping_marks.specs.Marks.{opened, groupCount, groupNumbers, sizesFrom, groupSizes, firstsFrom, groupFirsts}
 use Rattle.grouping_chart.specs.Object.{isNote, notes, noteIdx, noteBefore, previousNote}
 use Rattle.grouping_chart.specs.Chart.{Chart, size}
 use Rattle.grouping_chart.specs.Settings.{baseSettings}
 use Rattle.grouping_hits.specs.RepeatingHitPatterns.{coupledRun, hitSize, hitMarksAfter, hitMarks}
-use Rattle.grouping_color.specs.MonoStreak.{continues, opensStreak, streakMarks, streakOf, streakLengths, streakTypes}
-use Rattle.grouping_color.specs.AlternatingMonoPattern.{opensPattern, patternMarks, coupledAt, coupled}
-use Rattle.grouping_color.specs.Preprocessor.{patternsOpen, firstLengths, streakCounts, patternTypes, coupledPatterns, hitsOpen, alternatingOf, hitOf}
+use Rattle.grouping_colour.specs.MonoStreak.{continues, opensStreak, streakMarks, streakOf, streakLengths, streakTypes}
+use Rattle.grouping_colour.specs.AlternatingMonoPattern.{opensPattern, patternMarks, coupledAt, coupled}
+use Rattle.grouping_preprocessor.specs.Preprocessor.{patternsOpen, firstLengths, streakCounts, patternTypes, coupledPatterns, hitsOpen, alternatingOf, hitOf}
 use Rattle.evaluator_values.specs.Colour.{valuesOf}
-use Rattle.evaluator_calls.specs.Stretch.{GoodStretch}
-use Rattle.evaluator_calls.proofs.StretchCases.{lies-good}
-use Rattle.evaluator_calls.specs.Calls.{chartMean}
+use Rattle.call_colour.specs.Stretch.{GoodStretch}
+use Rattle.call_colour.proofs.StretchCases.{lies-good}
+use Rattle.call_colour.specs.Calls.{chartMean}
 use Rattle.agreement.specs.CommonTail.{SameLast}
 use Rattle.agreement.specs.colour.Landmark.{ColourLandmark}
 use Rattle.agreement.specs.colour.Claim.{hitPatterns, Settled, ColourClaim}
@@ -38,7 +38,7 @@ record Shown : Type 0 where
   sixteenth : getD (hitOf tail) 7 0 + 16 ≡ getD (hitOf tail) 37 0 + 1
 
 shown : Shown
-unfolding scan after tabulate gathered opened groupCount groupNumbers sizesFrom groupSizes firstsFrom groupFirsts
+unfolding scan endState tabulate gathered opened groupCount groupNumbers sizesFrom groupSizes firstsFrom groupFirsts
     isNote notes noteIdx noteBefore previousNote continues opensStreak streakMarks streakOf streakLengths streakTypes
     opensPattern patternMarks coupledAt coupled patternsOpen firstLengths streakCounts patternTypes alternatingOf coupledPatterns
     coupledRun hitSize hitMarksAfter hitMarks hitsOpen hitOf

@@ -1,5 +1,4 @@
 -- The laws of this crate: the theorem whole, and the rooms `colour` and `rhythm`, which prove its parts. Those that are public are results of their own; the
--- others serve the proofs of this crate alone.
 pub mod TailsAgree
 pub mod TestLaws
 pub mod TailLaws

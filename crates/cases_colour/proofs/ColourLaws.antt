@@ -7,26 +7,26 @@ use Prim.Native.Nat.{ℕ, _+_, _-_, _*_, _≤_}
 use native.Mathlib.Omega.{arith}
 use lib.ListN.{length, take, drop, replicate}
 use lib.Ieee.{Float, binary64, toBits, ofBits}
-use Rattle.grouping_marks.specs.Over.{over}
-use Rattle.grouping_marks.proofs.OverLaws.{lent-part}
+use Rattle.lent.specs.Over.{over}
+use Rattle.lent.proofs.OverLaws.{lent-part}
 use Rattle.grouping_chart.specs.Chart.{Chart}
-use Rattle.grouping_chart.specs.Lent.{Outcome}
+use Rattle.grouping_chart.specs.Outcome.{Outcome}
 use Rattle.grouping_chart.specs.Settings.{baseSettings}
 use Rattle.grouping_chart.specs.declared.object.ObjectIndex.{ObjectIndex}
-use Rattle.evaluator_calls.specs.Calls.{Memory, colourOutcome, stretchOutcome}
-use Rattle.evaluator_calls.specs.declared.Colouring.{Colouring}
-use Rattle.evaluator_calls.specs.declared.Colouring.the-variants as colouring
-use Rattle.evaluator_calls.specs.declared.Stretching.{Stretching}
+use Rattle.call_colour.specs.Calls.{Memory, colourOutcome, stretchOutcome}
+use Rattle.call_colour.specs.declared.Colouring.{Colouring}
+use Rattle.call_colour.specs.declared.Colouring.the-variants as colouring
+use Rattle.call_colour.specs.declared.Stretching.{Stretching}
 use Rattle.vectors.specs.Case.{pairAt, columnSize, words}
 use Rattle.vectors.specs.Held.{Tells, Held}
 use Rattle.vectors.specs.Table.{entries}
 use Rattle.vectors.specs.declared.case.Head.{Head}
 use Rattle.vectors.specs.Form.{Formed, PartFormed}
-use Rattle.vectors.specs.Lent.{numberSentinel, floatSentinel, one, Cleared, Few}
+use Rattle.vectors.specs.Sentinel.{numberSentinel, floatSentinel, one, Cleared, Few}
 use Rattle.vectors.proofs.TableLaws.{entries-front}
 use Rattle.vectors.proofs.TellsLaws.{denied, tells-as, tells-both, tells-of}
 use Rattle.vectors.proofs.FormLaws.{ill-at, well-at}
-use Rattle.vectors.proofs.LentLaws.{ones-lent, work-lent, floats-lent}
+use Rattle.vectors.proofs.SentinelLaws.{ones-lent, work-lent, floats-lent}
 use Rattle.cases_colour.specs.Colour.{colourChart, colourLent, stretchOf, MeanIs, Answers, leaves, Answered, ValuesHeld, CallStored}
 use Rattle.cases_colour.specs.Colour.{ColourRoom, ColourForm, ColourHolds, StretchHolds}
 use Rattle.cases_colour.specs.declared.StoredStretch.{StoredStretch}

@@ -17,8 +17,8 @@ use mir.Syntax.{w64}
 use mir.Val.{SFits, toZ, ofZ}
 use mir.ValLaws.{toZ-pos}
 use Rattle.grouping_chart.specs.declared.object.ObjectIndex.{ObjectIndex}
-use Rattle.evaluator_calls.specs.declared.Stretching.{Stretching}
-use Rattle.evaluator_calls.specs.declared.Stretching.the-variants.{Done, Refused}
+use Rattle.call_colour.specs.declared.Stretching.{Stretching}
+use Rattle.call_colour.specs.declared.Stretching.the-variants.{Done, Refused}
 use Rattle.vectors.specs.Case.{pairAt, quadAt, wordAt}
 use Rattle.vectors.specs.Held.{Tells}
 use Rattle.vectors.proofs.TellsLaws.{denied, tells-as, tells-eqb}

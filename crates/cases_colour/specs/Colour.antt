@@ -8,19 +8,19 @@ use lib.Dec.{ltb}
 use lib.IntN.{ℤ, pos, negℤ}
 use lib.ListN.{length, replicate}
 use lib.Ieee.{binary64, toBits}
-use Rattle.grouping_marks.specs.Over.{part}
+use Rattle.lent.specs.Over.{part}
 use Rattle.grouping_chart.specs.Chart.{Chart}
 use Rattle.grouping_chart.specs.Settings.{baseSettings}
-use Rattle.evaluator_calls.specs.Calls.{Memory, colourOutcome, stretchOutcome}
-use Rattle.evaluator_calls.specs.declared.Colouring.the-variants as colouring
-use Rattle.evaluator_calls.specs.declared.Stretching.{Stretching}
-use Rattle.evaluator_calls.specs.declared.Stretching.the-variants as stretching
+use Rattle.call_colour.specs.Calls.{Memory, colourOutcome, stretchOutcome}
+use Rattle.call_colour.specs.declared.Colouring.the-variants as colouring
+use Rattle.call_colour.specs.declared.Stretching.{Stretching}
+use Rattle.call_colour.specs.declared.Stretching.the-variants as stretching
 use Rattle.vectors.specs.Case.{pairAt, quadAt, wordAt, columnSize, words}
 use Rattle.vectors.specs.Held.{Tells, Held}
 use Rattle.vectors.specs.Table.{entries}
 use Rattle.vectors.specs.declared.case.Head.{Head}
 use Rattle.vectors.specs.Form.{Formed, PartFormed, Holds}
-use Rattle.vectors.specs.Lent.{numberSentinel, floatSentinel, one, Cleared, Few}
+use Rattle.vectors.specs.Sentinel.{numberSentinel, floatSentinel, one, Cleared, Few}
 use Rattle.cases_colour.specs.declared.StoredStretch.{StoredStretch}
 use Rattle.cases_colour.specs.declared.Asked.{Asked}
 use Rattle.cases_colour.specs.declared.Asked.the-variants as asked

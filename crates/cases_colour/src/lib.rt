@@ -1,15 +1,16 @@
 // A stored case of colour, and of a stretch of its chart.
 ghost use mathlib.Core.Path.{_≡_};
 ghost use Prim.Native.Nat.{_+_, _*_, _≤_};
-ghost use Rattle.grouping_chart.specs.Lent.{chart, lent};
-ghost use Rattle.evaluator_calls.specs.Calls.{before, after};
-ghost use Rattle.evaluator_calls.specs.declared.Colouring.the-variants as colouring;
+ghost use Rattle.grouping_chart.specs.Chart.{chart};
+ghost use Rattle.lent.specs.Slice.{lent};
+ghost use Rattle.call_colour.specs.Calls.{before, after};
+ghost use Rattle.call_colour.specs.declared.Colouring.the-variants as colouring;
 ghost use Rattle.vectors.specs.Held.{Tells};
 ghost use Rattle.cases_colour.specs.Colour.{colourChart, colourLent, signedOf, stretchOf, MeanIs, Answered};
 ghost use Rattle.cases_colour.specs.Colour.{ValuesHeld, CallStored, ColourRoom, ColourForm};
 ghost use Rattle.cases_colour.specs.Colour.{ColourHolds, StretchHolds};
-use evaluator_calls::Colouring;
-use evaluator_calls::Stretching;
+use call_colour::Colouring;
+use call_colour::Stretching;
 use numeric::canonical::bits;
 use vectors::case;
 use vectors::case::Head;
@@ -19,9 +20,9 @@ use vectors::form::formed;
 use vectors::form::part_formed;
 use vectors::held;
 use vectors::held::both;
-use vectors::lent;
-use vectors::lent::FLOAT_SENTINEL;
-use vectors::lent::NUMBER_SENTINEL;
+use vectors::sentinel;
+use vectors::sentinel::FLOAT_SENTINEL;
+use vectors::sentinel::NUMBER_SENTINEL;
 
 // What is stored of a stretch: its two ends, the bits of its mean, and the tenths, whose sign is in their highest bit.
 pub struct StoredStretch {
@@ -97,10 +98,10 @@ fn answer_holds(
         (before value work scratch) (after value work scratch) r ⌝ }
 {
     match asked {
-        Asked::Colour => done(evaluator_calls::colour(kind, one, one, ratio, value, work, scratch)),
+        Asked::Colour => done(call_colour::colour(kind, one, one, ratio, value, work, scratch)),
         Asked::Stretched(s) => mean_holds(
             s,
-            evaluator_calls::stretch(kind, one, one, ratio, s.a, s.b, value, work, scratch),
+            call_colour::stretch(kind, one, one, ratio, s.a, s.b, value, work, scratch),
         ),
     }
 }
@@ -118,7 +119,7 @@ fn values_hold(
     ensures { λ r. ⌜ Tells r (ValuesHeld size n (lent body) (before value work scratch)) ⌝ }
 {
     let values = held::floats_held(body, 2 + n + size, n, FLOAT_SENTINEL, value);
-    let cleared = lent::work_cleared(n, work, scratch);
+    let cleared = sentinel::work_cleared(n, work, scratch);
     both(values, cleared)
 }
 

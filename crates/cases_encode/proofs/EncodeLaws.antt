@@ -7,23 +7,23 @@ use native.Mathlib.Omega.{arith}
 use lib.Dec.{eqb}
 use lib.ListN.{length, take, drop, replicate}
 use lib.Ieee.{Float}
-use Rattle.grouping_marks.specs.Over.{part}
-use Rattle.grouping_marks.proofs.OverLaws.{lent-part}
+use Rattle.lent.specs.Over.{part}
+use Rattle.lent.proofs.OverLaws.{lent-part}
 use Rattle.grouping_chart.specs.Chart.{Chart}
-use Rattle.grouping_chart.specs.Lent.{Outcome}
+use Rattle.grouping_chart.specs.Outcome.{Outcome}
 use Rattle.grouping_chart.specs.Settings.{baseSettings}
 use Rattle.grouping_chart.specs.declared.object.ObjectIndex.{ObjectIndex}
-use Rattle.grouping_encode.specs.Encode.{Memory, encodeOutcome}
-use Rattle.grouping_encode.specs.declared.Encoding.{Encoding}
-use Rattle.grouping_encode.specs.declared.Encoding.the-variants.{Done, Refused}
+use Rattle.call_encode.specs.Encode.{Memory, encodeOutcome}
+use Rattle.call_encode.specs.declared.Encoding.{Encoding}
+use Rattle.call_encode.specs.declared.Encoding.the-variants.{Done, Refused}
 use Rattle.vectors.specs.Case.{pairAt, columnSize, column}
 use Rattle.vectors.specs.Held.{Tells, Held}
 use Rattle.vectors.specs.declared.case.Head.{Head}
 use Rattle.vectors.specs.Form.{Formed}
-use Rattle.vectors.specs.Lent.{numberSentinel, byteSentinel, floatSentinel, one, Columns, Cleared, Few}
+use Rattle.vectors.specs.Sentinel.{numberSentinel, byteSentinel, floatSentinel, one, Columns, Cleared, Few}
 use Rattle.vectors.proofs.TellsLaws.{denied, tells-as, tells-both, tells-of, tells-eqb}
 use Rattle.vectors.proofs.FormLaws.{ill-at, well-at}
-use Rattle.vectors.proofs.LentLaws.{ones-lent, numbers-lent, bytes-lent, work-lent, floats-lent}
+use Rattle.vectors.proofs.SentinelLaws.{ones-lent, numbers-lent, bytes-lent, work-lent, floats-lent}
 use Rattle.cases_encode.specs.Encode.{encodeChart, encodeLent, EncodeStored, EncodeHolds}
 
 -- ---- the answer

@@ -5,18 +5,18 @@ use mathlib.Core.List.{List}
 use Prim.Native.Nat.{ℕ, _+_, _*_, _≤_}
 use lib.ListN.{length, replicate}
 use lib.Ieee.{Float}
-use Rattle.grouping_marks.specs.Over.{part}
+use Rattle.lent.specs.Over.{part}
 use Rattle.grouping_chart.specs.Chart.{Chart}
-use Rattle.grouping_chart.specs.Lent.{Outcome}
+use Rattle.grouping_chart.specs.Outcome.{Outcome}
 use Rattle.grouping_chart.specs.Settings.{baseSettings}
-use Rattle.grouping_encode.specs.Encode.{Memory, encodeOutcome}
-use Rattle.grouping_encode.specs.declared.Encoding.{Encoding}
-use Rattle.grouping_encode.specs.declared.Encoding.the-variants.{Done}
+use Rattle.call_encode.specs.Encode.{Memory, encodeOutcome}
+use Rattle.call_encode.specs.declared.Encoding.{Encoding}
+use Rattle.call_encode.specs.declared.Encoding.the-variants.{Done}
 use Rattle.vectors.specs.Case.{pairAt, columnSize, column}
 use Rattle.vectors.specs.Held.{Held}
 use Rattle.vectors.specs.declared.case.Head.{Head}
 use Rattle.vectors.specs.Form.{Formed, Holds}
-use Rattle.vectors.specs.Lent.{numberSentinel, byteSentinel, floatSentinel, one, Cleared, Few}
+use Rattle.vectors.specs.Sentinel.{numberSentinel, byteSentinel, floatSentinel, one, Cleared, Few}
 
 -- the kinds are stored behind a number; starts, deltas and ratios are not, since encode answers by the kinds alone
 unfoldable pub encodeChart : ℕ → List ℕ → Chart

@@ -2,23 +2,25 @@
 ghost use mathlib.Core.Path.{_≡_};
 ghost use Prim.Native.Nat.{_≤_};
 ghost use Rattle.grouping_chart.specs.Settings.{baseSettings};
-ghost use Rattle.grouping_chart.specs.Lent.{outcome, chart, lent};
-ghost use Rattle.grouping_encode.specs.Encode.{before, encodeOutcome};
-ghost use Rattle.grouping_encode.specs.declared.Encoding.the-variants as encoding;
+ghost use Rattle.grouping_chart.specs.Outcome.{outcome};
+ghost use Rattle.grouping_chart.specs.Chart.{chart};
+ghost use Rattle.lent.specs.Slice.{lent};
+ghost use Rattle.call_encode.specs.Encode.{before, encodeOutcome};
+ghost use Rattle.call_encode.specs.declared.Encoding.the-variants as encoding;
 ghost use Rattle.vectors.specs.Case.{pairAt};
 ghost use Rattle.vectors.specs.Held.{Tells};
 ghost use Rattle.cases_encode.specs.Encode.{encodeChart, encodeLent, EncodeStored};
 ghost use Rattle.cases_encode.specs.Encode.{EncodeCompared, EncodeRoom, EncodeHolds};
-use grouping_encode::Encoding;
+use call_encode::Encoding;
 use vectors::case::Head;
 use vectors::form::ENCODE;
 use vectors::form::formed;
 use vectors::held;
 use vectors::held::both;
-use vectors::lent;
-use vectors::lent::BYTE_SENTINEL;
-use vectors::lent::FLOAT_SENTINEL;
-use vectors::lent::NUMBER_SENTINEL;
+use vectors::sentinel;
+use vectors::sentinel::BYTE_SENTINEL;
+use vectors::sentinel::FLOAT_SENTINEL;
+use vectors::sentinel::NUMBER_SENTINEL;
 
 // Whether the chart is accepted, with as many hit patterns as the body's first number says.
 fn count_holds(body: &[u8], answer: Encoding) -> bool
@@ -52,11 +54,11 @@ fn outcome_holds(
     let n = h.objects;
     let at = 2 + n;
     let count = count_holds(body, answer);
-    let streaks = lent::columns_held(body, at, size, h.width, n, streak, inner);
-    let patterns = lent::columns_held(body, at + 2 * size, size, h.width, n, pattern, outer);
+    let streaks = sentinel::columns_held(body, at, size, h.width, n, streak, inner);
+    let patterns = sentinel::columns_held(body, at + 2 * size, size, h.width, n, pattern, outer);
     let hits = held::column_held(body, at + 4 * size, h.width, n, NUMBER_SENTINEL, hit);
     let intervals = held::bytes_held(body, at + 5 * size, n, BYTE_SENTINEL, interval);
-    let cleared = lent::work_cleared(n, work, scratch);
+    let cleared = sentinel::work_cleared(n, work, scratch);
     let first = both(count, both(streaks, patterns));
     let rest = both(both(hits, intervals), cleared);
     both(first, rest)
@@ -83,7 +85,7 @@ fn lent_holds(
         (encodeOutcome baseSettings (chart kind one one one)
         (before streak inner pattern outer hit interval work scratch))) ⌝ }
 {
-    let got = grouping_encode::encode(
+    let got = call_encode::encode(
         kind,
         one,
         one,

@@ -7,20 +7,20 @@ use lib.Dec.{eqb}
 use lib.ListN.{take, replicate}
 use lib.Ieee.{Float, binary64, toBits, ofBits}
 use Rattle.grouping_chart.specs.Chart.{Chart}
-use Rattle.grouping_chart.specs.Lent.{Outcome}
+use Rattle.grouping_chart.specs.Outcome.{Outcome}
 use Rattle.grouping_chart.specs.Settings.{baseSettings}
 use Rattle.grouping_chart.specs.declared.object.ObjectIndex.{ObjectIndex}
 use Rattle.grouping_same_rhythm.specs.declared.own.Own.{Own}
 use Rattle.grouping_same_rhythm.specs.declared.own.Own.the-variants.{Absent, Millis}
-use Rattle.evaluator_record.specs.Calls.{Memory, recordOutcome}
-use Rattle.evaluator_record.specs.declared.GroupRecord.{GroupRecord}
-use Rattle.evaluator_record.specs.declared.Recording.{Recording}
-use Rattle.evaluator_record.specs.declared.Recording.the-variants.{Done, Refused}
+use Rattle.call_record.specs.Calls.{Memory, recordOutcome}
+use Rattle.call_record.specs.declared.GroupRecord.{GroupRecord}
+use Rattle.call_record.specs.declared.Recording.{Recording}
+use Rattle.call_record.specs.declared.Recording.the-variants.{Done, Refused}
 use Rattle.vectors.specs.Case.{pairAt, wordAt}
 use Rattle.vectors.specs.Held.{Tells}
 use Rattle.vectors.specs.declared.case.Head.{Head}
-use Rattle.vectors.specs.Lent.{numberSentinel, floatSentinel, Cleared, Few}
-use Rattle.vectors.proofs.LentLaws.{work-lent, floats-lent}
+use Rattle.vectors.specs.Sentinel.{numberSentinel, floatSentinel, Cleared, Few}
+use Rattle.vectors.proofs.SentinelLaws.{work-lent, floats-lent}
 use Rattle.vectors.proofs.TellsLaws.{denied, tells-as, tells-both, tells-four, tells-of, tells-eqb-as}
 use Rattle.cases_rhythm.specs.Rhythm.{rhythmChart, TimesRead}
 use Rattle.cases_rhythm.proofs.RhythmLaws.{made-chart, zeros, chart-is}

@@ -6,18 +6,18 @@ use Prim.Native.Nat.{ℕ, _+_, _*_}
 use lib.ListN.{length, replicate}
 use lib.Ieee.{binary64, toBits, ofBits}
 use Rattle.grouping_chart.specs.Chart.{Chart}
-use Rattle.grouping_chart.specs.Lent.{Outcome}
+use Rattle.grouping_chart.specs.Outcome.{Outcome}
 use Rattle.grouping_chart.specs.Settings.{baseSettings}
 use Rattle.grouping_same_rhythm.specs.declared.own.Own.{Own}
 use Rattle.grouping_same_rhythm.specs.declared.own.Own.the-variants.{Absent, Millis}
-use Rattle.evaluator_record.specs.Calls.{Memory, recordOutcome}
-use Rattle.evaluator_record.specs.declared.GroupRecord.{GroupRecord}
-use Rattle.evaluator_record.specs.declared.Recording.{Recording}
-use Rattle.evaluator_record.specs.declared.Recording.the-variants.{Done, Refused}
+use Rattle.call_record.specs.Calls.{Memory, recordOutcome}
+use Rattle.call_record.specs.declared.GroupRecord.{GroupRecord}
+use Rattle.call_record.specs.declared.Recording.{Recording}
+use Rattle.call_record.specs.declared.Recording.the-variants.{Done, Refused}
 use Rattle.vectors.specs.Case.{pairAt, wordAt}
 use Rattle.vectors.specs.declared.case.Head.{Head}
 use Rattle.vectors.specs.Form.{PartFormed, Holds}
-use Rattle.vectors.specs.Lent.{numberSentinel, floatSentinel, Cleared}
+use Rattle.vectors.specs.Sentinel.{numberSentinel, floatSentinel, Cleared}
 use Rattle.cases_rhythm.specs.Rhythm.{rhythmChart, RhythmForm}
 
 -- so many places to spare in each slice

@@ -5,13 +5,14 @@ ghost use lib.Ieee as Ieee;
 ghost use lib.Ieee.{binary64};
 ghost use Rattle.vectors.specs.Case.{pairAt, wordAt};
 ghost use Rattle.vectors.specs.Held.{Tells};
-ghost use Rattle.grouping_chart.specs.Lent.{chart, lent};
-ghost use Rattle.evaluator_record.specs.Calls.{before};
+ghost use Rattle.grouping_chart.specs.Chart.{chart};
+ghost use Rattle.lent.specs.Slice.{lent};
+ghost use Rattle.call_record.specs.Calls.{before};
 ghost use Rattle.cases_rhythm.specs.Rhythm.{rhythmChart, RhythmRoom};
 ghost use Rattle.cases_record.specs.Record.{recordLent, askedOutcome, OwnIs, PlacesAre, ScoresAre};
 ghost use Rattle.cases_record.specs.Record.{RecordIs, RecordStored, RecordHolds};
-use evaluator_record::GroupRecord;
-use evaluator_record::Recording;
+use call_record::GroupRecord;
+use call_record::Recording;
 use grouping_same_rhythm::own::Own;
 use numeric::canonical::bits;
 use vectors::case;
@@ -19,9 +20,9 @@ use vectors::case::Head;
 use vectors::form::RECORD;
 use vectors::form::part_formed;
 use vectors::held::both;
-use vectors::lent;
-use vectors::lent::FLOAT_SENTINEL;
-use vectors::lent::NUMBER_SENTINEL;
+use vectors::sentinel;
+use vectors::sentinel::FLOAT_SENTINEL;
+use vectors::sentinel::NUMBER_SENTINEL;
 
 // Whether a float has the bits that stand at a place.
 fn bits_hold(part: &[u8], at: usize, x: f64) -> bool
@@ -109,10 +110,10 @@ fn lent_holds(
 {
     let group = case::pair_at(part, 0) as usize;
     let window = case::float_of(case::word_at(part, 10));
-    let answer = evaluator_record::record(kind, start, delta, one, group, window, work, scratch);
+    let answer = call_record::record(kind, start, delta, one, group, window, work, scratch);
     both(
         fields_hold(part, answer),
-        lent::work_cleared(n, work, scratch),
+        sentinel::work_cleared(n, work, scratch),
     )
 }
 

@@ -7,22 +7,22 @@ use native.Mathlib.Omega.{arith}
 use lib.Dec.{eqb}
 use lib.ListN.{take, drop, replicate}
 use lib.Ieee.{Float, binary64, ofBits}
-use Rattle.grouping_marks.proofs.OverLaws.{lent-part}
+use Rattle.lent.proofs.OverLaws.{lent-part}
 use Rattle.grouping_chart.specs.Chart.{Chart}
-use Rattle.grouping_chart.specs.Lent.{Outcome}
+use Rattle.grouping_chart.specs.Outcome.{Outcome}
 use Rattle.grouping_chart.specs.Settings.{baseSettings}
 use Rattle.grouping_chart.specs.declared.object.ObjectIndex.{ObjectIndex}
-use Rattle.grouping_rhythm.specs.Rhythm.{Memory, rhythmOutcome}
-use Rattle.grouping_rhythm.specs.declared.Grouping.{Grouping}
-use Rattle.grouping_rhythm.specs.declared.Grouping.the-variants.{Done, Refused}
+use Rattle.call_rhythm.specs.Rhythm.{Memory, rhythmOutcome}
+use Rattle.call_rhythm.specs.declared.Grouping.{Grouping}
+use Rattle.call_rhythm.specs.declared.Grouping.the-variants.{Done, Refused}
 use Rattle.vectors.specs.Case.{pairAt}
 use Rattle.vectors.specs.Held.{Tells}
 use Rattle.vectors.specs.Table.{entries}
 use Rattle.vectors.specs.declared.case.Head.{Head}
-use Rattle.vectors.specs.Lent.{numberSentinel, floatSentinel, one, Columns, Cleared, Few}
+use Rattle.vectors.specs.Sentinel.{numberSentinel, floatSentinel, one, Columns, Cleared, Few}
 use Rattle.vectors.proofs.TableLaws.{entries-front}
 use Rattle.vectors.proofs.TellsLaws.{denied, tells-as, tells-both, tells-of, tells-eqb}
-use Rattle.vectors.proofs.LentLaws.{ones-lent, numbers-lent, work-lent, floats-lent}
+use Rattle.vectors.proofs.SentinelLaws.{ones-lent, numbers-lent, work-lent, floats-lent}
 use Rattle.cases_rhythm.specs.Rhythm.{rhythmChart, rhythmLent, TimesRead, RhythmRoom, RhythmStored, RhythmForm, RhythmHolds}
 
 -- ---- the answer of rhythm

@@ -5,18 +5,18 @@ use mathlib.Core.List.{List}
 use Prim.Native.Nat.{ℕ, _+_, _*_, _≤_}
 use lib.ListN.{length, replicate}
 use lib.Ieee.{Float}
-use Rattle.grouping_marks.specs.Over.{over, part}
+use Rattle.lent.specs.Over.{over, part}
 use Rattle.grouping_chart.specs.Chart.{Chart}
-use Rattle.grouping_chart.specs.Lent.{Outcome}
+use Rattle.grouping_chart.specs.Outcome.{Outcome}
 use Rattle.grouping_chart.specs.Settings.{baseSettings}
-use Rattle.grouping_rhythm.specs.Rhythm.{Memory, rhythmOutcome}
-use Rattle.grouping_rhythm.specs.declared.Grouping.{Grouping}
-use Rattle.grouping_rhythm.specs.declared.Grouping.the-variants.{Done}
+use Rattle.call_rhythm.specs.Rhythm.{Memory, rhythmOutcome}
+use Rattle.call_rhythm.specs.declared.Grouping.{Grouping}
+use Rattle.call_rhythm.specs.declared.Grouping.the-variants.{Done}
 use Rattle.vectors.specs.Case.{pairAt}
 use Rattle.vectors.specs.Table.{entries}
 use Rattle.vectors.specs.declared.case.Head.{Head}
 use Rattle.vectors.specs.Form.{Formed, Holds}
-use Rattle.vectors.specs.Lent.{numberSentinel, floatSentinel, one, Columns, Cleared, Few}
+use Rattle.vectors.specs.Sentinel.{numberSentinel, floatSentinel, one, Columns, Cleared, Few}
 
 -- ---- what is stored
 

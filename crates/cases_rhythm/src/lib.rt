@@ -2,22 +2,24 @@
 ghost use mathlib.Core.Path.{_≡_};
 ghost use Prim.Native.Nat.{_≤_};
 ghost use Rattle.grouping_chart.specs.Settings.{baseSettings};
-ghost use Rattle.grouping_chart.specs.Lent.{outcome, chart, lent, left};
-ghost use Rattle.grouping_rhythm.specs.Rhythm.{before, rhythmOutcome};
-ghost use Rattle.grouping_rhythm.specs.declared.Grouping.the-variants as grouping;
+ghost use Rattle.grouping_chart.specs.Outcome.{outcome};
+ghost use Rattle.grouping_chart.specs.Chart.{chart};
+ghost use Rattle.lent.specs.Slice.{lent, left};
+ghost use Rattle.call_rhythm.specs.Rhythm.{before, rhythmOutcome};
+ghost use Rattle.call_rhythm.specs.declared.Grouping.the-variants as grouping;
 ghost use Rattle.vectors.specs.Case.{pairAt};
 ghost use Rattle.vectors.specs.Held.{Tells};
 ghost use Rattle.cases_rhythm.specs.Rhythm.{rhythmChart, rhythmLent, TimesRoom, TimesRead};
 ghost use Rattle.cases_rhythm.specs.Rhythm.{RhythmRoom, RhythmStored, RhythmForm, RhythmHolds};
-use grouping_rhythm::Grouping;
+use call_rhythm::Grouping;
 use vectors::case;
 use vectors::case::Head;
 use vectors::form::RHYTHM;
 use vectors::form::formed;
 use vectors::held::both;
-use vectors::lent;
-use vectors::lent::FLOAT_SENTINEL;
-use vectors::lent::NUMBER_SENTINEL;
+use vectors::sentinel;
+use vectors::sentinel::FLOAT_SENTINEL;
+use vectors::sentinel::NUMBER_SENTINEL;
 use vectors::table;
 
 // Reads the starts and the deltas.
@@ -56,8 +58,8 @@ fn outcome_holds(
     ensures { λ r. ⌜ Tells r (RhythmStored n (lent body) (outcome answer (before group pattern work scratch))) ⌝ }
 {
     let counts = counts_hold(body, answer);
-    let numbers = lent::columns_held(body, 4 + 17 * n, 2 * n, 2, n, group, pattern);
-    let cleared = lent::work_cleared(n, work, scratch);
+    let numbers = sentinel::columns_held(body, 4 + 17 * n, 2 * n, 2, n, group, pattern);
+    let cleared = sentinel::work_cleared(n, work, scratch);
     both(counts, both(numbers, cleared))
 }
 
@@ -78,7 +80,7 @@ fn lent_holds(
     ensures { λ r. ⌜ Tells r (RhythmStored n (lent body)
         (rhythmOutcome baseSettings (chart kind start delta one) (before group pattern work scratch))) ⌝ }
 {
-    let answer = grouping_rhythm::rhythm(kind, start, delta, one, group, pattern, work, scratch);
+    let answer = call_rhythm::rhythm(kind, start, delta, one, group, pattern, work, scratch);
     outcome_holds(n, body, answer, group, pattern, work, scratch)
 }
 

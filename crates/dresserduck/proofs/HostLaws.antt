@@ -1,6 +1,6 @@
 -- A call's own outcome, its answer turned into a record for the host, is the outcome for the host.
 use mathlib.Core.Path.{_≡_, ap, _∙_}
-use Rattle.grouping_chart.specs.Lent.{Outcome, outcome}
+use Rattle.grouping_chart.specs.Outcome.{Outcome, outcome}
 use Rattle.dresserduck.specs.Host.{forHost}
 
 pub for-host : {Answer Record Memory : Type 0} (f : Answer → Record) {a : Answer} {m : Memory} {r : Record} {o : Outcome Answer Memory}

@@ -2,9 +2,9 @@
 use mathlib.Core.Path.{_≡_, sym, ap, _∙_}
 use Prim.Native.Nat.{ℕ}
 use lib.Ieee.{binary64, toBits}
-use Rattle.evaluator_record.specs.declared.GroupRecord.{GroupRecord}
-use Rattle.evaluator_record.specs.declared.Recording.{Recording}
-use Rattle.evaluator_record.specs.declared.Recording.the-variants.{Done}
+use Rattle.call_record.specs.declared.GroupRecord.{GroupRecord}
+use Rattle.call_record.specs.declared.Recording.{Recording}
+use Rattle.call_record.specs.declared.Recording.the-variants.{Done}
 use Rattle.dresserduck.specs.Host.{hasOwn, ownBits, recordedOf}
 use Rattle.dresserduck.specs.declared.Recorded.{Recorded}
 

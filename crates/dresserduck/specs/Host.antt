@@ -3,19 +3,19 @@
 use Prim.Native.Nat.{ℕ}
 use lib.IntN.{pos}
 use lib.Ieee.{binary64, ofBits, toBits}
-use Rattle.grouping_chart.specs.Lent.{Outcome, outcome}
-use Rattle.grouping_encode.specs.declared.Encoding.{Encoding}
-use Rattle.grouping_encode.specs.declared.Encoding.the-variants as encoding
-use Rattle.evaluator_calls.specs.declared.Colouring.{Colouring}
-use Rattle.evaluator_calls.specs.declared.Colouring.the-variants as colouring
-use Rattle.evaluator_calls.specs.declared.Stretching.{Stretching}
-use Rattle.evaluator_calls.specs.declared.Stretching.the-variants as stretching
+use Rattle.grouping_chart.specs.Outcome.{Outcome, outcome}
+use Rattle.call_encode.specs.declared.Encoding.{Encoding}
+use Rattle.call_encode.specs.declared.Encoding.the-variants as encoding
+use Rattle.call_colour.specs.declared.Colouring.{Colouring}
+use Rattle.call_colour.specs.declared.Colouring.the-variants as colouring
+use Rattle.call_colour.specs.declared.Stretching.{Stretching}
+use Rattle.call_colour.specs.declared.Stretching.the-variants as stretching
 use Rattle.grouping_same_rhythm.specs.declared.own.Own.{Own}
 use Rattle.grouping_same_rhythm.specs.declared.own.Own.the-variants.{Absent, Millis}
-use Rattle.grouping_rhythm.specs.declared.Grouping.{Grouping}
-use Rattle.grouping_rhythm.specs.declared.Grouping.the-variants as grouping
-use Rattle.evaluator_record.specs.declared.Recording.{Recording}
-use Rattle.evaluator_record.specs.declared.Recording.the-variants as record-answer
+use Rattle.call_rhythm.specs.declared.Grouping.{Grouping}
+use Rattle.call_rhythm.specs.declared.Grouping.the-variants as grouping
+use Rattle.call_record.specs.declared.Recording.{Recording}
+use Rattle.call_record.specs.declared.Recording.the-variants as record-answer
 use Rattle.dresserduck.specs.declared.Encoded.{Encoded}
 use Rattle.dresserduck.specs.declared.Coloured.{Coloured}
 use Rattle.dresserduck.specs.declared.Stretched.{Stretched}

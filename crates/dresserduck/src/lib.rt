@@ -1,19 +1,20 @@
 // The calls for C and Rust. Each hands its slices on and turns the answer into a record of plain numbers.
 ghost use mathlib.Core.Path.{_≡_};
 ghost use Rattle.grouping_chart.specs.Settings.{baseSettings};
-ghost use Rattle.grouping_chart.specs.Lent.{outcome, chart};
-ghost use Rattle.grouping_encode.specs.Encode as encode;
-ghost use Rattle.evaluator_calls.specs.Calls as calls;
-ghost use Rattle.grouping_rhythm.specs.Rhythm as rhythm;
-ghost use Rattle.evaluator_record.specs.Calls as recording;
-ghost use Rattle.evaluator_record.specs.declared.Recording.the-variants as answer;
+ghost use Rattle.grouping_chart.specs.Outcome.{outcome};
+ghost use Rattle.grouping_chart.specs.Chart.{chart};
+ghost use Rattle.call_encode.specs.Encode as encode;
+ghost use Rattle.call_colour.specs.Calls as calls;
+ghost use Rattle.call_rhythm.specs.Rhythm as rhythm;
+ghost use Rattle.call_record.specs.Calls as recording;
+ghost use Rattle.call_record.specs.declared.Recording.the-variants as answer;
 ghost use Rattle.dresserduck.specs.Host.{encodedOf, colouredOf, stretchedOf, groupedOf, recordedOf};
 ghost use Rattle.dresserduck.specs.Host.{hasOwn, ownBits, forHost};
-use evaluator_calls::Colouring;
-use evaluator_calls::Stretching;
-use evaluator_record::Recording;
-use grouping_encode::Encoding;
-use grouping_rhythm::Grouping;
+use call_colour::Colouring;
+use call_colour::Stretching;
+use call_encode::Encoding;
+use call_record::Recording;
+use call_rhythm::Grouping;
 use grouping_same_rhythm::own::Own;
 use numeric::canonical::bits;
 
@@ -64,7 +65,7 @@ pub extern "C" fn dresserduck_encode(
         ≡ forHost encodedOf (encode.encodeOutcome baseSettings (chart kind start delta ratio)
         (encode.before streak «streak_place» pattern «pattern_place» hit interval work scratch)) ⌝ }
 {
-    let answer = grouping_encode::encode(
+    let answer = call_encode::encode(
         kind,
         start,
         delta,
@@ -120,7 +121,7 @@ pub extern "C" fn dresserduck_colour(
         ≡ forHost colouredOf (calls.colourOutcome baseSettings (chart kind start delta ratio)
         (calls.before value work scratch)) ⌝ }
 {
-    let answer = evaluator_calls::colour(kind, start, delta, ratio, value, work, scratch);
+    let answer = call_colour::colour(kind, start, delta, ratio, value, work, scratch);
     coloured_of(answer)
 }
 
@@ -171,7 +172,7 @@ pub extern "C" fn dresserduck_stretch(
         ≡ forHost stretchedOf (calls.stretchOutcome baseSettings (chart kind start delta ratio) a b
         (calls.before value work scratch)) ⌝ }
 {
-    let answer = evaluator_calls::stretch(kind, start, delta, ratio, a, b, value, work, scratch);
+    let answer = call_colour::stretch(kind, start, delta, ratio, a, b, value, work, scratch);
     stretched_of(answer)
 }
 
@@ -221,7 +222,7 @@ pub extern "C" fn dresserduck_rhythm(
         ≡ forHost groupedOf (rhythm.rhythmOutcome baseSettings (chart kind start delta ratio)
         (rhythm.before group pattern work scratch)) ⌝ }
 {
-    let answer = grouping_rhythm::rhythm(kind, start, delta, ratio, group, pattern, work, scratch);
+    let answer = call_rhythm::rhythm(kind, start, delta, ratio, group, pattern, work, scratch);
     grouped_of(answer)
 }
 
@@ -317,6 +318,6 @@ pub extern "C" fn dresserduck_record(
         ≡ forHost recordedOf (recording.recordOutcome baseSettings (chart kind start delta ratio) group window
         (recording.before work scratch)) ⌝ }
 {
-    let answer = evaluator_record::record(kind, start, delta, ratio, group, window, work, scratch);
+    let answer = call_record::record(kind, start, delta, ratio, group, window, work, scratch);
     recorded_of(answer)
 }

@@ -8,11 +8,11 @@ use borrow.Author.Tests.{le-ltb}
 use lib.Dec.{eqb}
 use lib.ListN.{getD}
 use lib.Ieee.{Float, nan, binary64, mul}
-use Rattle.grouping_color.specs.MonoStreak.{streakOf}
-use Rattle.grouping_color.specs.Preprocessor.{streakPlaceOf, alternatingOf, patternPlaceOf, hitOf, intervalOf}
-use Rattle.evaluator_color.specs.Color.{objectSum}
-use Rattle.evaluator_color.specs.RatioPenalty.{ratioPenalty}
-use Rattle.evaluator_color.proofs.PenaltyCases.{tested}
+use Rattle.grouping_colour.specs.MonoStreak.{streakOf}
+use Rattle.grouping_preprocessor.specs.Preprocessor.{streakPlaceOf, alternatingOf, patternPlaceOf, hitOf, intervalOf}
+use Rattle.evaluator_colour.specs.Color.{objectSum}
+use Rattle.evaluator_colour.specs.RatioPenalty.{ratioPenalty}
+use Rattle.evaluator_colour.proofs.PenaltyCases.{tested}
 use Rattle.evaluator_values.specs.Colour.{isFirst, standingAt, colourAt}
 
 -- the same object of two lists of group numbers, by its number and the one before

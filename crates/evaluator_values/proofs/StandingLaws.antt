@@ -7,10 +7,10 @@ use borrow.Author.Tests.{eq-eqb, ne-eqb}
 use lib.Dec.{eqb}
 use lib.ListN.{length, getD}
 use lib.Ieee.{Float, nan}
-use Rattle.grouping_marks.proofs.FillLaws.{length-tabulate, getD-tabulate}
-use Rattle.evaluator_color.specs.declared.Standing.{Standing}
+use Rattle.lent.proofs.FillLaws.{length-tabulate, getD-tabulate}
+use Rattle.evaluator_colour.specs.declared.Standing.{Standing}
 use Rattle.evaluator_values.specs.Colour.{isFirst, standingAt, colourAt, colourValues}
-use Rattle.evaluator_values.specs.Passes.{StandingIs}
+use Rattle.evaluator_values.specs.passes.Tables.{StandingIs}
 
 -- ---- the first object of a group
 pub start-first : (numbers : List ℕ) (i : ℕ) → i ≡ 0 → true ≡ isFirst numbers i

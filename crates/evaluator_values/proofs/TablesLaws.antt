@@ -4,17 +4,19 @@ use mathlib.Core.List.{List}
 use Prim.Native.Nat.{ℕ, _+_, _*_, _<_}
 use native.Mathlib.Omega.{arith}
 use lib.ListN.{length, getD}
-use Rattle.grouping_marks.specs.Over.{part}
-use Rattle.grouping_marks.specs.Scan.{gathered}
-use Rattle.grouping_marks.proofs.OverLaws.{getD-part}
-use Rattle.grouping_marks.proofs.FillLaws.{getD-gathered}
-use Rattle.grouping_color.specs.MonoStreak.{streakOf}
-use Rattle.grouping_color.specs.Preprocessor.{hitIntervals, streakPlaceOf, alternatingOf, patternPlaceOf, hitOf, intervalOf}
-use Rattle.grouping_color.proofs.BoundLaws.{streakPlaceOf-looked, alternatingOf-looked, patternPlaceOf-looked, hitOf-looked, intervalOf-looked, length-streakOf}
-use Rattle.grouping_color.proofs.BoundLaws.{length-alternatingOf, length-hitOf, streak-below, alternatingOf-below, hitOf-below}
-use Rattle.grouping_preprocessor.specs.Passes.{Regions, Tables}
+use Rattle.lent.specs.Over.{part}
+use Rattle.lent.specs.Scan.{gathered}
+use Rattle.lent.proofs.OverLaws.{getD-part}
+use Rattle.lent.proofs.FillLaws.{getD-gathered}
+use Rattle.grouping_colour.specs.MonoStreak.{streakOf}
+use Rattle.grouping_preprocessor.specs.Preprocessor.{hitIntervals, streakPlaceOf, alternatingOf, patternPlaceOf, hitOf, intervalOf}
+use Rattle.grouping_preprocessor.proofs.BoundLaws.{streakPlaceOf-looked, alternatingOf-looked, patternPlaceOf-looked, hitOf-looked, intervalOf-looked}
+use Rattle.grouping_colour.proofs.StreakListLaws.{length-streakOf}
+use Rattle.grouping_preprocessor.proofs.BoundLaws.{length-alternatingOf, length-hitOf, alternatingOf-below, hitOf-below}
+use Rattle.grouping_colour.proofs.StreakListLaws.{streak-below}
+use Rattle.grouping_preprocessor.specs.passes.Steps.{Regions, Tables}
 use Rattle.grouping_preprocessor.specs.declared.Levels.{Levels}
-use Rattle.evaluator_values.specs.Passes.{Tabled, ObjectIn, NumbersAt}
+use Rattle.evaluator_values.specs.passes.Tables.{Tabled, ObjectIn, NumbersAt}
 use Rattle.evaluator_values.specs.declared.Numbers.{Numbers}
 
 -- ---- the encoder's answer says where its tables lie

@@ -5,14 +5,14 @@ use mathlib.Core.List.{List}
 use lib.Dec.{eqb}
 use lib.ListN.{length, getD}
 use lib.Ieee.{Float, nan, binary64, mul}
-use Rattle.grouping_marks.specs.Scan.{tabulate}
+use Rattle.lent.specs.Scan.{tabulate}
 use Rattle.grouping_chart.specs.Chart.{Chart}
 use Rattle.grouping_chart.specs.Settings.{Settings}
-use Rattle.grouping_color.specs.MonoStreak.{streakOf}
-use Rattle.grouping_color.specs.Preprocessor.{streakPlaceOf, alternatingOf, patternPlaceOf, hitOf, intervalOf}
-use Rattle.evaluator_color.specs.declared.Standing.{Standing}
-use Rattle.evaluator_color.specs.Color.{objectSum}
-use Rattle.evaluator_color.specs.RatioPenalty.{ratioPenalty}
+use Rattle.grouping_colour.specs.MonoStreak.{streakOf}
+use Rattle.grouping_preprocessor.specs.Preprocessor.{streakPlaceOf, alternatingOf, patternPlaceOf, hitOf, intervalOf}
+use Rattle.evaluator_colour.specs.declared.Standing.{Standing}
+use Rattle.evaluator_colour.specs.Color.{objectSum}
+use Rattle.evaluator_colour.specs.RatioPenalty.{ratioPenalty}
 
 -- whether object i is the first of its group, by each object's group number
 unfoldable pub isFirst : List ℕ → ℕ → Bool

@@ -3,10 +3,10 @@ ghost use mathlib.Core.Path.{_≡_};
 ghost use Prim.Native.Nat.{_-_, _<_, _≤_};
 ghost use lib.ListN.{length, getD};
 ghost use lib.Ieee.{nan};
-ghost use Rattle.grouping_marks.specs.Over.{over};
+ghost use Rattle.lent.specs.Over.{over};
 ghost use Rattle.evaluator_values.specs.Colour.{colourAt, colourValues};
-ghost use Rattle.evaluator_values.specs.Passes.{ObjectIn, NumbersAt, StandingIs, Lent};
-use evaluator_color::Standing;
+ghost use Rattle.evaluator_values.specs.passes.Tables.{ObjectIn, NumbersAt, StandingIs, Lent};
+use evaluator_colour::Standing;
 use grouping_chart::object::ObjectIndex;
 use grouping_preprocessor::Levels;
 
@@ -91,11 +91,11 @@ fn value_at(
     requires { ⌜ Lent (now table) (now kind) (now ratio) (now w) k ⌝ ∗ ⌜ idx .0 < length (now kind) ⌝ }
     ensures { λ r. ⌜ r ≡ colourAt (k .limit) tolerance (now (kind .entry)) (now (ratio .entry)) (idx .0) ⌝ }
 {
-    let sum = evaluator_color::object_sum(table, standing_at(kind, w, k, idx));
+    let sum = evaluator_colour::object_sum(table, standing_at(kind, w, k, idx));
     let i = idx.0;
     let c = ratio[i];
     let p = earlier_ratio(ratio, idx);
-    sum * evaluator_color::ratio_penalty(idx, c, p, tolerance)
+    sum * evaluator_colour::ratio_penalty(idx, c, p, tolerance)
 }
 
 // Fills the colour value of each object.

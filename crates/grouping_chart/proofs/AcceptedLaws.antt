@@ -14,7 +14,7 @@ use Rattle.grouping_chart.specs.declared.chart.Verdict.the-variants.{Acc
 use Rattle.grouping_chart.specs.Chart.{Chart, SameLengths, equallyLong}
 use Rattle.numeric.specs.Range.{within, earliest, latest, leastRatio, greatestRatio}
 use Rattle.grouping_chart.specs.Refusal.{timeGood, ratioGood, objectRefusal, firstRefused, verdict}
-use Rattle.grouping_chart.specs.Passes.{kindGood, allGood}
+use Rattle.grouping_chart.specs.passes.Good.{kindGood, allGood}
 use Rattle.grouping_chart.proofs.AllLaws.{both-true, all-each}
 use Rattle.grouping_chart.proofs.RefusalLaws.{all-equal, verdict-objects}
 

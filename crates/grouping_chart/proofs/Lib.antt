@@ -2,7 +2,7 @@
 pub mod RefusalLaws
 pub mod AcceptedLaws
 pub mod RoomLaws
-pub mod LentLaws
+pub mod OutcomeLaws
 pub mod CallLaws
 pub mod ObjectLaws
 pub mod NotesLaws

@@ -7,6 +7,7 @@ use mathlib.Core.List.{List}
 use lib.Dec.{eqb}
 use lib.ListN.{length}
 use lib.Ieee.{Float}
+use Rattle.lent.specs.Slice.{Slice, lent}
 
 pub record Chart : Type 0 where
   pub kinds : List ℕ
@@ -33,3 +34,7 @@ pub record SameLengths (n : ℕ) (starts deltas ratios : List Float) : Type 0 wh
   pub start : length starts ≡ n
   pub delta : length deltas ≡ n
   pub ratio : length ratios ≡ n
+
+abbrev pub chart : Slice ℕ → Slice Float → Slice Float → Slice Float → Chart
+chart kind start delta ratio =
+    record { kinds = lent kind; starts = lent start; deltas = lent delta; ratios = lent ratio }

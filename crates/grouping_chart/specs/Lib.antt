@@ -3,6 +3,6 @@ pub mod Object
 pub mod Chart
 pub mod Refusal
 pub mod Room
-pub mod Lent
+pub mod Outcome
 pub mod Settings
-pub mod Passes
+pub mod passes

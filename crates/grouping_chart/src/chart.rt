@@ -2,7 +2,8 @@
 ghost use mathlib.Core.Path.{_≡_};
 ghost use lib.ListN.{length};
 ghost use Rattle.grouping_chart.specs.Chart.{SameLengths, equallyLong};
-ghost use Rattle.grouping_chart.specs.Lent.{lent, chart};
+ghost use Rattle.lent.specs.Slice.{lent};
+ghost use Rattle.grouping_chart.specs.Chart.{chart};
 ghost use Rattle.grouping_chart.specs.Refusal.{timeGood, ratioGood, objectRefusal, firstRefused, verdict};
 use crate::good;
 use crate::object::ObjectIndex;

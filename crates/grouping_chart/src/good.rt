@@ -1,9 +1,9 @@
 // Whether all of a chart's objects are good, list by list. No loop here jumps by what it reads, so that several
 // values are tested at a time.
 ghost use mathlib.Core.Path.{_≡_};
-ghost use Rattle.grouping_chart.specs.Lent.{lent};
+ghost use Rattle.lent.specs.Slice.{lent};
 ghost use Rattle.numeric.specs.Range.{within};
-ghost use Rattle.grouping_chart.specs.Passes.{all, kindGood, allGood};
+ghost use Rattle.grouping_chart.specs.passes.Good.{all, kindGood, allGood};
 use numeric::range;
 
 // Center, Rim and NonHit.

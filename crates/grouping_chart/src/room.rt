@@ -1,7 +1,8 @@
 // What is refused beside a chart, and so the verdict on every call. Refusal 3: the places that a call needs.
 ghost use mathlib.Core.Path.{_≡_};
 ghost use lib.ListN.{length};
-ghost use Rattle.grouping_chart.specs.Lent.{lent, chart};
+ghost use Rattle.lent.specs.Slice.{lent};
+ghost use Rattle.grouping_chart.specs.Chart.{chart};
 ghost use Rattle.grouping_chart.specs.Refusal.{verdict};
 ghost use Rattle.grouping_chart.specs.Room.{shortRefusal};
 use crate::chart;

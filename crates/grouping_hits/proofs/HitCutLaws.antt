@@ -6,13 +6,13 @@ use Prim.Native.Nat.{ℕ, _+_}
 use native.Mathlib.Omega.{arith}
 use lib.Dec.{eqb}
 use lib.ListN.{length}
-use Rattle.grouping_marks.specs.Scan.{after, tabulate}
-use Rattle.grouping_marks.proofs.ScanLaws.{scan-append, after-append}
-use Rattle.grouping_marks.proofs.WalkLaws.{after-none, after-first}
+use Rattle.lent.specs.Scan.{endState, tabulate}
+use Rattle.lent.proofs.ScanLaws.{scan-append, after-append}
+use Rattle.lent.proofs.WalkLaws.{after-none, after-first}
 use Rattle.grouping_marks.proofs.CutLaws.{Opening, nothing-left, opens}
-use Rattle.grouping_marks.proofs.TableLaws.{getD-past, ltb-past, tabulate-cut}
+use Rattle.lent.proofs.TableLaws.{getD-past, ltb-past, tabulate-cut}
 use Rattle.grouping_hits.specs.RepeatingHitPatterns.{hitMarksAfter, hitMarks, secondAt, secondLengths}
-use Rattle.grouping_hits.specs.Passes.{stageAfter, opensHit}
+use Rattle.grouping_hits.specs.passes.Stages.{stageAfter, opensHit}
 use Rattle.grouping_hits.proofs.MarkLaws.{hitMarks-scan}
 
 -- ---- the stages
@@ -27,9 +27,9 @@ two-end stage = by (eqb stage 0) (eqb stage 1)
     by false true = refl
     by false false = refl
 
-after-two : (flags : List ℕ) → after stageAfter 0 (flags ++ 0 ∷ 0 ∷ []) ≡ 0
+after-two : (flags : List ℕ) → endState stageAfter 0 (flags ++ 0 ∷ 0 ∷ []) ≡ 0
 after-two flags =
-    let s : ℕ = after stageAfter 0 flags in
+    let s : ℕ = endState stageAfter 0 flags in
     rw (after-append, after-first stageAfter s, after-first stageAfter (stageAfter s 0), after-none) (two-end s)
 
 -- behind them the marks are those of the back alone, and a hit pattern opens there if any pattern is left

@@ -7,13 +7,13 @@ use native.Mathlib.Omega.{arith}
 use borrow.Author.Tests.{lt-ltb, le-ltb, eq-eqb, ne-eqb}
 use lib.Dec.{eqb}
 use lib.ListN.{length, getD, set}
-use Rattle.grouping_marks.specs.Over.{part}
-use Rattle.grouping_marks.specs.Passes.{Pair, PairApart}
-use Rattle.grouping_marks.proofs.OverLaws.{length-part}
-use Rattle.grouping_marks.proofs.FillLaws.{Fill}
-use Rattle.grouping_marks.proofs.StoreLaws.{read-at, fill-apart, table-start, table-turn}
+use Rattle.lent.specs.Over.{part}
+use Rattle.lent.specs.passes.Regions.{Pair, PairApart}
+use Rattle.lent.proofs.OverLaws.{length-part}
+use Rattle.lent.proofs.FillLaws.{Fill}
+use Rattle.lent.proofs.StoreLaws.{read-at, fill-apart, table-start, table-turn}
 use Rattle.grouping_hits.specs.RepeatingHitPatterns.{secondAt, secondLengths}
-use Rattle.grouping_hits.specs.Passes.{stageAfter, opensHit}
+use Rattle.grouping_hits.specs.passes.Stages.{stageAfter, opensHit}
 
 -- ---- the stages
 

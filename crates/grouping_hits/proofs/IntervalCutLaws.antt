@@ -8,7 +8,7 @@ use native.Mathlib.Omega.{arith}
 use lib.ListN.{length, getD, length-append}
 use lib.Seq.{getD-append-add}
 use borrow.Author.Tests.{le-leb}
-use Rattle.grouping_marks.proofs.FillLaws.{getD-tabulate}
+use Rattle.lent.proofs.FillLaws.{getD-tabulate}
 use Rattle.grouping_hits.specs.RepeatingHitPatterns.{matches, nearestMatch, intervalAt, intervals}
 
 -- what is known of the hit patterns before the cut, and of those behind it

@@ -11,14 +11,14 @@ use borrow.Author.Tests.{le-leb, lt-leb, leb-false}
 use lib.Dec.{eqb, leb}
 use lib.ListN.{length, getD, set, replicate, length-replicate, getD-replicate}
 use lib.Seq.{ext-getD}
-use Rattle.grouping_marks.specs.Over.{put, part}
-use Rattle.grouping_marks.specs.Scan.{tabulate}
-use Rattle.grouping_marks.specs.Passes.{Apart, TripleApart}
-use Rattle.grouping_marks.proofs.OverLaws.{length-part, getD-part, length-put, part-put-same, part-put-apart, put-twice}
-use Rattle.grouping_marks.proofs.FillLaws.{Fill, fill-from, fill-end, fill-read, length-tabulate, getD-tabulate, tabulate-agree}
-use Rattle.grouping_marks.proofs.StoreLaws.{read-at, fill-apart, table-turn}
+use Rattle.lent.specs.Over.{put, part}
+use Rattle.lent.specs.Scan.{tabulate}
+use Rattle.lent.specs.passes.Regions.{Apart, TripleApart}
+use Rattle.lent.proofs.OverLaws.{length-part, getD-part, length-put, part-put-same, part-put-apart, put-twice}
+use Rattle.lent.proofs.FillLaws.{Fill, fill-from, fill-end, fill-read, length-tabulate, getD-tabulate, tabulate-agree}
+use Rattle.lent.proofs.StoreLaws.{read-at, fill-apart, table-turn}
 use Rattle.grouping_hits.specs.RepeatingHitPatterns.{matches, nearestMatch, intervalAt, intervals}
-use Rattle.grouping_hits.specs.Passes.{matchTakenAt, matchesTaken, matchesIn, takenIn, intervalsIn}
+use Rattle.grouping_hits.specs.passes.Stages.{matchTakenAt, matchesTaken, matchesIn, takenIn, intervalsIn}
 use Rattle.grouping_hits.proofs.LengthLaws.{length-intervals}
 
 -- ---- two hit patterns match, read in the work slice

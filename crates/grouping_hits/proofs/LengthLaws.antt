@@ -3,10 +3,10 @@ use mathlib.Core.Path.{_≡_}
 use mathlib.Core.List.{List}
 use Prim.Native.Nat.{ℕ}
 use lib.ListN.{length}
-use Rattle.grouping_marks.proofs.ScanLaws.{length-scan}
-use Rattle.grouping_marks.proofs.FillLaws.{length-tabulate}
+use Rattle.lent.proofs.ScanLaws.{length-scan}
+use Rattle.lent.proofs.FillLaws.{length-tabulate}
 use Rattle.grouping_hits.specs.RepeatingHitPatterns.{hitMarks, secondAt, secondLengths, intervalAt, intervals}
-use Rattle.grouping_hits.specs.Passes.{stageAfter, opensHit}
+use Rattle.grouping_hits.specs.passes.Stages.{stageAfter, opensHit}
 use Rattle.grouping_hits.proofs.MarkLaws.{hitMarks-scan}
 
 pub length-hitMarks : (flags : List ℕ) → length (hitMarks flags) ≡ length flags

@@ -8,10 +8,10 @@ use native.Mathlib.Omega.{arith}
 use borrow.Author.Tests.{ne-eqb}
 use lib.Dec.{eqb}
 use lib.ListN.{take, drop}
-use Rattle.grouping_marks.specs.Scan.{scan}
-use Rattle.grouping_marks.proofs.WalkLaws.{scan-none, scan-first}
+use Rattle.lent.specs.Scan.{scan}
+use Rattle.lent.proofs.WalkLaws.{scan-none, scan-first}
 use Rattle.grouping_hits.specs.RepeatingHitPatterns.{coupledRun, hitSize, hitMarksAfter, hitMarks}
-use Rattle.grouping_hits.specs.Passes.{stageAfter, opensHit}
+use Rattle.grouping_hits.specs.passes.Stages.{stageAfter, opensHit}
 
 -- what the pass writes from each stage on
 record FromStages (flags : List ℕ) : Type 0 where

@@ -8,7 +8,7 @@ use native.Mathlib.Omega.{arith}
 use borrow.Author.Tests.{ltb-true, ltb-false}
 use lib.Dec.{leb, ltb}
 use lib.ListN.{length, getD, List·getD-eq-default}
-use Rattle.grouping_marks.proofs.FillLaws.{getD-tabulate}
+use Rattle.lent.proofs.FillLaws.{getD-tabulate}
 use Rattle.grouping_hits.specs.RepeatingHitPatterns.{matches, nearestMatch, intervalAt, intervals}
 use Rattle.grouping_hits.proofs.LengthLaws.{length-intervals}
 

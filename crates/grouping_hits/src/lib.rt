@@ -3,11 +3,11 @@ ghost use mathlib.Core.Path.{_≡_};
 ghost use mathlib.Core.Bool.{cond};
 ghost use Prim.Native.Nat.{_≤_, _<_};
 ghost use lib.Dec.{eqb};
-ghost use Rattle.grouping_marks.specs.Over.{put, part};
-ghost use Rattle.grouping_marks.specs.Passes.{Room, Pair, PairApart, Triple, TripleApart};
+ghost use Rattle.lent.specs.Over.{put, part};
+ghost use Rattle.lent.specs.passes.Regions.{Room, Pair, PairApart, Triple, TripleApart};
 ghost use Rattle.grouping_hits.specs.RepeatingHitPatterns.{hitMarks, secondAt, secondLengths};
-ghost use Rattle.grouping_hits.specs.Passes.{stageAfter, opensHit, matchesIn, takenIn, intervalsIn};
-use grouping_marks::fill;
+ghost use Rattle.grouping_hits.specs.passes.Stages.{stageAfter, opensHit, matchesIn, takenIn, intervalsIn};
+use lent::fill;
 
 fn stage_after(stage: u16, coupled: u16) -> u16
     ensures { λ r. ⌜ r ≡ stageAfter stage coupled ⌝ }

@@ -11,9 +11,9 @@ use lib.ListN.{length, drop, getD}
 use lib.Ieee.{Float, nan}
 use borrow.Author.Tests.{eq-eqb, ne-eqb, lt-ltb, le-ltb}
 use Rattle.numeric.specs.Near.{isNear}
-use Rattle.grouping_marks.specs.Scan.{after}
+use Rattle.lent.specs.Scan.{endState}
 use Rattle.grouping_marks.specs.Marks.{groupCount}
-use Rattle.grouping_marks.proofs.WalkLaws.{after-none, after-first}
+use Rattle.lent.proofs.WalkLaws.{after-none, after-first}
 use Rattle.grouping_marks.proofs.MarksLaws.{count-none}
 use Rattle.grouping_marks.proofs.NumberLaws.{countFrom, count-all, count-over, count-same, count-new}
 use Rattle.grouping_chart.specs.Object.{isNote}
@@ -78,7 +78,7 @@ record Begun (c : Counting) : Type 0 where
 -- counting on over the deltas left gives what their marks give
 abbrev Meets : Float → Counting → List Float → Type 0
 Meets margin c ds =
-    groupsCounted margin (after (counted margin) c ds)
+    groupsCounted margin (endState (counted margin) c ds)
     ≡ countFrom (c .groups) (marksAfter margin (ltb 2 (c .notes + length ds)) (c .last) (cond (c .pending) (c .next ∷ ds) ds))
 
 meets-none : (margin : Float) (c : Counting) → Begun c → Meets margin c []
@@ -109,7 +109,7 @@ module _ (margin : Float) (c : Counting) (d : Float) (ds : List Float) (h : Begu
   meets-on c′ e b k =
       let n : c .notes + 1 + length ds ≡ c .notes + suc (length ds) = omega arith in
       ap (groupsCounted margin) (after-first (counted margin) c d ds)
-      ∙ ap (λ (x : Counting). groupsCounted margin (after (counted margin) x ds)) (sym e)
+      ∙ ap (λ (x : Counting). groupsCounted margin (endState (counted margin) x ds)) (sym e)
       ∙ u c′ b
       ∙ sym k
       ∙ ap (λ (n : ℕ). countFrom (c .groups) (marksAfter margin (ltb 2 n) (c .last) (cond (c .pending) (c .next ∷ d ∷ ds) (d ∷ ds)))) n
@@ -137,7 +137,7 @@ meets margin c (d ∷ ds) h =
     meets-more margin c d ds h (λ c′ b. meets margin c′ ds b) (c .pending) (isNear margin (c .next) d) (isRise margin (c .next) d) refl refl refl
 
 -- all the notes, counted from none
-pub counted-all : (margin : Float) (ds : List Float) → groupsCounted margin (after (counted margin) counting₀ ds) ≡ groupCount (intervalMarks margin ds)
+pub counted-all : (margin : Float) (ds : List Float) → groupsCounted margin (endState (counted margin) counting₀ ds) ≡ groupCount (intervalMarks margin ds)
 unfolding counted groupsCounted counting₀
 counted-all margin [] =
     ap (groupsCounted margin) (after-none (counted margin) counting₀) ∙ sym (count-none (intervalMarks margin []) (length-marks margin []))
@@ -169,7 +169,7 @@ counted-grows margin c d h = by (eqb (c .notes) 0) (c .pending) (isNear margin (
 -- the notes left, counted on from c, give what all of them give
 pub record Counts (margin : Float) (ks : List ℕ) (ds : List Float) (c : Counting) (i : ℕ) : Type 0 where
   pub whole : length ds ≡ length ks
-  pub left : after (counted margin) c (ofNotes (drop i ks) (drop i ds)) ≡ after (counted margin) counting₀ (ofNotes ks ds)
+  pub left : endState (counted margin) c (ofNotes (drop i ks) (drop i ds)) ≡ endState (counted margin) counting₀ (ofNotes ks ds)
   pub groups-le : c .groups ≤ c .notes
   pub notes-le : c .notes ≤ i
   pub upto : i ≤ length ks
@@ -186,7 +186,7 @@ module _ {margin : Float} {ks : List ℕ} {ds : List Float} {c : Counting} {i : 
         whole = x .whole;
         left =
             rw e
-            (sym (ap (after (counted margin) c) (of-notes-step ks i true ds h (x .whole) n) ∙ after-first (counted margin) c (getD ds i nan) _)
+            (sym (ap (endState (counted margin) c) (of-notes-step ks i true ds h (x .whole) n) ∙ after-first (counted margin) c (getD ds i nan) _)
             ∙ x .left);
         groups-le = omega (arith, g);
         notes-le = omega (arith, g, x .notes-le);
@@ -196,7 +196,7 @@ module _ {margin : Float} {ks : List ℕ} {ds : List Float} {c : Counting} {i : 
   pub counts-pass : i < length ks → isNote (getD ks i 0) ≡ false → Counts margin ks ds c (i + 1)
   counts-pass h n = record {
     whole = x .whole;
-    left = sym (ap (after (counted margin) c) (of-notes-step ks i false ds h (x .whole) n)) ∙ x .left;
+    left = sym (ap (endState (counted margin) c) (of-notes-step ks i false ds h (x .whole) n)) ∙ x .left;
     groups-le = x .groups-le;
     notes-le = omega (arith, x .notes-le);
     upto = omega arith;
@@ -204,6 +204,6 @@ module _ {margin : Float} {ks : List ℕ} {ds : List Float} {c : Counting} {i : 
 
   pub counts-end : length ks ≤ i → groupsCounted margin c ≡ groupCount (intervalMarks margin (ofNotes ks ds))
   counts-end h =
-      let e : c ≡ after (counted margin) counting₀ (ofNotes ks ds) =
-      sym (ap (after (counted margin) c) (of-notes-over ks i ds h) ∙ after-none (counted margin) c) ∙ x .left in
+      let e : c ≡ endState (counted margin) counting₀ (ofNotes ks ds) =
+      sym (ap (endState (counted margin) c) (of-notes-over ks i ds h) ∙ after-none (counted margin) c) ∙ x .left in
       ap (groupsCounted margin) e ∙ counted-all margin (ofNotes ks ds)

@@ -7,7 +7,7 @@ use native.Mathlib.Nat.{zero-add}
 use native.Mathlib.Omega.{arith}
 use lib.ListN.{length, drop, getD, set, length-drop}
 use lib.Ieee.{Float, nan}
-use Rattle.grouping_marks.proofs.FillLaws.{Fill, Onward, fill-start-front, fill-next, fill-end-front}
+use Rattle.lent.proofs.FillLaws.{Fill, Onward, fill-start-front, fill-next, fill-end-front}
 use Rattle.grouping_chart.specs.Object.{isNote, notes}
 use Rattle.grouping_interval.specs.Notes.{notesFrom, noteObjects, ofNotes}
 use Rattle.grouping_chart.proofs.ObjectLaws.{notes-few}

@@ -4,7 +4,7 @@ use Prim.Native.Nat.{ℕ, _≤_}
 use mathlib.Core.List.{List}
 use lib.ListN.{length}
 use lib.Ieee.{Float}
-use Rattle.grouping_marks.specs.Over.{over}
+use Rattle.lent.specs.Over.{over}
 use Rattle.grouping_marks.specs.Marks.{groupCount, groupNumbers}
 use Rattle.grouping_interval.specs.IntervalGrouping.{intervalMarks}
 

@@ -6,7 +6,7 @@ use mathlib.Core.Bool.{cond}
 use mathlib.Core.List.{List, [], _∷_}
 use lib.ListN.{length}
 use lib.Ieee.{Float}
-use Rattle.grouping_marks.specs.Over.{over}
+use Rattle.lent.specs.Over.{over}
 use Rattle.grouping_chart.specs.Object.{isNote}
 
 -- the numbers of the objects that are notes, where the kinds begin at object i

@@ -7,11 +7,11 @@ use native.Mathlib.Omega.{arith}
 use lib.Dec.{eqb}
 use lib.ListN.{length, getD}
 use borrow.Author.Tests.{eq-eqb, ne-eqb, eqb-true}
-use Rattle.grouping_marks.specs.Scan.{scan, after}
+use Rattle.lent.specs.Scan.{scan, endState}
 use Rattle.grouping_marks.specs.Marks.{opened, numberByMark, placeByMark, groupCount, groupNumbers, groupPlaces}
 use Rattle.grouping_marks.specs.Marks.{sizesFrom, groupSizes, firstsFrom, groupFirsts}
 use Rattle.grouping_marks.proofs.MarksLaws.{opened-bounds}
-use Rattle.grouping_marks.proofs.ScanLaws.{scan-append, after-append}
+use Rattle.lent.proofs.ScanLaws.{scan-append, after-append}
 
 -- ---- which lists may stand behind a cut: the empty one, and those whose first item opens a group
 
@@ -104,8 +104,8 @@ opened-shift c k m h = by (eqb m 0) (eqb (c + k) 0) (eqb k 0) refl refl
     by true false false e g = refl
     by false u v e g = omega arith
 
-after-shift : (c k : ℕ) (ms : List ℕ) → 1 ≤ k → after opened (c + k) ms ≡ c + after opened k ms
-unfolding after
+after-shift : (c k : ℕ) (ms : List ℕ) → 1 ≤ k → endState opened (c + k) ms ≡ c + endState opened k ms
+unfolding endState
 after-shift c k [] h = refl
 after-shift c k (m ∷ ms) h = rw (opened-shift c k m h) (after-shift c (opened k m) ms (opened-bounds k m .1 .0))
 
@@ -118,17 +118,17 @@ numbers-moved c k (m ∷ ms) h =
     rw (d, e, numbers-moved c (opened k m) ms (opened-bounds k m .1 .0))
 
 pub count-cut : (fs bs : List ℕ) → Opening bs → groupCount (fs ++ bs) ≡ groupCount fs + groupCount bs
-unfolding groupCount after
+unfolding groupCount endState
 count-cut fs [] o = rw (append-nil fs) (omega arith)
 count-cut fs (m ∷ ms) (opens z) =
-    rw (after-append opened 0 fs (m ∷ ms), opened-new (after opened 0 fs) m z, opened-new 0 m z) (after-shift (after opened 0 fs) 1 ms (omega arith))
+    rw (after-append opened 0 fs (m ∷ ms), opened-new (endState opened 0 fs) m z, opened-new 0 m z) (after-shift (endState opened 0 fs) 1 ms (omega arith))
 
 -- the back's numbers go on where the front's end
 pub numbers-cut : (fs bs : List ℕ) → Opening bs → groupNumbers (fs ++ bs) ≡ groupNumbers fs ++ map (λ (j : ℕ). groupCount fs + j) (groupNumbers bs)
 unfolding groupNumbers groupCount scan
 numbers-cut fs [] o = rw (append-nil fs, append-nil (scan opened numberByMark 0 fs))
 numbers-cut fs (m ∷ ms) (opens z) =
-    let c : ℕ = after opened 0 fs in
+    let c : ℕ = endState opened 0 fs in
     scan-append opened numberByMark 0 fs (m ∷ ms)
     ∙ ap (λ (l : List ℕ). scan opened numberByMark 0 fs ++ l)
     (ap (λ (k : ℕ). (k - 1) ∷ scan opened numberByMark k ms) (opened-new c m z)

@@ -1,14 +1,6 @@
 -- The laws of this crate. Those that are public are for the crates above, or are results of their own; the others serve the proofs of this crate alone.
-pub mod OverLaws
-pub mod FillLaws
-pub mod StoreLaws
-pub mod ScanLaws
 pub mod MarksLaws
 pub mod PartedLaws
-pub mod PieceLaws
-pub mod WalkLaws
-pub mod AppendLaws
-pub mod TableLaws
 pub mod CutLaws
 pub mod NumberLaws
 pub mod SplitLaws

@@ -8,10 +8,10 @@ use native.Mathlib.Omega.{arith}
 use lib.Dec.{eqb}
 use lib.ListN.{length, getD}
 use borrow.Author.Tests.{eqb-true, eqb-false}
-use Rattle.grouping_marks.specs.Scan.{scan, after}
+use Rattle.lent.specs.Scan.{scan, endState}
 use Rattle.grouping_marks.specs.Marks.{opened, numberByMark, placeByMark, groupCount, groupNumbers, groupPlaces}
 use Rattle.grouping_marks.specs.Marks.{sizesFrom, groupSizes, firstsFrom, groupFirsts}
-use Rattle.grouping_marks.proofs.ScanLaws.{length-scan}
+use Rattle.lent.proofs.ScanLaws.{length-scan}
 
 pub length-numbers : (marks : List ℕ) → length (groupNumbers marks) ≡ length marks
 unfolding groupNumbers
@@ -62,8 +62,8 @@ opened-later c m o e = go (eqb m 0) (eqb (c + 1) 0) refl e
     go true false z e = omega arith
     go false b z e = omega arith
 
-after-bounds : (c : ℕ) (marks : List ℕ) → (c ≤ after opened c marks) × (after opened c marks ≤ c + length marks)
-unfolding after
+after-bounds : (c : ℕ) (marks : List ℕ) → (c ≤ endState opened c marks) × (endState opened c marks ≤ c + length marks)
+unfolding endState
 after-bounds c [] = omega arith
 after-bounds c (m ∷ ms) = omega (arith, opened-bounds c m, after-bounds (opened c m) ms)
 
@@ -76,8 +76,8 @@ count-le marks = omega (arith, after-bounds 0 marks)
 pub count-none : (marks : List ℕ) → length marks ≡ 0 → groupCount marks ≡ 0
 count-none marks h = omega (arith, count-le marks)
 
-number-below : (c : ℕ) (marks : List ℕ) (i : ℕ) → i < length marks → getD (scan opened numberByMark c marks) i 0 < after opened c marks
-unfolding scan after
+number-below : (c : ℕ) (marks : List ℕ) (i : ℕ) → i < length marks → getD (scan opened numberByMark c marks) i 0 < endState opened c marks
+unfolding scan endState
 number-below c [] i h = absurd (not-suc-le-zero h)
 number-below c (m ∷ ms) zero h = omega (arith, opened-bounds c m, after-bounds (opened c m) ms)
 number-below c (m ∷ ms) (suc i) h = number-below (opened c m) ms i (le-of-suc-le-suc h)
@@ -89,25 +89,25 @@ numbers-below marks i h = number-below 0 marks i h
 
 -- ---- the sizes and the firsts
 
-sizes-count : (c p : ℕ) (marks : List ℕ) → c + length (sizesFrom p marks) ≡ after opened (c + 1) marks
-unfolding sizesFrom after opened
+sizes-count : (c p : ℕ) (marks : List ℕ) → c + length (sizesFrom p marks) ≡ endState opened (c + 1) marks
+unfolding sizesFrom endState opened
 sizes-count c p [] = refl
 sizes-count c p (m ∷ ms) = go (eqb m 0) (eqb (c + 1) 0) refl (sizes-count c (p + 1) ms) (sizes-count (c + 1) 1 ms)
   where
-    go : (a b : Bool) → eqb (c + 1) 0 ≡ b → c + length (sizesFrom (p + 1) ms) ≡ after opened (c + 1) ms
-        → c + 1 + length (sizesFrom 1 ms) ≡ after opened (c + 1 + 1) ms
-        → c + length (cond a (sizesFrom (p + 1) ms) (p ∷ sizesFrom 1 ms)) ≡ after opened (cond a (cond b 1 (c + 1)) (c + 1 + 1)) ms
+    go : (a b : Bool) → eqb (c + 1) 0 ≡ b → c + length (sizesFrom (p + 1) ms) ≡ endState opened (c + 1) ms
+        → c + 1 + length (sizesFrom 1 ms) ≡ endState opened (c + 1 + 1) ms
+        → c + length (cond a (sizesFrom (p + 1) ms) (p ∷ sizesFrom 1 ms)) ≡ endState opened (cond a (cond b 1 (c + 1)) (c + 1 + 1)) ms
     go true true e x y = absurd (omega (arith, eqb-true (c + 1) 0 e))
     go true false e x y = x
     go false b e x y = omega arith
 
 -- there are as many sizes as groups
 pub length-sizes : (marks : List ℕ) → length (groupSizes marks) ≡ groupCount marks
-unfolding groupSizes groupCount after opened
+unfolding groupSizes groupCount endState opened
 length-sizes [] = refl
 length-sizes (m ∷ ms) = go (eqb m 0)
   where
-    go : (a : Bool) → length (sizesFrom 1 ms) ≡ after opened (cond a 1 (0 + 1)) ms
+    go : (a : Bool) → length (sizesFrom 1 ms) ≡ endState opened (cond a 1 (0 + 1)) ms
     go true = omega (arith, sizes-count 0 1 ms)
     go false = omega (arith, sizes-count 0 1 ms)
 

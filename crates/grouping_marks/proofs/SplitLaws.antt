@@ -9,12 +9,12 @@ use lib.Dec.{eqb}
 use lib.ListN.{length, getD, length-append, List·getD-append, length-map}
 use lib.Seq.{getD-append-add}
 use borrow.Author.Tests.{eq-eqb, ne-eqb, eqb-true, eqb-false}
-use Rattle.grouping_marks.specs.Scan.{after, gathered}
+use Rattle.lent.specs.Scan.{endState, gathered}
 use Rattle.grouping_marks.specs.Marks.{opened, groupCount, groupNumbers}
-use Rattle.grouping_marks.proofs.FillLaws.{getD-map, length-gathered, getD-gathered}
+use Rattle.lent.proofs.FillLaws.{getD-map, length-gathered, getD-gathered}
 use Rattle.grouping_marks.proofs.MarksLaws.{opened-bounds, opened-first, length-numbers, numbers-below}
 use Rattle.grouping_marks.proofs.CutLaws.{Opening, nothing-left, opens, opened-new, opened-same, numbers-cut}
-use Rattle.grouping_marks.proofs.TableLaws.{gathered-append, gathered-back, gathered-moved}
+use Rattle.lent.proofs.TableLaws.{gathered-append, gathered-back, gathered-moved}
 
 -- every entry is below n
 abbrev pub Below : List ℕ → ℕ → Type 0
@@ -132,15 +132,15 @@ record CutFrom (c : ℕ) (marks : List ℕ) (q : ℕ) : Type 0 where
   front : List ℕ
   back : List ℕ
   whole : marks ≡ front ++ back
-  count : after opened c front ≡ q
+  count : endState opened c front ≡ q
   opening : Opening back
 
 cut-later : (c : ℕ) (m : ℕ) (ms : List ℕ) (q : ℕ) → CutFrom (opened c m) ms q → CutFrom c (m ∷ ms) q
-unfolding after
+unfolding endState
 cut-later c m ms q x = record { front = m ∷ x .front; back = x .back; whole = ap (λ (l : List ℕ). m ∷ l) (x .whole); count = x .count; opening = x .opening }
 
-cut-from : (c : ℕ) (marks : List ℕ) (q : ℕ) → 1 ≤ c → c ≤ q → q ≤ after opened c marks → CutFrom c marks q
-unfolding after
+cut-from : (c : ℕ) (marks : List ℕ) (q : ℕ) → 1 ≤ c → c ≤ q → q ≤ endState opened c marks → CutFrom c marks q
+unfolding endState
 cut-from c [] q z l h = record { front = []; back = []; whole = refl; count = omega arith; opening = nothing-left }
 cut-from c (m ∷ ms) q z l h = by (eqb m 0) (eqb q c) refl refl (λ u. cut-later c m ms q (cut-from (opened c m) ms q (opened-bounds c m .1 .0) u h))
   where
@@ -150,7 +150,7 @@ cut-from c (m ∷ ms) q z l h = by (eqb m 0) (eqb q c) refl refl (λ u. cut-late
     by false false e f go = let n : q ≡ c → ⊥ = eqb-false q c f in go (omega (arith, opened-new c m (eqb-false m 0 e)))
 
 pub cut-at : (marks : List ℕ) (q : ℕ) → 0 < q → q ≤ groupCount marks → CutAt marks q
-unfolding groupCount after
+unfolding groupCount endState
 cut-at [] q z h = absurd (omega arith)
 cut-at (m ∷ ms) q z h =
     let x = cut-later 0 m ms q (cut-from (opened 0 m) ms q (opened-bounds 0 m .1 .0) (omega (arith, opened-first m)) h) in

@@ -1,6 +1,3 @@
 -- The definitions that this crate's promises and laws cite.
-pub mod Over
-pub mod Scan
 pub mod Marks
-pub mod Passes
 pub mod Parted

@@ -5,14 +5,14 @@ use Prim.Native.Nat.{ℕ, _+_, _-_}
 use mathlib.Core.Bool.{cond}
 use mathlib.Core.List.{List, [], _∷_}
 use lib.Dec.{eqb}
-use Rattle.grouping_marks.specs.Scan.{scan, after}
+use Rattle.lent.specs.Scan.{scan, endState}
 
 -- how many groups were opened, an item with mark m included, where c were opened before it
 unfoldable pub opened : ℕ → ℕ → ℕ
 opened c m = cond (eqb m 0) (cond (eqb c 0) 1 c) (c + 1)
 
 unfoldable pub groupCount : List ℕ → ℕ
-groupCount marks = after opened 0 marks
+groupCount marks = endState opened 0 marks
 
 -- an item's group, by its mark m, where c groups were opened before it: the groups count from 0
 abbrev pub numberByMark : ℕ → ℕ → ℕ

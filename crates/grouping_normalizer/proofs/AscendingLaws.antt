@@ -10,10 +10,10 @@ use lib.Ieee.{Float, nan}
 use Rattle.numeric.specs.TotalOrder.{totalOrder}
 use Rattle.numeric.proofs.Values.{Number}
 use Rattle.numeric.proofs.order.Laws.{total, trans}
-use Rattle.grouping_sort.specs.Ordered.{ordered}
-use Rattle.grouping_sort.proofs.InsertLaws.{Numbers, none, also}
-use Rattle.grouping_sort.proofs.OrderedLaws.{numbers-ordered}
-use Rattle.grouping_sort.proofs.AscendingLaws.{number-in, ordered-only, ordered-all, Ascending, empty, before, ascending-at, AtOrBefore, ordered-ascending}
+use Rattle.numeric_sort.specs.Ordered.{ordered}
+use Rattle.numeric_sort.proofs.InsertLaws.{Numbers, none, also}
+use Rattle.numeric_sort.proofs.OrderedLaws.{numbers-ordered}
+use Rattle.numeric_sort.proofs.AscendingLaws.{number-in, ordered-only, ordered-all, Ascending, empty, before, ascending-at, AtOrBefore, ordered-ascending}
 use Rattle.grouping_normalizer.specs.Normalizer.{alike, unrepeated, distinct}
 use Rattle.grouping_normalizer.proofs.DistinctLaws.{alike-same}
 

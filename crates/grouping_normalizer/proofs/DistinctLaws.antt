@@ -14,12 +14,12 @@ use lib.Ieee.Fits.{and-l, and-r}
 use Rattle.numeric.specs.TotalOrder.{totalOrder}
 use Rattle.numeric.proofs.Values.{Number}
 use Rattle.numeric.proofs.order.Laws.{antisym}
-use Rattle.grouping_marks.specs.Over.{over}
-use Rattle.grouping_marks.proofs.OverLaws.{length-over, front}
-use Rattle.grouping_marks.proofs.PieceLaws.{over-pieces}
-use Rattle.grouping_sort.specs.Ordered.{ordered}
-use Rattle.grouping_sort.proofs.InsertLaws.{Numbers}
-use Rattle.grouping_sort.proofs.OrderedLaws.{number-at, ordered-few, length-ordered, numbers-ordered}
+use Rattle.lent.specs.Over.{over}
+use Rattle.lent.proofs.OverLaws.{length-over, front}
+use Rattle.lent.proofs.PieceLaws.{over-pieces}
+use Rattle.numeric_sort.specs.Ordered.{ordered}
+use Rattle.numeric_sort.proofs.InsertLaws.{Numbers}
+use Rattle.numeric_sort.proofs.OrderedLaws.{number-at, ordered-few, length-ordered, numbers-ordered}
 use Rattle.grouping_normalizer.specs.Normalizer.{alike, unrepeated, distinct, sets, middleOf, normalOf, Distinct, NormalOf}
 
 -- ---- lengths

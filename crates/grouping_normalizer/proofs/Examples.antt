@@ -8,7 +8,7 @@ use lib.Ieee.{Float, fin, binary64, round, add, sub, div, le, lt, eq, ofInt, ofB
 use Rattle.numeric.specs.Near.{absOf, isNear}
 use Rattle.numeric.specs.TotalOrder.{totalOrder}
 use Rattle.numeric.specs.RoundTiesEven.{roundTiesEven}
-use Rattle.grouping_sort.specs.Ordered.{insert, ordered}
+use Rattle.numeric_sort.specs.Ordered.{insert, ordered}
 use Rattle.grouping_normalizer.specs.Normalizer.{alike, unrepeated, distinct, setsAfter, sets, holds, middle, middleOf, normalOf, normalized}
 
 -- 5.0

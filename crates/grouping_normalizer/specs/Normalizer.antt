@@ -11,8 +11,8 @@ use lib.Ieee.{Float, nan, binary64, add, div}
 use Rattle.numeric.specs.Constants.{two64}
 use Rattle.numeric.specs.Near.{isNear}
 use Rattle.numeric.specs.TotalOrder.{totalOrder}
-use Rattle.grouping_marks.specs.Over.{over}
-use Rattle.grouping_sort.specs.Ordered.{ordered}
+use Rattle.lent.specs.Over.{over}
+use Rattle.numeric_sort.specs.Ordered.{ordered}
 
 -- equal in all bits, for values that are no NaN: each stands at or before the other
 unfoldable pub alike : Float → Float → Bool

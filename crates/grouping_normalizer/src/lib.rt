@@ -2,7 +2,7 @@
 ghost use mathlib.Core.Path.{_≡_};
 ghost use Prim.Native.Nat.{_<_};
 ghost use lib.ListN.{length};
-ghost use Rattle.grouping_sort.specs.Ordered.{AllFinite};
+ghost use Rattle.numeric_sort.specs.Ordered.{AllFinite};
 ghost use Rattle.grouping_normalizer.specs.Normalizer.{alike, holds, middle, middleOf, sets, Distinct, NormalOf};
 ghost use Rattle.grouping_normalizer.specs.passes.Sets.{SetEnd};
 use numeric::near::near;
@@ -23,7 +23,7 @@ pub fn distinct_values(values: &mut [f64]) -> usize
     requires { ⌜ AllFinite (now values) ⌝ }
     ensures { λ r. ⌜ Distinct (now (values .entry)) (now (values .exit)) r ⌝ }
 {
-    grouping_sort::sort(values);
+    numeric_sort::sort(values);
     let n = values.len();
     if n == 0 {
         return 0;

@@ -6,24 +6,25 @@ use mathlib.Core.List.{List, _++_}
 use Prim.Native.Nat.{ℕ, _+_, _*_, _≤_}
 use native.Mathlib.Omega.{arith}
 use lib.ListN.{length, drop}
-use Rattle.grouping_marks.specs.Over.{put, part, Write, written}
+use Rattle.lent.specs.Over.{put, part, Write, written}
 use Rattle.grouping_marks.specs.Marks.{groupCount, groupNumbers, groupPlaces, groupSizes, groupFirsts}
-use Rattle.grouping_marks.specs.Passes.{Room, Apart}
-use Rattle.grouping_marks.proofs.OverLaws.{length-part, length-put, part-put-same, part-put-before, part-put-after, drop-put, written-append}
-use Rattle.grouping_marks.proofs.PieceLaws.{part-shorter}
+use Rattle.lent.specs.passes.Regions.{Room, Apart}
+use Rattle.lent.proofs.OverLaws.{length-part, length-put, part-put-same, part-put-before, part-put-after, drop-put, written-append}
+use Rattle.lent.proofs.PieceLaws.{part-shorter}
 use Rattle.grouping_marks.proofs.MarksLaws.{length-numbers, length-places, length-sizes, length-firsts, count-le}
 use Rattle.grouping_hits.specs.RepeatingHitPatterns.{hitMarks, secondLengths, intervals}
 use Rattle.grouping_hits.proofs.LengthLaws.{length-hitMarks, length-secondLengths, length-intervals}
-use Rattle.grouping_color.specs.MonoStreak.{streakMarks, streakOf, streakLengths, streakTypes}
-use Rattle.grouping_color.specs.AlternatingMonoPattern.{patternMarks, coupled}
-use Rattle.grouping_color.specs.Preprocessor.{patternsOpen, firstLengths, streakCounts, patternTypes, coupledPatterns, hitsOpen}
-use Rattle.grouping_color.proofs.LengthLaws.{length-streakMarks, length-patternMarks, length-coupled}
-use Rattle.grouping_color.proofs.MadeLaws.{streakOf-made, streakLengths-made, streakTypes-made, patternsOpen-made, firstLengths-made}
-use Rattle.grouping_color.proofs.MadeLaws.{streakCounts-made, patternTypes-made, coupledPatterns-made, hitsOpen-made, hitCount-made}
-use Rattle.grouping_color.proofs.MadeLaws.{hitSizes-made, hitFirsts-made, hitSeconds-made, hitIntervals-made}
-use Rattle.grouping_preprocessor.specs.Writes.{streakWrites, patternWrites, hitMarkWrites, intervalsBy, hitWrites, coupledWrites, encoderWrites}
-use Rattle.grouping_preprocessor.specs.Passes.{Regions, Outside, Streaks, Patterns, PatternsFound, Kept, HitMarks, HitMarksFound}
-use Rattle.grouping_preprocessor.specs.Passes.{flagsIn, Hits, HitsFound, Encodes}
+use Rattle.grouping_colour.specs.MonoStreak.{streakMarks, streakOf, streakLengths, streakTypes}
+use Rattle.grouping_colour.specs.AlternatingMonoPattern.{patternMarks, coupled}
+use Rattle.grouping_preprocessor.specs.Preprocessor.{patternsOpen, firstLengths, streakCounts, patternTypes, coupledPatterns, hitsOpen}
+use Rattle.grouping_colour.proofs.LengthLaws.{length-streakMarks, length-patternMarks, length-coupled}
+use Rattle.grouping_colour.proofs.StreakListLaws.{streakOf-made, streakLengths-made, streakTypes-made}
+use Rattle.grouping_preprocessor.proofs.MadeLaws.{patternsOpen-made, firstLengths-made}
+use Rattle.grouping_preprocessor.proofs.MadeLaws.{streakCounts-made, patternTypes-made, coupledPatterns-made, hitsOpen-made, hitCount-made}
+use Rattle.grouping_preprocessor.proofs.MadeLaws.{hitSizes-made, hitFirsts-made, hitSeconds-made, hitIntervals-made}
+use Rattle.grouping_preprocessor.specs.passes.Writes.{streakWrites, patternWrites, hitMarkWrites, intervalsBy, hitWrites, coupledWrites, encoderWrites}
+use Rattle.grouping_preprocessor.specs.passes.Steps.{Regions, Outside, Streaks, Patterns, PatternsFound, Kept, HitMarks, HitMarksFound}
+use Rattle.grouping_preprocessor.specs.passes.Steps.{flagsIn, Hits, HitsFound, Encodes}
 
 -- ---- the regions of a call
 

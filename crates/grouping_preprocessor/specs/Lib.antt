@@ -1,3 +1,3 @@
 -- The definitions that this crate's promises and laws cite.
-pub mod Writes
-pub mod Passes
+pub mod Preprocessor
+pub mod passes

@@ -1,10 +1,10 @@
 // The encoder: from the kinds to the tables from which each object's six numbers are looked up.
 ghost use Prim.Native.Nat.{_≤_, _<_};
 ghost use lib.ListN.{length};
-ghost use Rattle.grouping_preprocessor.specs.Passes.{Regions, Streaks, PatternsFound, HitMarksFound};
-ghost use Rattle.grouping_preprocessor.specs.Passes.{HitsFound, Encodes};
-use grouping_color::alternating_mono_pattern;
-use grouping_color::mono_streak;
+ghost use Rattle.grouping_preprocessor.specs.passes.Steps.{Regions, Streaks, PatternsFound, HitMarksFound};
+ghost use Rattle.grouping_preprocessor.specs.passes.Steps.{HitsFound, Encodes};
+use grouping_colour::alternating_mono_pattern;
+use grouping_colour::mono_streak;
 
 // How many streaks, alternating patterns and hit patterns there are, and the search limit of the intervals.
 pub struct Levels {

@@ -13,7 +13,7 @@ use lib.Seq.{length-take-le, getD-take, getD-drop}
 use lib.Ieee.{Float, nan, inf}
 use Rattle.grouping_marks.specs.Marks.{groupCount}
 use Rattle.grouping_marks.specs.Parted.{parted}
-use Rattle.grouping_marks.proofs.FillLaws.{Fill, Onward, fill-start, fill-next, fill-end, fill-unread, getD-map}
+use Rattle.lent.proofs.FillLaws.{Fill, Onward, fill-start, fill-next, fill-end, fill-unread, getD-map}
 use Rattle.grouping_marks.proofs.MarksLaws.{count-le}
 use Rattle.grouping_marks.proofs.PartedLaws.{length-parted, parted-all, parted-some}
 use Rattle.grouping_interval.specs.IntervalGrouping.{intervalMarks}

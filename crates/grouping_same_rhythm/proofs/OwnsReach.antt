@@ -7,11 +7,11 @@ use lib.ListN.{length, take, drop, length-append, take-append-drop}
 use lib.Seq.{length-take-le, take-at, drop-drop}
 use lib.Ieee.{Float, nan}
 use borrow.Rule.Slice.PartMut.{putMid, same-len-mid, mid-len, drop-put}
-use Rattle.grouping_marks.specs.Over.{part}
+use Rattle.lent.specs.Over.{part}
 use Rattle.grouping_marks.specs.Parted.{parted}
-use Rattle.grouping_marks.proofs.OverLaws.{length-part, getD-part}
-use Rattle.grouping_marks.proofs.PieceLaws.{part-pieces}
-use Rattle.grouping_sort.specs.Ordered.{AllFinite}
+use Rattle.lent.proofs.OverLaws.{length-part, getD-part}
+use Rattle.lent.proofs.PieceLaws.{part-pieces}
+use Rattle.numeric_sort.specs.Ordered.{AllFinite}
 use Rattle.grouping_interval.specs.IntervalGrouping.{intervalMarks}
 use Rattle.grouping_interval.specs.GroupEnd.{groupEnd}
 use Rattle.grouping_interval.proofs.EndLaws.{end-after, end-within, end-same}

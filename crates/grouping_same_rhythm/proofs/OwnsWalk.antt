@@ -10,10 +10,10 @@ use lib.ListN.{length, drop, getD, drop-of-length-le}
 use lib.Seq.{drop-drop, getD-drop}
 use lib.Ieee.{Float}
 use borrow.Author.Tests.{ltb-true, ltb-false}
-use Rattle.grouping_marks.specs.Over.{part}
+use Rattle.lent.specs.Over.{part}
 use Rattle.grouping_marks.specs.Marks.{groupCount}
 use Rattle.grouping_marks.specs.Parted.{parted}
-use Rattle.grouping_marks.proofs.PieceLaws.{part-pieces, part-rest}
+use Rattle.lent.proofs.PieceLaws.{part-pieces, part-rest}
 use Rattle.grouping_interval.specs.IntervalGrouping.{intervalMarks}
 use Rattle.grouping_interval.specs.GroupEnd.{groupEnd, marksFrom}
 use Rattle.grouping_interval.proofs.EndLaws.{end-after, end-within, marks-all, parted-end, parted-past, count-from, count-past}

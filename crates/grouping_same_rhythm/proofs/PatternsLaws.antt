@@ -9,9 +9,9 @@ use lib.ListN.{length, take, drop, getD}
 use lib.Seq.{drop-drop, getD-drop}
 use lib.Ieee.{Float, nan, binary64, div}
 use Rattle.numeric.specs.Constants.{one64}
-use Rattle.grouping_marks.specs.Over.{part}
+use Rattle.lent.specs.Over.{part}
 use Rattle.grouping_marks.specs.Parted.{parted}
-use Rattle.grouping_marks.proofs.OverLaws.{length-part, getD-part, lent-part}
+use Rattle.lent.proofs.OverLaws.{length-part, getD-part, lent-part}
 use Rattle.grouping_interval.specs.IntervalGrouping.{intervalMarks}
 use Rattle.grouping_interval.specs.GroupEnd.{groupEnd, marksFrom}
 use Rattle.grouping_interval.proofs.NumberLaws.{Numbering, numbering-start, numbering-next, numbering-here}

@@ -3,7 +3,7 @@ ghost use mathlib.Core.Path.{_≡_};
 ghost use Prim.Native.Nat.{ℕ, _<_};
 ghost use lib.ListN.{length, getD};
 ghost use lib.Ieee.{nan};
-ghost use Rattle.grouping_marks.specs.Over.{over};
+ghost use Rattle.lent.specs.Over.{over};
 ghost use Rattle.grouping_same_rhythm.specs.SameRhythm.{startsOf, between, intervalsOf};
 ghost use Rattle.grouping_same_rhythm.specs.passes.Groups.{FirstsRoom, FirstsListed, IntervalsRoom};
 use grouping_interval::walk::next_end;

@@ -1,6 +1,6 @@
 // A group's own interval: found, snapped to the one before, and set against it.
 ghost use mathlib.Core.Path.{_≡_};
-ghost use Rattle.grouping_sort.specs.Ordered.{AllFinite};
+ghost use Rattle.numeric_sort.specs.Ordered.{AllFinite};
 ghost use Rattle.grouping_same_rhythm.specs.Own.{snapped, ratioOf};
 ghost use Rattle.grouping_same_rhythm.specs.passes.Owns.{Modal};
 use grouping_normalizer::normal_of;

@@ -2,7 +2,7 @@
 ghost use mathlib.Core.Path.{_≡_};
 ghost use Prim.Native.Nat.{_-_, _≤_, _<_};
 ghost use lib.ListN.{length};
-ghost use Rattle.grouping_marks.specs.Over.{part};
+ghost use Rattle.lent.specs.Over.{part};
 ghost use Rattle.grouping_same_rhythm.specs.SamePatterns.{patternInterval, patternOf};
 use grouping_interval::walk::next_end;
 

@@ -6,18 +6,19 @@ use Prim.Native.Nat.{ℕ, _≤_}
 use native.Mathlib.Omega.{arith}
 use lib.ListN.{length, take, length-take}
 use lib.Seq.{take-all}
-use Rattle.grouping_marks.proofs.OverLaws.{front}
-use Rattle.grouping_color.specs.MonoStreak.{streakOf}
-use Rattle.grouping_color.specs.Preprocessor.{alternatingOf, hitOf, intervalOf}
-use Rattle.grouping_color.proofs.BoundLaws.{length-streakOf, length-alternatingOf, length-hitOf, length-intervalOf}
+use Rattle.lent.proofs.OverLaws.{front}
+use Rattle.grouping_colour.specs.MonoStreak.{streakOf}
+use Rattle.grouping_preprocessor.specs.Preprocessor.{alternatingOf, hitOf, intervalOf}
+use Rattle.grouping_colour.proofs.StreakListLaws.{length-streakOf}
+use Rattle.grouping_preprocessor.proofs.BoundLaws.{length-alternatingOf, length-hitOf, length-intervalOf}
 use Rattle.grouping_chart.specs.Settings.{baseSettings}
-use Rattle.grouping_encode.specs.Encode.{Memory}
-use Rattle.grouping_encode.specs.Passes.{Encoded}
+use Rattle.call_encode.specs.Encode.{Memory}
+use Rattle.call_encode.specs.passes.LookUps.{Encoded}
 use Rattle.letters_text.specs.declared.Reading.{Reading}
 use Rattle.letters_text.specs.declared.Reading.the-variants.{Long, Bad, Letters}
 use Rattle.letters_text.specs.Letters.{trimmed, kindsOf}
 use Rattle.letters_text.specs.Lines.{Columns, lines, badLine, longLine}
-use Rattle.letters_text.specs.Memory.{ReadText, Written, LinesFit}
+use Rattle.letters_text.specs.passes.Memory.{ReadText, Written, LinesFit}
 use Rattle.letters_text.proofs.LetterLaws.{length-kinds}
 use Rattle.letters_text.proofs.PrintedLaws.{read-long, read-bad, read-letters, read-all, read-kinds, inputBytes, printed-front}
 use Rattle.letters_text.proofs.WroteLaws.{written-same}

@@ -2,14 +2,14 @@
 use mathlib.Core.Path.{_≡_, refl}
 use mathlib.Core.List.{List, [], _∷_, map}
 use Prim.Native.Nat.{ℕ}
-use Rattle.grouping_marks.specs.Scan.{scan, after, tabulate, gathered}
+use Rattle.lent.specs.Scan.{scan, endState, tabulate, gathered}
 use Rattle.grouping_marks.specs.Marks.{opened, groupCount, groupNumbers, placeByMark, groupPlaces, sizesFrom, groupSizes, firstsFrom, groupFirsts}
 use Rattle.grouping_chart.specs.Object.{isNote, notes, noteIdx, noteBefore, previousNote}
 use Rattle.grouping_hits.specs.RepeatingHitPatterns.{coupledRun, hitSize, hitMarksAfter, hitMarks, secondAt, secondLengths, matches, nearestMatch, intervalAt, intervals}
-use Rattle.grouping_color.specs.MonoStreak.{continues, opensStreak, streakMarks, streakOf, streakLengths, streakTypes}
-use Rattle.grouping_color.specs.AlternatingMonoPattern.{opensPattern, patternMarks, coupledAt, coupled}
-use Rattle.grouping_color.specs.Preprocessor.{patternsOpen, firstLengths, streakCounts, patternTypes, coupledPatterns}
-use Rattle.grouping_color.specs.Preprocessor.{hitsOpen, hitSizes, hitFirsts, hitSeconds, hitIntervals, alternatingOf, hitOf, intervalOf}
+use Rattle.grouping_colour.specs.MonoStreak.{continues, opensStreak, streakMarks, streakOf, streakLengths, streakTypes}
+use Rattle.grouping_colour.specs.AlternatingMonoPattern.{opensPattern, patternMarks, coupledAt, coupled}
+use Rattle.grouping_preprocessor.specs.Preprocessor.{patternsOpen, firstLengths, streakCounts, patternTypes, coupledPatterns}
+use Rattle.grouping_preprocessor.specs.Preprocessor.{hitsOpen, hitSizes, hitFirsts, hitSeconds, hitIntervals, alternatingOf, hitOf, intervalOf}
 use Rattle.letters_text.specs.Letters.{trimmed, isLetter, kindOf, letterOf, kindsOf, firstBad, reading}
 use Rattle.letters_text.specs.Decimal.{digitAt, decimal}
 use Rattle.letters_text.specs.Lines.{lineHead, parting, firstLetter, nextLetter, linesAfter, linesOf, objectAt, objects, lines, badLine, longLine, printed}
@@ -40,7 +40,7 @@ examples =
     ∷ []
 
 examples-right : map (λ (e : Example). lettersOutput (e .input)) examples ≡ map (λ (e : Example). e .output) examples
-unfolding examples lettersOutput columns scan after tabulate gathered
+unfolding examples lettersOutput columns scan endState tabulate gathered
     opened groupCount groupNumbers placeByMark groupPlaces sizesFrom groupSizes firstsFrom groupFirsts
     isNote notes noteIdx noteBefore previousNote continues opensStreak streakMarks streakOf streakLengths streakTypes
     opensPattern patternMarks coupledAt coupled coupledRun hitSize hitMarksAfter hitMarks secondAt secondLengths matches nearestMatch intervalAt intervals

@@ -4,9 +4,9 @@ use mathlib.Core.List.{List}
 use Prim.Native.Nat.{ℕ, _<_}
 use native.Mathlib.Omega.{arith}
 use lib.ListN.{length, getD}
-use Rattle.grouping_marks.proofs.FillLaws.{getD-gathered}
-use Rattle.grouping_color.specs.Preprocessor.{hitIntervals, hitCount, hitOf, intervalOf}
-use Rattle.grouping_color.proofs.BoundLaws.{hit-interval-range, length-hitOf, hitOf-below, intervalOf-looked}
+use Rattle.lent.proofs.FillLaws.{getD-gathered}
+use Rattle.grouping_preprocessor.specs.Preprocessor.{hitIntervals, hitCount, hitOf, intervalOf}
+use Rattle.grouping_preprocessor.proofs.BoundLaws.{hit-interval-range, length-hitOf, hitOf-below, intervalOf-looked}
 use Rattle.grouping_chart.specs.Settings.{baseSettings}
 
 module _ (kinds : List ℕ) where

@@ -4,12 +4,12 @@ use mathlib.Core.Path.{_≡_}
 use Prim.Native.Nat.{ℕ, _≤_}
 use mathlib.Core.List.{List}
 use lib.ListN.{length, take}
-use Rattle.grouping_color.specs.MonoStreak.{streakOf}
-use Rattle.grouping_color.specs.Preprocessor.{alternatingOf, hitOf, intervalOf}
+use Rattle.grouping_colour.specs.MonoStreak.{streakOf}
+use Rattle.grouping_preprocessor.specs.Preprocessor.{alternatingOf, hitOf, intervalOf}
 use Rattle.grouping_chart.specs.Settings.{baseSettings}
 use Rattle.letters_text.specs.Letters.{trimmed, kindsOf, reading}
 use Rattle.letters_text.specs.Lines.{Columns, lines, printed}
-use Rattle.letters_text.specs.Memory.{Written}
+use Rattle.letters_text.specs.passes.Memory.{Written}
 
 -- the numbers of encode that the lines show
 unfoldable pub columns : List ℕ → Columns

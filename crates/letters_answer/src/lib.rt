@@ -1,7 +1,7 @@
 // Everything that the letters program does but writing its output.
 ghost use lib.ListN.{length};
 ghost use Rattle.letters_text.specs.Lines.{lines};
-ghost use Rattle.letters_text.specs.Memory.{Written};
+ghost use Rattle.letters_text.specs.passes.Memory.{Written};
 ghost use Rattle.letters_answer.specs.Output.{columns, lettersOutput, LettersRoom, Answered};
 use letters_text::Reading;
 
@@ -24,7 +24,7 @@ fn answer_letters(kinds: &[u8], out: &mut [u8]) -> usize
     let mut hit = [0u16; 1024];
     let mut interval = [0u8; 1024];
     let mut work = [0u16; 8192];
-    grouping_encode::encode_kinds(
+    call_encode::encode_kinds(
         kinds,
         grouping_chart::settings::SEARCH_LIMIT,
         &mut streak,

@@ -10,7 +10,7 @@ use borrow.Author.Tests.{lt-ltb, le-ltb, ltb-true, ltb-false}
 use lib.Dec.{ltb}
 use lib.ListN.{length, length-append}
 use Rattle.letters_text.specs.Decimal.{digitAt, decimal}
-use Rattle.letters_text.specs.Memory.{Wrote}
+use Rattle.letters_text.specs.passes.Memory.{Wrote}
 use Rattle.letters_text.proofs.WroteLaws.{wrote-nothing, wrote-same}
 
 digit-none : (n w : ℕ) → n < w → digitAt n w ≡ []

@@ -3,7 +3,7 @@ use mathlib.Core.Path.{_≡_, refl}
 use mathlib.Core.List.{List, [], _∷_, _++_, map}
 use Prim.Native.Nat.{ℕ}
 use lib.ListN.{replicate}
-use Rattle.grouping_marks.specs.Scan.{tabulate}
+use Rattle.lent.specs.Scan.{tabulate}
 use Rattle.letters_text.specs.declared.Reading.the-variants.{Letters}
 use Rattle.letters_text.specs.Letters.{trimmed, isLetter, kindOf, letterOf, kindsOf, firstBad, reading}
 use Rattle.letters_text.specs.Decimal.{digitAt, decimal}

@@ -10,12 +10,12 @@ use borrow.Author.Tests.{lt-ltb, le-ltb, eq-eqb, ne-eqb, eqb-true, ltb-true, ltb
 use lib.Dec.{eqb, ltb}
 use lib.ListN.{length, take, drop, getD, length-map, drop-of-length-le}
 use lib.Seq.{drop-cons, take-length, length-take-le}
-use Rattle.grouping_marks.specs.Over.{over}
-use Rattle.grouping_marks.proofs.FillLaws.{getD-map}
+use Rattle.lent.specs.Over.{over}
+use Rattle.lent.proofs.FillLaws.{getD-map}
 use Rattle.letters_text.specs.declared.Reading.{Reading}
 use Rattle.letters_text.specs.declared.Reading.the-variants.{Long, Bad, Letters}
 use Rattle.letters_text.specs.Letters.{trimmed, isLetter, kindOf, letterOf, kindsOf, firstBad, reading}
-use Rattle.letters_text.specs.Memory.{Front, kindsAfter, ReadText}
+use Rattle.letters_text.specs.passes.Memory.{Front, kindsAfter, ReadText}
 
 -- ---- one line feed at the end
 

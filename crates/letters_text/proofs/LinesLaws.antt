@@ -9,12 +9,12 @@ use borrow.Author.Tests.{eq-eqb, ne-eqb}
 use lib.Dec.{eqb}
 use lib.ListN.{length, drop, getD, length-append, drop-of-length-le}
 use lib.Seq.{drop-cons}
-use Rattle.grouping_marks.proofs.FillLaws.{length-tabulate, getD-tabulate}
+use Rattle.lent.proofs.FillLaws.{length-tabulate, getD-tabulate}
 use Rattle.letters_text.specs.declared.Object.{Object}
 use Rattle.letters_text.specs.Letters.{letterOf}
 use Rattle.letters_text.specs.Decimal.{decimal}
 use Rattle.letters_text.specs.Lines.{Columns, objectAt, objects, lineHead, parting, firstLetter, nextLetter, linesAfter, linesOf, lines}
-use Rattle.letters_text.specs.Memory.{Wrote, Written, LinesFit}
+use Rattle.letters_text.specs.passes.Memory.{Wrote, Written, LinesFit}
 use Rattle.letters_text.proofs.DecimalLaws.{decimal-two}
 use Rattle.letters_text.proofs.WroteLaws.{wrote-nothing, wrote-same, wrote-more, wrote-length, written}
 use Rattle.letters_text.proofs.WroteLaws.{Progress, progress-start, progress-room, progress-turn, progress-end}

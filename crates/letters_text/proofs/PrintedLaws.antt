@@ -8,12 +8,12 @@ use borrow.Author.Tests.{ltb-true, ltb-false}
 use lib.Dec.{ltb}
 use lib.ListN.{length, take}
 use lib.Seq.{take-all, length-take-le}
-use Rattle.grouping_marks.specs.Over.{over}
+use Rattle.lent.specs.Over.{over}
 use Rattle.letters_text.specs.declared.Reading.{Reading}
 use Rattle.letters_text.specs.declared.Reading.the-variants.{Long, Bad, Letters}
 use Rattle.letters_text.specs.Letters.{trimmed, kindsOf, reading}
 use Rattle.letters_text.specs.Lines.{badLine, longLine, printed}
-use Rattle.letters_text.specs.Memory.{kindsAfter, ReadText}
+use Rattle.letters_text.specs.passes.Memory.{kindsAfter, ReadText}
 use Rattle.letters_text.proofs.LetterLaws.{AllLetters, BadAt, letters-told, bad-told, length-trimmed, reading-long}
 
 module _ {t old new : List ℕ} {r : Reading} (x : ReadText t old new r) where

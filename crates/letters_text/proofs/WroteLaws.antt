@@ -5,10 +5,10 @@ use mathlib.Core.List.{List, [], _∷_, _++_, append-assoc, append-nil}
 use Prim.Native.Nat.{ℕ, _+_, _≤_, _<_}
 use native.Mathlib.Omega.{arith}
 use lib.ListN.{length, set, length-append}
-use Rattle.grouping_marks.specs.Over.{put}
-use Rattle.grouping_marks.proofs.OverLaws.{put-front, put-nothing, length-put}
-use Rattle.grouping_marks.proofs.AppendLaws.{put-append, put-one}
-use Rattle.letters_text.specs.Memory.{Wrote, Written}
+use Rattle.lent.specs.Over.{put}
+use Rattle.lent.proofs.OverLaws.{put-front, put-nothing, length-put}
+use Rattle.lent.proofs.AppendLaws.{put-append, put-one}
+use Rattle.letters_text.specs.passes.Memory.{Wrote, Written}
 
 pub wrote-nothing : (at : ℕ) (w : List ℕ) → Wrote [] at w w at
 wrote-nothing at w = record { next = omega arith; memory = sym (put-nothing at w) }

@@ -2,4 +2,4 @@
 pub mod Letters
 pub mod Decimal
 pub mod Lines
-pub mod Memory
+pub mod passes

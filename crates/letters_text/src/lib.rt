@@ -3,12 +3,12 @@ ghost use mathlib.Core.Path.{_≡_};
 ghost use mathlib.Core.List.{[], _∷_};
 ghost use Prim.Native.Nat.{_+_, _≤_, _<_};
 ghost use lib.ListN.{length};
-ghost use Rattle.grouping_marks.specs.Over.{over};
+ghost use Rattle.lent.specs.Over.{over};
 ghost use Rattle.letters_text.specs.Letters.{trimmed, isLetter, kindOf, letterOf, kindsOf, firstBad};
 ghost use Rattle.letters_text.specs.Decimal.{digitAt, decimal};
 ghost use Rattle.letters_text.specs.Lines.{columnsOf, objectAt, lineHead, parting, firstLetter, nextLetter};
 ghost use Rattle.letters_text.specs.Lines.{lines, badLine, longLine};
-ghost use Rattle.letters_text.specs.Memory.{Front, ReadText, Wrote, Written, OneLength, LinesFit};
+ghost use Rattle.letters_text.specs.passes.Memory.{Front, ReadText, Wrote, Written, OneLength, LinesFit};
 
 // What a text is: over 1,024 bytes, a byte that is no letter at a place, or so many letters.
 pub enum Reading {

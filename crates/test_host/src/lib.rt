@@ -7,7 +7,7 @@ ghost use Rattle.numeric.specs.TotalOrder.{totalOrder};
 ghost use Rattle.numeric.specs.RoundTiesEven.{roundTiesEven};
 ghost use Rattle.numeric.specs.Tenths.{tenthsOf, InTenthsRange};
 ghost use Rattle.numeric.specs.Logistic.{logisticAt};
-ghost use Rattle.grouping_sort.specs.Ordered.{AllFinite};
+ghost use Rattle.numeric_sort.specs.Ordered.{AllFinite};
 ghost use Rattle.grouping_normalizer.specs.Normalizer.{NormalOf};
 ghost use Rattle.grouping_interval.specs.GroupByInterval.{Places, GroupedByInterval};
 

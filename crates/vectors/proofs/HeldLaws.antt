@@ -10,10 +10,10 @@ use borrow.Author.Tests.{lt-ltb, le-ltb, ltb-true, ltb-false}
 use lib.Dec.{ltb}
 use lib.ListN.{length, take, getD, length-take, replicate, length-replicate, getD-replicate}
 use lib.Seq.{length-take-le, getD-take, ext-getD}
-use Rattle.grouping_marks.specs.Over.{over}
-use Rattle.grouping_marks.specs.Scan.{tabulate}
-use Rattle.grouping_marks.proofs.OverLaws.{front, length-over, put-front, getD-put-after}
-use Rattle.grouping_marks.proofs.FillLaws.{length-tabulate, getD-tabulate}
+use Rattle.lent.specs.Over.{over}
+use Rattle.lent.specs.Scan.{tabulate}
+use Rattle.lent.proofs.OverLaws.{front, length-over, put-front, getD-put-after}
+use Rattle.lent.proofs.FillLaws.{length-tabulate, getD-tabulate}
 use Rattle.vectors.specs.Case.{pair, pairAt, quadAt, wordAt, numberAt, column, columnWord, words}
 use Rattle.vectors.specs.Held.{Tells, Held, expected}
 use Rattle.vectors.proofs.TellsLaws.{denied, granted}

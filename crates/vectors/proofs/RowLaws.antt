@@ -6,8 +6,8 @@ use Prim.Native.Nat.{ℕ, _+_, _-_, _≤_, _<_}
 use native.Mathlib.Omega.{arith}
 use lib.ListN.{length, take, drop, take-append-drop, replicate}
 use lib.Seq.{take-length}
-use Rattle.grouping_marks.specs.Over.{over, part}
-use Rattle.grouping_marks.proofs.OverLaws.{front, drop-over, length-part, lent-part}
+use Rattle.lent.specs.Over.{over, part}
+use Rattle.lent.proofs.OverLaws.{front, drop-over, length-part, lent-part}
 use Rattle.vectors.specs.Held.{Tells, Held, BytesThere}
 use Rattle.vectors.proofs.TellsLaws.{denied, tells-as}
 use Rattle.vectors.proofs.HeldLaws.{written-cut, held-room}

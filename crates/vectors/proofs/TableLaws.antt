@@ -4,9 +4,9 @@ use mathlib.Core.List.{List}
 use Prim.Native.Nat.{ℕ}
 use lib.Ieee.{Float}
 use lib.ListN.{length, take}
-use Rattle.grouping_marks.specs.Over.{over}
-use Rattle.grouping_marks.proofs.OverLaws.{front}
-use Rattle.grouping_marks.proofs.FillLaws.{length-tabulate}
+use Rattle.lent.specs.Over.{over}
+use Rattle.lent.proofs.OverLaws.{front}
+use Rattle.lent.proofs.FillLaws.{length-tabulate}
 use Rattle.vectors.specs.Table.{entryAt, entries}
 
 module _ (s : List ℕ) (table column width n : ℕ) where

@@ -4,7 +4,7 @@ use mathlib.Core.Bool.{cond}
 use mathlib.Core.List.{List}
 use lib.Dec.{eqb}
 use lib.ListN.{getD}
-use Rattle.grouping_marks.specs.Scan.{tabulate}
+use Rattle.lent.specs.Scan.{tabulate}
 use Rattle.vectors.specs.declared.case.Head.{Head}
 
 -- two bytes, the low one first

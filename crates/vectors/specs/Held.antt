@@ -5,7 +5,7 @@ use mathlib.Core.List.{List}
 use Prim.Native.Nat.{ℕ, _+_, _≤_}
 use lib.Dec.{ltb}
 use lib.ListN.{length, replicate}
-use Rattle.grouping_marks.specs.Over.{over}
+use Rattle.lent.specs.Over.{over}
 
 -- an answer tells exactly whether P holds
 abbrev pub Tells : Bool → Type 0 → Type 0

@@ -5,7 +5,7 @@ use Prim.Native.Nat.{ℕ, _^_, _<_, _≤_}
 use lib.Dec.{eqb}
 use lib.ListN.{length}
 use lib.Ieee.{Float, binary64, ofBits}
-use Rattle.grouping_marks.specs.Scan.{tabulate}
+use Rattle.lent.specs.Scan.{tabulate}
 use Rattle.vectors.specs.Case.{numberAt, columnWord}
 
 -- which float of the table is meant at i: the one that number i of the column names or,

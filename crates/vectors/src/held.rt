@@ -7,7 +7,7 @@ ghost use Prim.Native.Nat.{_+_, _*_, _^_, _<_};
 ghost use lib.ListN.{replicate};
 ghost use lib.Ieee as Ieee;
 ghost use lib.Ieee.{binary64};
-ghost use Rattle.grouping_marks.specs.Over.{part};
+ghost use Rattle.lent.specs.Over.{part};
 ghost use Rattle.vectors.specs.Case.{numberAt, column, columnWord, words};
 ghost use Rattle.vectors.specs.Held.{Tells, Held, BytesThere, expected};
 use crate::case;

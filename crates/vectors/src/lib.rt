@@ -2,5 +2,5 @@
 pub mod case;
 pub mod form;
 pub mod held;
-pub mod lent;
+pub mod sentinel;
 pub mod table;

@@ -1,7 +1,7 @@
 // A column of places in a table of floats: reading the floats that it names into a slice.
 ghost use mathlib.Core.Path.{_≡_};
 ghost use Prim.Native.Nat.{_^_, _≤_, _<_};
-ghost use Rattle.grouping_marks.specs.Over.{over};
+ghost use Rattle.lent.specs.Over.{over};
 ghost use Rattle.vectors.specs.Table.{placeAt, entryAt, entries, EntryThere, EntriesRoom};
 use crate::case;
 

@@ -10,11 +10,11 @@ use Rattle.grouping_chart.specs.Refusal.{verdict}
 use Rattle.grouping_chart.specs.declared.chart.Verdict.the-variants.{Accepted}
 use Rattle.grouping_chart.specs.Settings.{Settings}
 use Rattle.grouping_chart.proofs.AcceptedLaws.{accepted-good}
-use Rattle.grouping_encode.specs.Encode as encode
-use Rattle.grouping_encode.proofs.EncodeLaws.{hit-written, interval-written}
-use Rattle.evaluator_calls.specs.Calls.{Memory, judged}
-use Rattle.evaluator_calls.specs.declared.Stretching.the-variants.{Done}
-use Rattle.evaluator_calls.proofs.AnswerLaws.{value-written, stretch-answered}
+use Rattle.call_encode.specs.Encode as encode
+use Rattle.call_encode.proofs.EncodeLaws.{hit-written, interval-written}
+use Rattle.call_colour.specs.Calls.{Memory, judged}
+use Rattle.call_colour.specs.declared.Stretching.the-variants.{Done}
+use Rattle.call_colour.proofs.AnswerLaws.{value-written, stretch-answered}
 use Rattle.agreement.specs.CommonTail.{Counterparts, SameLast}
 use Rattle.agreement.specs.SameGroups.{groups}
 use Rattle.agreement.specs.colour.Landmark.{ColourLandmark}

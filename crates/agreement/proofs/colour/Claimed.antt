@@ -7,7 +7,7 @@ use native.Mathlib.Omega.{arith}
 use lib.ListN.{length, getD}
 use Rattle.grouping_chart.specs.Chart.{Chart, size}
 use Rattle.grouping_chart.specs.Settings.{Settings}
-use Rattle.grouping_color.specs.Preprocessor.{hitOf, intervalOf}
+use Rattle.grouping_preprocessor.specs.Preprocessor.{hitOf, intervalOf}
 use Rattle.evaluator_values.proofs.StandingLaws.{value-of}
 use Rattle.agreement.specs.CommonTail.{Counterparts, SameLast}
 use Rattle.agreement.specs.SameGroups.{OpensAt, SameGroups}

@@ -4,12 +4,12 @@ use mathlib.Core.Path.{_≡_, refl}
 use mathlib.Core.Bool.{true}
 use mathlib.Core.List.{List, [], _∷_, map}
 use Prim.Native.Nat.{ℕ}
-use Rattle.grouping_marks.specs.Scan.{scan, after, tabulate, gathered}
+use Rattle.lent.specs.Scan.{scan, endState, tabulate, gathered}
 use Rattle.grouping_marks.specs.Marks.{opened, groupCount, groupNumbers, sizesFrom, groupSizes, firstsFrom, groupFirsts}
 use Rattle.grouping_chart.specs.Object.{isNote, notes, noteIdx, noteBefore, previousNote}
-use Rattle.grouping_color.specs.MonoStreak.{continues, opensStreak, streakMarks, streakOf, streakLengths, streakTypes}
-use Rattle.grouping_color.specs.AlternatingMonoPattern.{opensPattern, patternMarks, coupledAt, coupled}
-use Rattle.grouping_color.specs.Preprocessor.{patternsOpen, firstLengths, streakCounts, patternTypes, coupledPatterns, alternatingOf}
+use Rattle.grouping_colour.specs.MonoStreak.{continues, opensStreak, streakMarks, streakOf, streakLengths, streakTypes}
+use Rattle.grouping_colour.specs.AlternatingMonoPattern.{opensPattern, patternMarks, coupledAt, coupled}
+use Rattle.grouping_preprocessor.specs.Preprocessor.{patternsOpen, firstLengths, streakCounts, patternTypes, coupledPatterns, alternatingOf}
 use Rattle.agreement.specs.colour.Landmark.{ColourLandmark}
 use Rattle.agreement.specs.Tests.{allTrue, anyBelow}
 use Rattle.agreement.specs.colour.LandmarkTest.{levelsOf, tailNoteBefore, objectServes, streakServes, patternServes, endsAt, patternFound, streakFound}
@@ -50,7 +50,7 @@ record Computed : Type 0 where
 computed : Computed
 unfolding examples offsetsFound offsetsBelow allTrue anyBelow
     levelsOf tailNoteBefore objectServes streakServes patternServes endsAt patternFound streakFound landmarkFound isLandmark
-    scan after tabulate gathered opened groupCount groupNumbers sizesFrom groupSizes firstsFrom groupFirsts
+    scan endState tabulate gathered opened groupCount groupNumbers sizesFrom groupSizes firstsFrom groupFirsts
     isNote notes noteIdx noteBefore previousNote continues opensStreak streakMarks streakOf streakLengths streakTypes
     opensPattern patternMarks coupledAt coupled patternsOpen firstLengths streakCounts patternTypes alternatingOf coupledPatterns
 computed = record { examples-right = refl; one-found = refl }

@@ -7,16 +7,16 @@ use mathlib.Core.List.{List, [], _∷_, _++_}
 use Prim.Native.Nat.{ℕ, zero, suc, _+_, _-_}
 use lib.Dec.{eqb, leb, ltb}
 use lib.ListN.{length, getD, replicate}
-use Rattle.grouping_marks.specs.Scan.{scan, after, tabulate, gathered}
+use Rattle.lent.specs.Scan.{scan, endState, tabulate, gathered}
 use Rattle.grouping_marks.specs.Marks.{opened, groupCount, groupNumbers, placeByMark, groupSizes, sizesFrom, groupFirsts, firstsFrom}
 use Rattle.grouping_chart.specs.Object.{isNote, notes, noteIdx, noteBefore, previousNote}
 use Rattle.grouping_chart.specs.Chart.{Chart}
 use Rattle.grouping_chart.specs.Settings.{baseSettings}
 use Rattle.grouping_hits.specs.RepeatingHitPatterns.{coupledRun, hitSize, hitMarksAfter, hitMarks, secondAt, secondLengths, matches, nearestMatch, intervalAt, intervals}
-use Rattle.grouping_color.specs.MonoStreak.{continues, opensStreak, streakMarks, streakOf, streakLengths, streakTypes}
-use Rattle.grouping_color.specs.AlternatingMonoPattern.{opensPattern, patternMarks, coupledAt, coupled}
-use Rattle.grouping_color.specs.Preprocessor.{patternsOpen, firstLengths, streakCounts, patternTypes, coupledPatterns, hitsOpen, hitSizes, hitFirsts}
-use Rattle.grouping_color.specs.Preprocessor.{hitSeconds, hitIntervals, alternatingOf, hitOf, intervalOf}
+use Rattle.grouping_colour.specs.MonoStreak.{continues, opensStreak, streakMarks, streakOf, streakLengths, streakTypes}
+use Rattle.grouping_colour.specs.AlternatingMonoPattern.{opensPattern, patternMarks, coupledAt, coupled}
+use Rattle.grouping_preprocessor.specs.Preprocessor.{patternsOpen, firstLengths, streakCounts, patternTypes, coupledPatterns, hitsOpen, hitSizes, hitFirsts}
+use Rattle.grouping_preprocessor.specs.Preprocessor.{hitSeconds, hitIntervals, alternatingOf, hitOf, intervalOf}
 use Rattle.agreement.specs.Tests.{allTrue, anyBelow}
 use Rattle.agreement.specs.colour.LandmarkTest.{Levels, levelsOf, Conditions, tailNoteBefore, objectServes, streakServes, patternServes, plain, endsAt}
 use Rattle.agreement.specs.colour.LandmarkTest.{patternFound, streakFound, landmarkFound, isLandmark}
@@ -108,7 +108,7 @@ record Computed : Type 0 where
 computed : Computed
 unfolding refutes opensThere allTrue anyBelow objectBefore noteAnywhere secondAfter anyLengths patternEarlier oneUncoupled oneThenNext
     levelsOf tailNoteBefore objectServes streakServes patternServes endsAt patternFound streakFound landmarkFound isLandmark
-    scan after tabulate gathered opened groupCount groupNumbers placeByMark groupSizes sizesFrom groupFirsts firstsFrom
+    scan endState tabulate gathered opened groupCount groupNumbers placeByMark groupSizes sizesFrom groupFirsts firstsFrom
     isNote notes noteIdx noteBefore previousNote continues opensStreak streakMarks streakOf streakLengths streakTypes
     opensPattern patternMarks coupledAt coupled coupledRun hitSize hitMarksAfter hitMarks
     patternsOpen firstLengths streakCounts patternTypes coupledPatterns hitsOpen alternatingOf hitOf
@@ -168,7 +168,7 @@ record TooEarly : Type 0 where
   fifteenth-behind-d : getD (intervalOf 16 (0 ∷ long)) 139 0 ≡ 17
 
 too-early : TooEarly
-unfolding long runs scan after tabulate gathered opened groupNumbers placeByMark groupSizes sizesFrom groupFirsts firstsFrom
+unfolding long runs scan endState tabulate gathered opened groupNumbers placeByMark groupSizes sizesFrom groupFirsts firstsFrom
     isNote notes noteIdx noteBefore previousNote continues opensStreak streakMarks streakOf streakLengths streakTypes
     opensPattern patternMarks coupledAt coupled coupledRun hitSize hitMarksAfter hitMarks secondAt secondLengths matches nearestMatch intervalAt intervals
     patternsOpen firstLengths streakCounts patternTypes coupledPatterns hitsOpen hitSizes hitFirsts hitSeconds hitIntervals alternatingOf hitOf intervalOf

@@ -12,12 +12,13 @@ use Rattle.grouping_marks.proofs.MarksLaws.{count-le, length-numbers}
 use Rattle.grouping_marks.proofs.CutLaws.{Opening, opening-at, count-cut}
 use Rattle.grouping_marks.proofs.SplitLaws.{Split, split-numbers, split-before}
 use Rattle.grouping_chart.specs.Object.{isNote}
-use Rattle.grouping_color.specs.MonoStreak.{streakMarks, streakOf, streakLengths}
-use Rattle.grouping_color.specs.Preprocessor.{patternsOpen, coupledPatterns}
-use Rattle.grouping_color.proofs.LengthLaws.{length-streakMarks}
-use Rattle.grouping_color.proofs.BoundLaws.{length-streakOf, length-patternsOpen, length-alternatingOf}
-use Rattle.grouping_color.proofs.MadeLaws.{streakOf-made}
-use Rattle.grouping_color.proofs.StreakCutLaws.{HasNote, streakMarksAfter, streakMarks-cut, streakMarks-agree}
+use Rattle.grouping_colour.specs.MonoStreak.{streakMarks, streakOf, streakLengths}
+use Rattle.grouping_preprocessor.specs.Preprocessor.{patternsOpen, coupledPatterns}
+use Rattle.grouping_colour.proofs.LengthLaws.{length-streakMarks}
+use Rattle.grouping_colour.proofs.StreakListLaws.{length-streakOf}
+use Rattle.grouping_preprocessor.proofs.BoundLaws.{length-patternsOpen, length-alternatingOf}
+use Rattle.grouping_colour.proofs.StreakListLaws.{streakOf-made}
+use Rattle.grouping_colour.proofs.StreakCutLaws.{HasNote, streakMarksAfter, streakMarks-cut, streakMarks-agree}
 use Rattle.agreement.specs.CommonTail.{Counterparts, lastOf, SameLast}
 use Rattle.agreement.specs.colour.Landmark.{ColourLandmark}
 use Rattle.agreement.specs.colour.Agreement.{Agree, Agreement}

@@ -8,7 +8,7 @@ use lib.Dec.{eqb, leb}
 use lib.ListN.{length, getD}
 use borrow.Author.Tests.{ltb-true, leb-true, eqb-true, eqb-false, lt-ltb, le-leb, eq-eqb, ne-eqb, not-true}
 use Rattle.grouping_chart.specs.Object.{isNote}
-use Rattle.grouping_color.specs.Preprocessor.{alternatingOf}
+use Rattle.grouping_preprocessor.specs.Preprocessor.{alternatingOf}
 use Rattle.agreement.specs.Tests.{allTrue}
 use Rattle.agreement.specs.colour.Landmark.{ColourLandmark}
 use Rattle.agreement.specs.colour.LandmarkTest.{levelsOf, tailNoteBefore, objectServes, streakServes, patternServes, plain, endsAt, patternFound}

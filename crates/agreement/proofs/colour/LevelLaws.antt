@@ -7,23 +7,24 @@ use native.Mathlib.Numerals.{add-one}
 use native.Mathlib.Omega.{arith}
 use lib.ListN.{length, getD, take, drop, length-append, length-drop, take-append-drop}
 use lib.Seq.{getD-take, getD-drop, getD-append-add, length-take-le, drop-cons}
-use Rattle.grouping_marks.specs.Scan.{tabulate}
+use Rattle.lent.specs.Scan.{tabulate}
 use Rattle.grouping_marks.specs.Marks.{groupCount, groupSizes, groupFirsts}
-use Rattle.grouping_marks.proofs.FillLaws.{length-tabulate}
+use Rattle.lent.proofs.FillLaws.{length-tabulate}
 use Rattle.grouping_marks.proofs.MarksLaws.{length-sizes, length-firsts, count-le}
 use Rattle.grouping_marks.proofs.CutLaws.{Opening, opening-front, count-cut}
 use Rattle.grouping_marks.proofs.SplitLaws.{CutAt, cut-at}
 use Rattle.grouping_hits.specs.RepeatingHitPatterns.{hitMarks}
 use Rattle.grouping_hits.proofs.LengthLaws.{length-hitMarks}
 use Rattle.grouping_hits.proofs.HitCutLaws.{hitMarks-cut, hitMarks-opening}
-use Rattle.grouping_color.specs.MonoStreak.{streakMarks, streakLengths, streakTypes}
-use Rattle.grouping_color.specs.AlternatingMonoPattern.{patternMarks, coupledAt, coupled}
-use Rattle.grouping_color.specs.Preprocessor.{patternsOpen, firstLengths, streakCounts, patternTypes, coupledPatterns, hitsOpen}
-use Rattle.grouping_color.proofs.LengthLaws.{length-streakMarks, length-patternMarks, length-coupled}
-use Rattle.grouping_color.proofs.MadeLaws.{streakLengths-made, streakTypes-made, patternsOpen-made, firstLengths-made, streakCounts-made, patternTypes-made}
-use Rattle.grouping_color.proofs.MadeLaws.{coupledPatterns-made, hitsOpen-made}
-use Rattle.grouping_color.proofs.StreakCutLaws.{streakMarksAfter, length-marksAfter, streakMarks-cut, streakLengths-cut, streakTypes-cut}
-use Rattle.grouping_color.proofs.PatternCutLaws.{Uneven, patternMarks-cut, patternMarks-opening, counts-cut, listed-cut, coupled-cut}
+use Rattle.grouping_colour.specs.MonoStreak.{streakMarks, streakLengths, streakTypes}
+use Rattle.grouping_colour.specs.AlternatingMonoPattern.{patternMarks, coupledAt, coupled}
+use Rattle.grouping_preprocessor.specs.Preprocessor.{patternsOpen, firstLengths, streakCounts, patternTypes, coupledPatterns, hitsOpen}
+use Rattle.grouping_colour.proofs.LengthLaws.{length-streakMarks, length-patternMarks, length-coupled}
+use Rattle.grouping_colour.proofs.StreakListLaws.{streakLengths-made, streakTypes-made}
+use Rattle.grouping_preprocessor.proofs.MadeLaws.{patternsOpen-made, firstLengths-made, streakCounts-made, patternTypes-made}
+use Rattle.grouping_preprocessor.proofs.MadeLaws.{coupledPatterns-made, hitsOpen-made}
+use Rattle.grouping_colour.proofs.StreakCutLaws.{streakMarksAfter, length-marksAfter, streakMarks-cut, streakLengths-cut, streakTypes-cut}
+use Rattle.grouping_colour.proofs.PatternCutLaws.{Uneven, patternMarks-cut, patternMarks-opening, counts-cut, listed-cut, coupled-cut}
 use Rattle.agreement.proofs.colour.PartLaws.{Back, Parted}
 
 -- a list that is cut, cut once more in its back

@@ -5,9 +5,9 @@ use Prim.Native.Nat.{ℕ, _+_, _-_, _≤_, _<_}
 use native.Mathlib.Omega.{arith}
 use lib.ListN.{length, getD, drop, length-append}
 use lib.Seq.{drop-at}
-use Rattle.grouping_marks.specs.Scan.{tabulate, gathered}
+use Rattle.lent.specs.Scan.{tabulate, gathered}
 use Rattle.grouping_marks.specs.Marks.{groupCount, groupNumbers, groupPlaces, groupSizes, groupFirsts}
-use Rattle.grouping_marks.proofs.FillLaws.{length-tabulate, length-gathered, getD-gathered}
+use Rattle.lent.proofs.FillLaws.{length-tabulate, length-gathered, getD-gathered}
 use Rattle.grouping_marks.proofs.MarksLaws.{length-numbers, length-places, length-sizes, length-firsts}
 use Rattle.grouping_marks.proofs.CutLaws.{Opening, sizes-cut, firsts-cut, count-cut, places-cut}
 use Rattle.grouping_marks.proofs.NumberLaws.{number-first}
@@ -17,14 +17,15 @@ use Rattle.grouping_hits.specs.RepeatingHitPatterns.{secondAt, secondLengths, i
 use Rattle.grouping_hits.proofs.LengthLaws.{length-hitMarks, length-secondLengths}
 use Rattle.grouping_hits.proofs.HitCutLaws.{secondLengths-cut}
 use Rattle.grouping_hits.proofs.IntervalCutLaws.{intervals-back}
-use Rattle.grouping_color.specs.MonoStreak.{streakMarks, streakOf}
-use Rattle.grouping_color.specs.Preprocessor.{patternsOpen, firstLengths, streakCounts, patternTypes, coupledPatterns, hitsOpen, hitCount, hitSizes, hitFirsts}
-use Rattle.grouping_color.specs.Preprocessor.{hitSeconds, streakPlaceOf, alternatingOf, patternPlaceOf, hitOf, intervalOf}
-use Rattle.grouping_color.proofs.LengthLaws.{length-streakMarks, length-coupled}
-use Rattle.grouping_color.proofs.BoundLaws.{length-patternsOpen, length-hitsOpen, streakPlaceOf-looked, alternatingOf-looked, patternPlaceOf-looked, hitOf-looked}
-use Rattle.grouping_color.proofs.BoundLaws.{intervalOf-looked}
-use Rattle.grouping_color.proofs.MadeLaws.{streakOf-made, coupledPatterns-made, hitsOpen-made, hitCount-made, hitSizes-made, hitFirsts-made, hitSeconds-made}
-use Rattle.grouping_color.proofs.MadeLaws.{hitIntervals-made}
+use Rattle.grouping_colour.specs.MonoStreak.{streakMarks, streakOf}
+use Rattle.grouping_preprocessor.specs.Preprocessor.{patternsOpen, firstLengths, streakCounts, patternTypes, coupledPatterns, hitsOpen, hitCount, hitSizes, hitFirsts}
+use Rattle.grouping_preprocessor.specs.Preprocessor.{hitSeconds, streakPlaceOf, alternatingOf, patternPlaceOf, hitOf, intervalOf}
+use Rattle.grouping_colour.proofs.LengthLaws.{length-streakMarks, length-coupled}
+use Rattle.grouping_preprocessor.proofs.BoundLaws.{length-patternsOpen, length-hitsOpen, streakPlaceOf-looked, alternatingOf-looked, patternPlaceOf-looked, hitOf-looked}
+use Rattle.grouping_preprocessor.proofs.BoundLaws.{intervalOf-looked}
+use Rattle.grouping_colour.proofs.StreakListLaws.{streakOf-made}
+use Rattle.grouping_preprocessor.proofs.MadeLaws.{coupledPatterns-made, hitsOpen-made, hitCount-made, hitSizes-made, hitFirsts-made, hitSeconds-made}
+use Rattle.grouping_preprocessor.proofs.MadeLaws.{hitIntervals-made}
 use Rattle.agreement.specs.colour.Agreement.{FirstAlike, HitsCut, Agree}
 
 -- what stands behind the cut: the marks of each level, and the patterns' first lengths

@@ -4,16 +4,17 @@ use Prim.Native.Nat.{ℕ, _≤_, _<_}
 use mathlib.Core.List.{List}
 use native.Mathlib.Omega.{arith}
 use lib.ListN.{length, getD}
-use Rattle.grouping_marks.specs.Scan.{gathered}
+use Rattle.lent.specs.Scan.{gathered}
 use Rattle.grouping_marks.specs.Marks.{groupNumbers}
-use Rattle.grouping_marks.proofs.FillLaws.{getD-gathered}
+use Rattle.lent.proofs.FillLaws.{getD-gathered}
 use Rattle.grouping_marks.proofs.NumberLaws.{numbers-rise}
-use Rattle.grouping_color.specs.MonoStreak.{streakMarks, streakOf}
-use Rattle.grouping_color.specs.Preprocessor.{patternsOpen, hitsOpen, alternatingOf, hitOf}
-use Rattle.grouping_color.proofs.LengthLaws.{length-streakMarks}
-use Rattle.grouping_color.proofs.BoundLaws.{length-streakOf, length-patternsOpen, length-alternatingOf, length-hitsOpen, streak-below, alternatingOf-below}
-use Rattle.grouping_color.proofs.BoundLaws.{alternatingOf-looked, hitOf-looked}
-use Rattle.grouping_color.proofs.MadeLaws.{streakOf-made}
+use Rattle.grouping_colour.specs.MonoStreak.{streakMarks, streakOf}
+use Rattle.grouping_preprocessor.specs.Preprocessor.{patternsOpen, hitsOpen, alternatingOf, hitOf}
+use Rattle.grouping_colour.proofs.LengthLaws.{length-streakMarks}
+use Rattle.grouping_colour.proofs.StreakListLaws.{length-streakOf, streak-below}
+use Rattle.grouping_preprocessor.proofs.BoundLaws.{length-patternsOpen, length-alternatingOf, length-hitsOpen, alternatingOf-below}
+use Rattle.grouping_preprocessor.proofs.BoundLaws.{alternatingOf-looked, hitOf-looked}
+use Rattle.grouping_colour.proofs.StreakListLaws.{streakOf-made}
 
 abbrev Rising : ℕ → List ℕ → Type 0
 Rising n xs = (i j : ℕ) → i ≤ j → j < n → getD xs i 0 ≤ getD xs j 0

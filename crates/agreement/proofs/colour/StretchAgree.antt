@@ -6,9 +6,9 @@ use lib.Ieee.{Float}
 use Rattle.grouping_chart.specs.Chart.{Chart, size}
 use Rattle.grouping_chart.specs.Settings.{Settings}
 use Rattle.evaluator_values.specs.Colour.{colourAt}
-use Rattle.evaluator_calls.specs.Stretch.{GoodStretch}
-use Rattle.evaluator_calls.proofs.StretchCases.{StretchLies, good-lies, lies-good}
-use Rattle.evaluator_calls.proofs.AlikeLaws.{mean-alike, tenths-alike}
+use Rattle.call_colour.specs.Stretch.{GoodStretch}
+use Rattle.call_colour.proofs.StretchCases.{StretchLies, good-lies, lies-good}
+use Rattle.call_colour.proofs.AlikeLaws.{mean-alike, tenths-alike}
 use Rattle.agreement.specs.CommonTail.{Counterparts}
 use Rattle.agreement.specs.colour.Claim.{hitPatterns, Settled, SameStretch}
 use Rattle.agreement.proofs.colour.RiseLaws.{hit-rises}

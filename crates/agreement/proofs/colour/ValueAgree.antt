@@ -7,8 +7,8 @@ use Prim.Native.Nat.{ℕ, _+_, _-_, _≤_, _<_}
 use native.Mathlib.Omega.{arith}
 use lib.ListN.{length, getD}
 use lib.Ieee.{Float, nan}
-use Rattle.grouping_color.specs.MonoStreak.{streakOf}
-use Rattle.grouping_color.specs.Preprocessor.{alternatingOf, hitOf}
+use Rattle.grouping_colour.specs.MonoStreak.{streakOf}
+use Rattle.grouping_preprocessor.specs.Preprocessor.{alternatingOf, hitOf}
 use Rattle.evaluator_values.specs.Colour.{isFirst, colourAt}
 use Rattle.evaluator_values.proofs.StandingLaws.{change-first}
 use Rattle.evaluator_values.proofs.AlikeLaws.{StandingAlike, colour-alike}

@@ -7,7 +7,7 @@ use native.Mathlib.Omega.{arith}
 use lib.ListN.{length}
 use lib.Ieee.{Float}
 use Rattle.grouping_marks.specs.Marks.{groupNumbers}
-use Rattle.grouping_marks.proofs.PieceLaws.{getD-over}
+use Rattle.lent.proofs.PieceLaws.{getD-over}
 use Rattle.grouping_marks.proofs.MarksLaws.{length-numbers}
 use Rattle.grouping_interval.specs.IntervalGrouping.{intervalMarks}
 use Rattle.grouping_interval.specs.GroupByInterval.{GroupedByInterval}

@@ -8,7 +8,7 @@ use lib.Dec.{ltb, leb}
 use lib.ListN.{length, getD}
 use lib.Ieee.{Float, nan, round, add, sub, le, lt, ofInt}
 use Rattle.numeric.specs.Near.{absOf, isNear}
-use Rattle.grouping_marks.specs.Scan.{scan}
+use Rattle.lent.specs.Scan.{scan}
 use Rattle.grouping_marks.specs.Marks.{opened, groupNumbers}
 use Rattle.grouping_interval.specs.IntervalGrouping.{isRise, marksAfter, intervalMarks}
 use Rattle.agreement.specs.Tests.{allTrue, anyBelow}

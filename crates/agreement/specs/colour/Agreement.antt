@@ -5,9 +5,9 @@ use mathlib.Core.Path.{_≡_}
 use mathlib.Core.List.{List}
 use lib.Dec.{eqb}
 use lib.ListN.{length, drop, getD}
-use Rattle.grouping_color.specs.MonoStreak.{streakOf}
-use Rattle.grouping_color.specs.Preprocessor.{alternatingOf, hitOf, streakPlaceOf, patternPlaceOf, intervalOf}
-use Rattle.grouping_color.specs.Preprocessor.{hitCount, hitSizes, hitFirsts, hitSeconds}
+use Rattle.grouping_colour.specs.MonoStreak.{streakOf}
+use Rattle.grouping_preprocessor.specs.Preprocessor.{alternatingOf, hitOf, streakPlaceOf, patternPlaceOf, intervalOf}
+use Rattle.grouping_preprocessor.specs.Preprocessor.{hitCount, hitSizes, hitFirsts, hitSeconds}
 
 -- objects a + j and b + j are of the group of the object before both or neither
 abbrev pub FirstAlike : List ℕ → List ℕ → ℕ → ℕ → ℕ → Type 0

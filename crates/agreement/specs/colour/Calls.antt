@@ -5,11 +5,11 @@ use lib.ListN.{getD}
 use lib.Ieee.{nan}
 use Rattle.grouping_chart.specs.Chart.{Chart, size}
 use Rattle.grouping_chart.specs.Settings.{Settings}
-use Rattle.grouping_encode.specs.Encode as encode
-use Rattle.grouping_encode.specs.Encode.{encodeOutcome}
-use Rattle.evaluator_calls.specs.Stretch.{GoodStretch}
-use Rattle.evaluator_calls.specs.Calls.{Memory, chartMean, chartTenths, colourOutcome, stretchOutcome}
-use Rattle.evaluator_calls.specs.declared.Stretching.the-variants.{Done}
+use Rattle.call_encode.specs.Encode as encode
+use Rattle.call_encode.specs.Encode.{encodeOutcome}
+use Rattle.call_colour.specs.Stretch.{GoodStretch}
+use Rattle.call_colour.specs.Calls.{Memory, chartMean, chartTenths, colourOutcome, stretchOutcome}
+use Rattle.call_colour.specs.declared.Stretching.the-variants.{Done}
 use Rattle.agreement.specs.CommonTail.{Counterparts}
 use Rattle.agreement.specs.SameGroups.{groups}
 use Rattle.agreement.specs.colour.Claim.{Settled, EncodedHits, HitsClaim, hitPatterns}

@@ -7,8 +7,8 @@ use mathlib.Core.List.{List}
 use lib.ListN.{length, getD}
 use Rattle.grouping_marks.specs.Marks.{groupCount, groupNumbers}
 use Rattle.grouping_chart.specs.Object.{isNote}
-use Rattle.grouping_color.specs.MonoStreak.{streakMarks, streakOf, streakLengths}
-use Rattle.grouping_color.specs.Preprocessor.{patternsOpen, coupledPatterns, alternatingOf}
+use Rattle.grouping_colour.specs.MonoStreak.{streakMarks, streakOf, streakLengths}
+use Rattle.grouping_preprocessor.specs.Preprocessor.{patternsOpen, coupledPatterns, alternatingOf}
 
 -- a landmark of a chart with these kinds, where its last m objects are the common tail: `position` objects stand before
 -- it. Objects, streaks and patterns are given by their numbers in the chart, from 0

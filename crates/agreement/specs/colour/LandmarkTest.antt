@@ -7,8 +7,8 @@ use lib.Dec.{eqb, leb, ltb}
 use lib.ListN.{length, getD}
 use Rattle.grouping_marks.specs.Marks.{groupCount, groupNumbers}
 use Rattle.grouping_chart.specs.Object.{isNote}
-use Rattle.grouping_color.specs.MonoStreak.{streakMarks, streakOf, streakLengths}
-use Rattle.grouping_color.specs.Preprocessor.{patternsOpen, coupledPatterns, alternatingOf}
+use Rattle.grouping_colour.specs.MonoStreak.{streakMarks, streakOf, streakLengths}
+use Rattle.grouping_preprocessor.specs.Preprocessor.{patternsOpen, coupledPatterns, alternatingOf}
 use Rattle.agreement.specs.Tests.{allTrue, anyBelow}
 
 -- the lists that a landmark is read from

@@ -1,10 +1,10 @@
 -- The rhythm claim of what the call rhythm leaves on two accepted charts.
 use Prim.Native.Nat.{ℕ}
-use Rattle.grouping_marks.specs.Scan.{gathered}
+use Rattle.lent.specs.Scan.{gathered}
 use Rattle.grouping_chart.specs.Chart.{Chart}
 use Rattle.grouping_interval.specs.Notes.{noteObjects}
 use Rattle.grouping_chart.specs.Settings.{Settings}
-use Rattle.grouping_rhythm.specs.Rhythm.{Memory, rhythmOutcome}
+use Rattle.call_rhythm.specs.Rhythm.{Memory, rhythmOutcome}
 use Rattle.agreement.specs.SameGroups.{Groups, groups, SameGroups}
 use Rattle.agreement.specs.rhythm.Claim.{noteCount}
 

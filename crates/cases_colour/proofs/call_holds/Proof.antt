@@ -1,6 +1,6 @@
 -- The slices that are lent are full of sentinels, and the ratios are read from the body.
 use native.Mathlib.Omega.{arith}
-use Rattle.vectors.proofs.LentLaws.{front-counts}
+use Rattle.vectors.proofs.SentinelLaws.{front-counts}
 use Rattle.cases_colour.proofs.ColourLaws.{made-told}
 use Rattle.cases_colour.proofs.call_holds.Statement.{statement}
 use Rattle.cases_colour.proofs.call_holds.Tie as tie

@@ -1,8 +1,8 @@
 -- The slices that are lent are full of sentinels.
 use Prim.Native.Nat.{_+_}
 use native.Mathlib.Omega.{arith}
-use Rattle.vectors.specs.Lent.{byteSentinel}
-use Rattle.vectors.proofs.LentLaws.{front-counts, front-fits}
+use Rattle.vectors.specs.Sentinel.{byteSentinel}
+use Rattle.vectors.proofs.SentinelLaws.{front-counts, front-fits}
 use Rattle.cases_encode.proofs.EncodeLaws.{made-told}
 use Rattle.cases_encode.proofs.call_holds.Statement.{statement}
 use Rattle.cases_encode.proofs.call_holds.Tie as tie

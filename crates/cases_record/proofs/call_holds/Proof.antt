@@ -1,6 +1,6 @@
 -- The slices that are lent are full of sentinels, and the starts and deltas are read from the body.
 use native.Mathlib.Omega.{arith}
-use Rattle.vectors.proofs.LentLaws.{front-counts}
+use Rattle.vectors.proofs.SentinelLaws.{front-counts}
 use Rattle.cases_record.proofs.RecordLaws.{made-told}
 use Rattle.cases_record.proofs.call_holds.Statement.{statement}
 use Rattle.cases_record.proofs.call_holds.Tie as tie

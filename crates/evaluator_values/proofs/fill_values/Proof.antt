@@ -4,7 +4,7 @@ use Prim.Native.Nat.{_-_}
 use native.Mathlib.Omega.{arith}
 use lib.ListN.{length}
 use lib.Ieee.{nan}
-use Rattle.grouping_marks.proofs.FillLaws.{Fill, fill-start-front, fill-turn-front, fill-end-front}
+use Rattle.lent.proofs.FillLaws.{Fill, fill-start-front, fill-turn-front, fill-end-front}
 use Rattle.evaluator_values.specs.Colour.{colourValues}
 use Rattle.evaluator_values.proofs.StandingLaws.{length-values, value-of}
 use Rattle.evaluator_values.proofs.fill_values.Statement.{statement}

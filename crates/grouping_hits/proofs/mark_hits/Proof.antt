@@ -1,9 +1,9 @@
 -- `mark_hits` meets its contract. The invariant: the walk over the coupled flags, whose state is the stage, has stored its marks
 -- over the flags that it passed.
 use Prim.Native.Nat.{_-_}
-use Rattle.grouping_marks.specs.Over.{part}
-use Rattle.grouping_marks.proofs.ScanLaws.{Walk, start-part, turn-part, ended}
-use Rattle.grouping_hits.specs.Passes.{stageAfter, opensHit}
+use Rattle.lent.specs.Over.{part}
+use Rattle.lent.proofs.ScanLaws.{Walk, start-part, turn-part, ended}
+use Rattle.grouping_hits.specs.passes.Stages.{stageAfter, opensHit}
 use Rattle.grouping_hits.proofs.MarkLaws.{hitMarks-scan}
 use native.Mathlib.Omega.{arith}
 use borrow.Author.Needs.{needs}

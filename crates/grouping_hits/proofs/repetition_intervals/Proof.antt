@@ -1,6 +1,6 @@
 -- The invariant: each hit pattern has the smallest match from k on, or one above the limit.
 use native.Mathlib.Omega.{arith}
-use Rattle.grouping_marks.specs.Over.{part}
+use Rattle.lent.specs.Over.{part}
 use Rattle.grouping_hits.proofs.IntervalLaws.{Searched, emptied-apart, search-start, still-apart, search-turn, search-end}
 use Rattle.grouping_hits.proofs.repetition_intervals.Statement.{statement}
 use Rattle.grouping_hits.proofs.repetition_intervals.Tie as tie

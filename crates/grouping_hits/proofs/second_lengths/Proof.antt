@@ -1,8 +1,8 @@
 -- The invariant: i lengths are stored from place `to` on, by what stood in the regions that are read, and the last is still to come.
 use Prim.Native.Nat.{_-_, _<_}
 use lib.ListN.{length-set}
-use Rattle.grouping_marks.specs.Over.{part}
-use Rattle.grouping_marks.proofs.FillLaws.{Fill, fill-end}
+use Rattle.lent.specs.Over.{part}
+use Rattle.lent.proofs.FillLaws.{Fill, fill-end}
 use Rattle.grouping_hits.specs.RepeatingHitPatterns.{secondLengths}
 use Rattle.grouping_hits.proofs.HitLaws.{seconds-start, seconds-turn}
 use native.Mathlib.Omega.{arith}

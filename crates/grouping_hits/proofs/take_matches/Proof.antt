@@ -2,8 +2,8 @@
 use Prim.Native.Nat.{_-_, _≤_}
 use native.Mathlib.Omega.{arith}
 use borrow.Author.Needs.{needs}
-use Rattle.grouping_marks.proofs.FillLaws.{Fill, fill-end}
-use Rattle.grouping_hits.specs.Passes.{takenIn}
+use Rattle.lent.proofs.FillLaws.{Fill, fill-end}
+use Rattle.grouping_hits.specs.passes.Stages.{takenIn}
 use Rattle.grouping_hits.proofs.IntervalLaws.{taken-from, taken-none, taken-turn}
 use Rattle.grouping_hits.proofs.take_matches.Statement.{statement}
 use Rattle.grouping_hits.proofs.take_matches.Tie as tie

@@ -2,7 +2,7 @@
 -- still to store are those of the items left, which are as they were.
 use Prim.Native.Nat.{_-_}
 use lib.ListN.{length-set}
-use Rattle.grouping_marks.specs.Over.{part}
+use Rattle.lent.specs.Over.{part}
 use Rattle.grouping_marks.proofs.PassLaws.{Firsts, firsts-none, firsts-start-in, firsts-turn, firsts-item, firsts-done}
 use native.Mathlib.Omega.{arith}
 use borrow.Author.Needs.{needs}

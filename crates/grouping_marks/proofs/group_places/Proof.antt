@@ -3,10 +3,10 @@ use native.Mathlib.Omega.{arith}
 use Prim.Native.Nat.{ℕ, _+_, _-_, _≤_}
 use mathlib.Core.Path.{ap}
 use lib.ListN.{getD}
-use Rattle.grouping_marks.specs.Over.{part}
+use Rattle.lent.specs.Over.{part}
 use Rattle.grouping_marks.specs.Marks.{placeByMark, groupPlaces}
 use Rattle.grouping_marks.proofs.MarksLaws.{place-le}
-use Rattle.grouping_marks.proofs.ScanLaws.{Walk, start-part, turn-part, ended}
+use Rattle.lent.proofs.ScanLaws.{Walk, start-part, turn-part, ended}
 use borrow.Author.Needs.{needs}
 use Rattle.grouping_marks.proofs.group_places.Statement.{statement}
 use Rattle.grouping_marks.proofs.group_places.Tie as tie

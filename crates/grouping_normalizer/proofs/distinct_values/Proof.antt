@@ -3,7 +3,7 @@ use Prim.Native.Nat.{_-_}
 use native.Mathlib.Omega.{arith}
 use mathlib.Core.Path.{refl, sym, _∙_}
 use borrow.Author.Needs.{needs}
-use Rattle.grouping_sort.proofs.OrderedLaws.{slice-numbers}
+use Rattle.numeric_sort.proofs.OrderedLaws.{slice-numbers}
 use Rattle.grouping_normalizer.proofs.DistinctLaws.{long-as, distinct-none, Thinning}
 use Rattle.grouping_normalizer.proofs.DistinctLaws.{thinning-start, thinning-skip, thinning-keep, thinning-end, thinning-long}
 use Rattle.grouping_normalizer.proofs.distinct_values.Statement.{statement}

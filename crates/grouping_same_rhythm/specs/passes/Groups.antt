@@ -4,7 +4,7 @@ use Prim.Native.Nat.{ℕ, _+_, _≤_, _<_}
 use mathlib.Core.List.{List}
 use lib.ListN.{length, take, getD}
 use lib.Ieee.{Float}
-use Rattle.grouping_marks.specs.Over.{put}
+use Rattle.lent.specs.Over.{put}
 use Rattle.grouping_marks.specs.Marks.{groupCount}
 use Rattle.grouping_marks.specs.Parted.{parted}
 use Rattle.grouping_interval.specs.IntervalGrouping.{intervalMarks}

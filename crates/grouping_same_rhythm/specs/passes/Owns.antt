@@ -5,10 +5,10 @@ use Prim.Native.Nat.{ℕ, zero, suc, _+_, _-_, _≤_, _<_}
 use mathlib.Core.List.{List, [], _∷_, _++_}
 use lib.ListN.{length, getD}
 use lib.Ieee.{Float}
-use Rattle.grouping_marks.specs.Over.{over, part}
+use Rattle.lent.specs.Over.{over, part}
 use Rattle.grouping_marks.specs.Marks.{groupCount}
 use Rattle.grouping_marks.specs.Parted.{parted}
-use Rattle.grouping_sort.specs.Ordered.{ordered, AllFinite}
+use Rattle.numeric_sort.specs.Ordered.{ordered, AllFinite}
 use Rattle.grouping_normalizer.specs.Normalizer.{distinct}
 use Rattle.grouping_interval.specs.IntervalGrouping.{intervalMarks}
 use Rattle.grouping_same_rhythm.specs.Own.{modalDelta, ownsOf, recentOf}

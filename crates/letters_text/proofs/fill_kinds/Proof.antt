@@ -2,7 +2,7 @@
 use Prim.Native.Nat.{_-_}
 use native.Mathlib.Omega.{arith}
 use lib.ListN.{length}
-use Rattle.grouping_marks.proofs.FillLaws.{Fill, fill-start-front, fill-turn-front, fill-end-front}
+use Rattle.lent.proofs.FillLaws.{Fill, fill-start-front, fill-turn-front, fill-end-front}
 use Rattle.letters_text.specs.Letters.{kindsOf}
 use Rattle.letters_text.proofs.LetterLaws.{length-kinds, kind-at}
 use Rattle.letters_text.proofs.fill_kinds.Statement.{statement}

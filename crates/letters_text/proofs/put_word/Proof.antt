@@ -3,7 +3,7 @@ use mathlib.Core.Path.{refl}
 use Prim.Native.Nat.{_-_}
 use native.Mathlib.Omega.{arith}
 use lib.ListN.{length}
-use Rattle.grouping_marks.proofs.FillLaws.{Fill, fill-start, fill-turn, fill-end}
+use Rattle.lent.proofs.FillLaws.{Fill, fill-start, fill-turn, fill-end}
 use Rattle.letters_text.proofs.put_word.Statement.{statement}
 use Rattle.letters_text.proofs.put_word.Tie as tie
 

@@ -1,7 +1,7 @@
 -- The four answers, joined as the definition joins them; the literals are the definition's limits by computation.
 use mathlib.Core.Bool.{_&&_}
 use lib.Ieee.{ofBits, neg}
-use Rattle.grouping_chart.specs.Passes.{allGood}
+use Rattle.grouping_chart.specs.passes.Good.{allGood}
 use borrow.Author.Needs.{needs}
 use Rattle.grouping_chart.proofs.good.all_good.Statement.{statement}
 use Rattle.grouping_chart.proofs.good.all_good.Tie as tie

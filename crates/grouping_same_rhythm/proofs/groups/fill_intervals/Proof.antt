@@ -4,7 +4,7 @@ use Prim.Native.Nat.{_-_}
 use native.Mathlib.Omega.{arith}
 use lib.ListN.{length}
 use lib.Ieee.{nan}
-use Rattle.grouping_marks.proofs.FillLaws.{Fill, fill-start-front, fill-turn-front, fill-end-front}
+use Rattle.lent.proofs.FillLaws.{Fill, fill-start-front, fill-turn-front, fill-end-front}
 use Rattle.grouping_same_rhythm.specs.SameRhythm.{startsOf, intervalsOf}
 use Rattle.grouping_same_rhythm.proofs.GroupsLaws.{length-starts, length-intervals}
 use Rattle.grouping_same_rhythm.proofs.groups.fill_intervals.Statement.{statement}

@@ -6,7 +6,7 @@ use lib.ListN.{length, length-map}
 use lib.Ieee.{binary64, toBits}
 use native.Mathlib.Omega.{arith}
 use Rattle.vectors.specs.Case.{columnWord, words}
-use Rattle.grouping_marks.proofs.FillLaws.{getD-map}
+use Rattle.lent.proofs.FillLaws.{getD-map}
 use Rattle.vectors.proofs.HeldLaws.{Passed, none-passed, one-passed, all-passed, too-short, differs}
 use Rattle.vectors.proofs.held.floats_held.Statement.{statement}
 use Rattle.vectors.proofs.held.floats_held.Tie as tie

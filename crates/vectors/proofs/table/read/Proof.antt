@@ -3,8 +3,8 @@ use Prim.Native.Nat.{_-_}
 use mathlib.Core.Path.{sym, _∙_}
 use lib.Ieee.{nan}
 use native.Mathlib.Omega.{arith}
-use Rattle.grouping_marks.specs.Scan.{tabulate}
-use Rattle.grouping_marks.proofs.FillLaws.{Fill, fill-start-front, fill-turn-front, fill-end-front, length-tabulate, getD-tabulate}
+use Rattle.lent.specs.Scan.{tabulate}
+use Rattle.lent.proofs.FillLaws.{Fill, fill-start-front, fill-turn-front, fill-end-front, length-tabulate, getD-tabulate}
 use Rattle.vectors.specs.Table.{entryAt, entries}
 use Rattle.vectors.proofs.table.read.Statement.{statement}
 use Rattle.vectors.proofs.table.read.Tie as tie

@@ -1,0 +1,91 @@
+-- Sizes: the mean of every stretch of an accepted chart is finite, no NaN, and at most `largestColour` in size.
+-- A sum of m values is at most m times that, so divided by m it is at most that again.
+use mathlib.Core.Path.{_≡_, sym, ap, _∙_, subst}
+use mathlib.Core.Bool.{not}
+use mathlib.Core.List.{List, [], _∷_}
+use Prim.Native.Nat.{ℕ, suc, _+_, _-_, _*_, _^_, _≤_, _<_}
+use native.Mathlib.Nat.{le-trans, le-of-eq, zero-add, suc-mul, add-assoc, add-comm}
+use native.Mathlib.Omega.{arith}
+use lib.Dec.{T, leb→le, lit≤}
+use lib.ListN.{length, getD}
+use lib.Ieee.{Float, nan, binary64, isNan, add}
+use lib.Ieee.Fits.{div-fits}
+use Rattle.numeric.specs.Constants.{zero64}
+use Rattle.numeric.specs.Tenths.{InTenthsRange}
+use Rattle.numeric.proofs.Values.{Number, number-no-nan}
+use Rattle.numeric.proofs.Bounded as bounds
+use Rattle.numeric.proofs.Bounded.{Bounded, bounded-more, bounded-number, bounded-tenths, add-bounded}
+use Rattle.grouping_chart.specs.Chart.{Chart, size}
+use Rattle.grouping_chart.specs.Refusal.{verdict}
+use Rattle.grouping_chart.specs.declared.chart.Verdict.the-variants.{Accepted}
+use Rattle.grouping_chart.specs.Settings.{Settings}
+use Rattle.grouping_chart.proofs.AcceptedLaws.{accepted-good}
+use Rattle.evaluator_values.proofs.StandingLaws.{value-of}
+use Rattle.evaluator_values.proofs.BoundLaws.{largestColour, value-bounded}
+use Rattle.call_colour.specs.Stretch.{GoodStretch, stretchValues, sumFrom, averageOf, meanOf}
+use Rattle.call_colour.specs.Calls.{chartMean}
+use Rattle.call_colour.proofs.StretchCases.{good-lies}
+use Rattle.call_colour.proofs.StretchValues.{length-stretch, stretch-value}
+
+-- ---- a sum from left to right
+sum-bounded : (B C : ℕ) (sum : Float) (xs : List Float) → C + length xs * B ≤ 2 ^ 53 → Bounded sum C → ((i : ℕ) → i < length xs → Bounded (getD xs i nan) B)
+    → Bounded (sumFrom sum xs) (C + length xs * B)
+unfolding sumFrom
+sum-bounded B C sum [] k h g = bounded-more sum C (C + 0 * B) (omega arith) h
+sum-bounded B C sum (x ∷ xs) k h g =
+    let e : C + B + length xs * B ≡ C + suc (length xs) * B = more C B (length xs) in
+    bounded-more (sumFrom (add binary64 sum x) xs) (C + B + length xs * B) (C + suc (length xs) * B) (le-of-eq e)
+    (sum-bounded B (C + B) (add binary64 sum x) xs (le-trans (le-of-eq e) k)
+    (add-bounded sum x C B (le-trans (upto (C + B) (length xs * B)) (le-trans (le-of-eq e) k)) h (g 0 (omega arith))) (λ i l. g (suc i) (omega arith)))
+  where
+    more : (C B n : ℕ) → C + B + n * B ≡ C + suc n * B
+    more C B n = add-assoc C B (n * B) ∙ ap (λ (z : ℕ). C + z) (add-comm B (n * B) ∙ sym (suc-mul n B))
+
+    upto : (p q : ℕ) → p ≤ p + q
+    upto p q = omega arith
+
+-- and divided by how many there are
+average-bounded : (B : ℕ) (xs : List Float) → 0 < length xs → length xs ≤ 2 ^ 53 → B ≤ 2 ^ 53 → length xs * B ≤ 2 ^ 53
+    → ((i : ℕ) → i < length xs → Bounded (getD xs i nan) B) → Bounded (averageOf xs) B
+unfolding averageOf
+average-bounded B xs some few k l g =
+    bounds.mean-bounded (sumFrom zero64 xs) (length xs) B some few k
+    (subst (λ (n : ℕ). Bounded (sumFrom zero64 xs) n) (zero-add (length xs * B))
+    (sum-bounded B 0 zero64 xs (le-trans (le-of-eq (zero-add (length xs * B))) l) (leb→le 0 0 tt) g))
+
+-- ---- the mean of a stretch of an accepted chart
+module _ (s : Settings) (c : Chart) (beside : ℕ) (accepted : verdict c beside ≡ Accepted) (a b : ℕ) (x : GoodStretch (c .kinds) a b) where
+  -- the values that the mean is made of: some, few, and each bounded
+  abbrev made : List Float
+  made = stretchValues (s .limit) (s .tolerance) (c .kinds) (c .ratios) a b
+
+  length-made : length made ≡ b - a
+  length-made = length-stretch (s .limit) (s .tolerance) (c .kinds) (c .ratios) a b x
+
+  made-some : 0 < length made
+  made-some = omega (arith, length-made, good-lies (c .kinds) a b x)
+
+  made-few : length made ≤ 16384
+  made-few = omega (arith, length-made, good-lies (c .kinds) a b x, accepted-good c beside accepted .few)
+
+  made-bounded : (i : ℕ) → i < length made → Bounded (getD made i nan) largestColour
+  made-bounded i h =
+      let l : i < b - a = omega (arith, length-made) in
+      let k : a + i < size c = omega (arith, good-lies (c .kinds) a b x) in
+      let v = value-of (s .limit) (s .tolerance) (c .kinds) (c .ratios) (a + i) k in
+      let e = v ∙ sym (stretch-value (s .limit) (s .tolerance) (c .kinds) (c .ratios) a b x i l) in
+      subst (λ (x : Float). Bounded x largestColour) e (value-bounded s c beside accepted (a + i) k)
+
+  pub mean-bounded : Bounded (chartMean s c a b) largestColour
+  unfolding meanOf
+  mean-bounded = average-bounded largestColour made made-some (omega (arith, made-few)) (lit≤ tt) (omega (arith, made-few)) made-bounded
+
+  pub mean-number : Number (chartMean s c a b)
+  unfolding meanOf averageOf
+  mean-number = bounded-number (chartMean s c a b) largestColour (div-fits binary64 _ _) mean-bounded
+
+  pub mean-no-nan : T (not (isNan (chartMean s c a b)))
+  mean-no-nan = number-no-nan mean-number
+
+  pub mean-tenths : InTenthsRange (chartMean s c a b)
+  mean-tenths = bounded-tenths (chartMean s c a b) largestColour (lit≤ tt) mean-bounded

@@ -1,0 +1,75 @@
+-- The calls colour and stretch ("Calls and what they fill" of document 01): what each answers, and what every lent
+-- slice holds afterwards. Refusal 9 is tested after 1 to 7.
+use Prim.Native.Nat.{ℕ, _*_}
+use mathlib.Core.Bool.{cond}
+use mathlib.Core.List.{List, [], _∷_}
+use lib.Dec.{eqb}
+use lib.IntN.{ℤ}
+use lib.ListN.{length, replicate}
+use lib.Ieee.{Float, binary64, ofBits}
+use Rattle.lent.specs.Over.{over}
+use Rattle.grouping_chart.specs.Chart.{Chart, size}
+use Rattle.grouping_chart.specs.Refusal.{verdict, refused}
+use Rattle.grouping_chart.specs.Room.{beside}
+use Rattle.grouping_chart.specs.Outcome.{Outcome, outcome, answered}
+use Rattle.lent.specs.Slice.{Slice, lent, left}
+use Rattle.grouping_chart.specs.declared.chart.Verdict.{Verdict}
+use Rattle.grouping_chart.specs.declared.chart.Verdict.the-variants.{Accepted, Refused}
+use Rattle.grouping_chart.specs.Settings.{Settings}
+use Rattle.evaluator_values.specs.Colour.{colourValues}
+use Rattle.call_colour.specs.Stretch.{stretchRefusal, meanOf, meanTenths}
+use Rattle.call_colour.specs.declared.Colouring.{Colouring}
+use Rattle.call_colour.specs.declared.Colouring.the-variants as colouring
+use Rattle.call_colour.specs.declared.Stretching.{Stretching}
+use Rattle.call_colour.specs.declared.Stretching.the-variants as stretching
+
+-- the slices that are lent to be written: the values and two work slices
+pub record Memory : Type 0 where
+  pub value : List Float
+  pub work : List ℕ
+  pub scratch : List Float
+
+abbrev pub memory : List Float → List ℕ → List Float → Memory
+memory value work scratch = record { value = value; work = work; scratch = scratch }
+
+-- as lent, and as left
+abbrev pub before : Slice Float → Slice ℕ → Slice Float → Memory
+before value work scratch = memory (lent value) (lent work) (lent scratch)
+
+abbrev pub after : Slice Float → Slice ℕ → Slice Float → Memory
+after value work scratch = memory (left value) (left work) (left scratch)
+
+-- the verdict on the chart
+abbrev pub judged : Chart → Memory → Verdict
+judged c m = verdict c (beside (size c) (length (m .value) ∷ []) (length (m .work)) (length (m .scratch)))
+
+-- the memory after an accepted call, by the chart's kinds and ratios
+unfoldable pub filled : Settings → List ℕ → List Float → Memory → Memory
+filled s kinds ratios m = record {
+  value = over (colourValues (s .limit) (s .tolerance) kinds ratios) (m .value);
+  work = over (replicate (8 * length kinds) 0) (m .work);
+  scratch = over (replicate (length kinds) (ofBits binary64 0)) (m .scratch);
+}
+
+unfoldable pub colourOutcome : Settings → Chart → Memory → Outcome Colouring Memory
+colourOutcome s c m =
+    answered (judged c m) (outcome colouring.Done (filled s (c .kinds) (c .ratios) m)) colouring.Refused m
+
+-- what is refused of the stretch comes after what is refused of the chart
+unfoldable pub stretchVerdict : Verdict → List ℕ → ℕ → ℕ → Verdict
+stretchVerdict Accepted kinds a b =
+    cond (eqb (stretchRefusal kinds a b) 0) Accepted (refused (stretchRefusal kinds a b))
+stretchVerdict (Refused number place) kinds a b = Refused number place
+
+-- the mean of a stretch of the chart, and its tenths
+abbrev pub chartMean : Settings → Chart → ℕ → ℕ → Float
+chartMean s c a b = meanOf (s .limit) (s .tolerance) (c .kinds) (c .ratios) a b
+
+abbrev pub chartTenths : Settings → Chart → ℕ → ℕ → ℤ
+chartTenths s c a b = meanTenths (s .limit) (s .tolerance) (c .kinds) (c .ratios) a b
+
+unfoldable pub stretchOutcome : Settings → Chart → ℕ → ℕ → Memory → Outcome Stretching Memory
+stretchOutcome s c a b m =
+    answered (stretchVerdict (judged c m) (c .kinds) a b)
+    (outcome (stretching.Done (chartMean s c a b) (chartTenths s c a b)) (filled s (c .kinds) (c .ratios) m))
+    stretching.Refused m

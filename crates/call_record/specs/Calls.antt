@@ -1,0 +1,70 @@
+-- The call record ("Calls and what they fill" of document 01): what it answers, and what every lent slice holds
+-- afterwards. Refusals 8 and 9 are tested after 1 to 7.
+use Prim.Native.Nat.{ℕ, _*_}
+use mathlib.Core.Bool.{Bool, cond}
+use mathlib.Core.List.{List, []}
+use lib.Dec.{ltb}
+use lib.ListN.{length, replicate}
+use lib.Ieee.{Float, binary64, ofBits}
+use Rattle.numeric.specs.Constants.{one64, thousand64}
+use Rattle.numeric.specs.Range.{within}
+use Rattle.lent.specs.Over.{over}
+use Rattle.grouping_chart.specs.Chart.{Chart, size}
+use Rattle.grouping_chart.specs.Refusal.{verdict, refused}
+use Rattle.grouping_chart.specs.Room.{beside}
+use Rattle.grouping_chart.specs.Outcome.{Outcome, outcome, answered}
+use Rattle.lent.specs.Slice.{Slice, lent, left}
+use Rattle.grouping_chart.specs.Settings.{Settings}
+use Rattle.grouping_chart.specs.declared.chart.Verdict.{Verdict}
+use Rattle.grouping_chart.specs.declared.chart.Verdict.the-variants.{Accepted, Refused}
+use Rattle.call_rhythm.specs.Rhythm.{groupsIn}
+use Rattle.call_record.specs.Record.{recordAt}
+use Rattle.call_record.specs.declared.Recording.{Recording}
+use Rattle.call_record.specs.declared.Recording.the-variants.{Done}
+use Rattle.call_record.specs.declared.Recording.the-variants as answer
+
+-- the slices that are lent to be written: two work slices
+pub record Memory : Type 0 where
+  pub work : List ℕ
+  pub scratch : List Float
+
+abbrev pub memory : List ℕ → List Float → Memory
+memory work scratch = record { work = work; scratch = scratch }
+
+-- as lent, and as left
+abbrev pub before : Slice ℕ → Slice Float → Memory
+before work scratch = memory (lent work) (lent scratch)
+
+abbrev pub after : Slice ℕ → Slice Float → Memory
+after work scratch = memory (left work) (left scratch)
+
+-- the verdict on the chart; there are no answer slices
+abbrev pub judged : Chart → Memory → Verdict
+judged c m = verdict c (beside (size c) [] (length (m .work)) (length (m .scratch)))
+
+-- from 1.0 to 1,000.0: a NaN is not
+unfoldable pub windowGood : Float → Bool
+windowGood window = within one64 thousand64 window
+
+-- 8 for a window that is not good, then 9 for a number that no group has
+unfoldable pub recordVerdict : Verdict → Float → ℕ → ℕ → Verdict
+recordVerdict Accepted window g groups =
+    cond (windowGood window) (cond (ltb g groups) Accepted (refused 9)) (refused 8)
+recordVerdict (Refused number place) window g groups = Refused number place
+
+-- the memory after an accepted call
+unfoldable pub cleared : ℕ → Memory → Memory
+cleared n m = record {
+  work = over (replicate (8 * n) 0) (m .work);
+  scratch = over (replicate n (ofBits binary64 0)) (m .scratch);
+}
+
+-- how many groups a chart has
+abbrev pub groupsOf : Settings → Chart → ℕ
+groupsOf s c = groupsIn (s .margin) (c .kinds) (c .deltas)
+
+unfoldable pub recordOutcome : Settings → Chart → ℕ → Float → Memory → Outcome Recording Memory
+recordOutcome s c g window m =
+    answered (recordVerdict (judged c m) window g (groupsOf s c))
+    (outcome (Done (recordAt s (c .kinds) (c .starts) (c .deltas) g window)) (cleared (size c) m))
+    answer.Refused m

@@ -1,0 +1,114 @@
+// The call record: what is said of one rhythm group.
+ghost use mathlib.Core.Path.{_≡_};
+ghost use lib.ListN.{length};
+ghost use Rattle.grouping_chart.specs.Settings.{baseSettings};
+ghost use Rattle.grouping_chart.specs.Outcome.{outcome};
+ghost use Rattle.grouping_chart.specs.Chart.{chart};
+ghost use Rattle.lent.specs.Slice.{lent};
+ghost use Rattle.call_record.specs.Record.{recordAt};
+ghost use Rattle.call_record.specs.Calls.{before, after, windowGood, cleared, recordOutcome};
+ghost use Rattle.call_record.specs.passes.Found.{GroupRoom};
+use evaluator_rhythm::repeated_interval_penalty;
+use grouping_chart::chart::Verdict;
+use grouping_chart::object::ObjectIndex;
+use grouping_chart::room::short_refusal;
+use grouping_chart::settings;
+use grouping_chart::settings::Settings;
+use grouping_same_rhythm::own::Own;
+use lent::fill;
+use numeric::canonical::canonical;
+
+pub mod found;
+
+// A rhythm group: its first note's object, how many notes it has, its own interval and the ratio to that before, its
+// interval, the penalty for a repeated interval, its pattern group, and the ratio of that one's interval to the one
+// before.
+pub struct GroupRecord {
+    pub first: ObjectIndex,
+    pub notes: usize,
+    pub own: Own,
+    pub ratio: f64,
+    pub interval: f64,
+    pub penalty: f64,
+    pub pattern: usize,
+    pub patternratio: f64,
+}
+
+// The record, or the first refusal that applies and its place.
+pub enum Recording {
+    Done(GroupRecord),
+    Refused(u8, ObjectIndex),
+}
+
+fn window_good(window: f64) -> bool
+    ensures { λ r. ⌜ r ≡ windowGood window ⌝ }
+{
+    numeric::range::is_within(1.0, 1000.0, window)
+}
+
+// What the call does with an accepted chart and group number: finds the group, clears the work slices, and scores.
+fn make_record(
+    kind: &[u8],
+    start: &[f64],
+    delta: &[f64],
+    s: Settings,
+    g: usize,
+    window: f64,
+    work: &mut [u16],
+    scratch: &mut [f64],
+) -> GroupRecord
+    requires { ⌜ GroupRoom (s .margin) (now kind) (now start) (now delta) g (now work) (now scratch) ⌝ }
+    ensures { λ r. ⌜ r ≡ recordAt s (lent kind) (lent start) (lent delta) g window ⌝ }
+    ensures { λ r. ⌜ after work scratch ≡ cleared (length (lent kind)) (before work scratch) ⌝ }
+{
+    let n = kind.len();
+    let found = found::find(kind, start, delta, s.margin, g, work, scratch);
+    fill::clear(work, 8 * n);
+    fill::clear_floats(scratch, n);
+    let first = found.first;
+    let owns = found.owns;
+    let own = owns.newest;
+    let previous = owns.second;
+    let ratio = grouping_same_rhythm::own::ratio(own, previous);
+    let penalty = repeated_interval_penalty(owns, found.notes, found.duration, window, s.threshold);
+    let pattern = found.pattern;
+    GroupRecord {
+        first,
+        notes: found.notes,
+        own,
+        ratio: canonical(ratio),
+        interval: found.interval,
+        penalty,
+        pattern: pattern.number,
+        patternratio: canonical(pattern.ratio),
+    }
+}
+
+pub fn record(
+    kind: &[u8],
+    start: &[f64],
+    delta: &[f64],
+    ratio: &[f64],
+    g: usize,
+    window: f64,
+    work: &mut [u16],
+    scratch: &mut [f64],
+) -> Recording
+    ensures { λ r. ⌜ outcome r (after work scratch)
+        ≡ recordOutcome baseSettings (chart kind start delta ratio) g window (before work scratch) ⌝ }
+{
+    let refusal = short_refusal(false, kind.len(), work.len(), scratch.len());
+    match grouping_chart::chart::check(kind, start, delta, ratio, refusal) {
+        Verdict::Refused(number, place) => Recording::Refused(number, place),
+        Verdict::Accepted => {
+            if !window_good(window) {
+                return Recording::Refused(8, ObjectIndex(0));
+            }
+            let s = settings::base();
+            if grouping_interval::notes::count_groups(kind, delta, s.margin) <= g {
+                return Recording::Refused(9, ObjectIndex(0));
+            }
+            Recording::Done(make_record(kind, start, delta, s, g, window, work, scratch))
+        }
+    }
+}

@@ -1,0 +1,60 @@
+-- The outcome of rhythm, case by case, over plain lists: a refusal leaves all as lent, and an accepted call has room in every slice.
+use mathlib.Core.Path.{_≡_, refl, sym, ap, _∙_}
+use mathlib.Core.Bool.{Bool, true, cond}
+use mathlib.Core.List.{List}
+use Prim.Native.Nat.{ℕ, _<_}
+use native.Mathlib.Omega.{arith}
+use lib.ListN.{getD}
+use lib.Ieee.{Float}
+use Rattle.grouping_marks.specs.Marks.{groupNumbers}
+use Rattle.lent.proofs.PieceLaws.{getD-over}
+use Rattle.grouping_chart.specs.Object.{isNote, noteIdx}
+use Rattle.grouping_interval.specs.Notes.{ofNotes}
+use Rattle.grouping_chart.specs.Chart.{Chart, size}
+use Rattle.grouping_chart.specs.Outcome.{Outcome, outcome}
+use Rattle.grouping_chart.specs.Settings.{Settings}
+use Rattle.grouping_chart.specs.declared.chart.Verdict.the-variants.{Accepted}
+use Rattle.grouping_chart.proofs.CallLaws.{call-room}
+use Rattle.grouping_chart.proofs.OutcomeLaws.{answered-done}
+use Rattle.grouping_interval.specs.IntervalGrouping.{intervalMarks}
+use Rattle.grouping_same_rhythm.proofs.MadeLaws.{rhythmMarks-made}
+use Rattle.call_rhythm.specs.declared.Grouping.the-variants as answer
+use Rattle.call_rhythm.specs.declared.tables.GroupCounts.{GroupCounts}
+use Rattle.call_rhythm.specs.Rhythm.{Memory, judged, noteGroup, groupOf, countsOf, filled, groupingDone, rhythmOutcome}
+use Rattle.call_rhythm.specs.passes.Tables.{GroupsRoom}
+use Rattle.call_rhythm.proofs.PerNoteLaws.{length-per-note, per-note-at}
+
+-- ---- each case leaves its outcome
+module _ (s : Settings) (c : Chart) (m : Memory) where
+  pub rhythm-room : judged c m ≡ Accepted → GroupsRoom (c .kinds) (c .starts) (c .deltas) m
+  rhythm-room h =
+      let r = call-room c _ _ _ h in
+      let g = r .good in
+      record {
+        tables = record { few = g .few; started = g .lengths .start; whole = g .lengths .delta; regions = r .regions; floats = r .floats };
+        group-room = r .answered .0;
+        pattern-room = r .answered .1 .0;
+      }
+
+  -- the counts and the memory that the passes leave are the definition's
+  pub rhythm-done : (k : GroupCounts) (new : Memory) → judged c m ≡ Accepted → k ≡ countsOf (s .margin) (c .kinds) (c .starts) (c .deltas)
+      → new ≡ filled s (c .kinds) (c .starts) (c .deltas) m → outcome (groupingDone k) new ≡ rhythmOutcome s c m
+  unfolding rhythmOutcome
+  rhythm-done k new h e f = answered-done _ answer.Refused m h (λ t. outcome (groupingDone (e t)) (f t))
+
+  left : judged c m ≡ Accepted → filled s (c .kinds) (c .starts) (c .deltas) m ≡ rhythmOutcome s c m .memory
+  unfolding rhythmOutcome
+  left h = ap (λ (o : Outcome _ Memory). o .memory) (answered-done _ answer.Refused m h refl)
+
+  -- what an accepted call writes for an object that is a note: the group of its note, by the notes' deltas
+  pub group-written : judged c m ≡ Accepted → (o : ℕ) → o < size c → isNote (getD (c .kinds) o 0) ≡ true
+      → getD (rhythmOutcome s c m .memory .group) o 0
+      ≡ getD (groupNumbers (intervalMarks (s .margin) (ofNotes (c .kinds) (c .deltas)))) (noteIdx (c .kinds) o) 0
+  unfolding filled groupOf noteGroup
+  group-written h o l n =
+      ap (λ (n : Memory). getD (n .group) o 0) (sym (left h))
+      ∙ getD-over (groupOf (s .margin) (c .kinds) (c .deltas)) (m .group) o 0
+      (omega (arith, length-per-note (noteGroup (s .margin) (c .kinds) (c .deltas)) (c .kinds)))
+      ∙ per-note-at (noteGroup (s .margin) (c .kinds) (c .deltas)) (c .kinds) o l
+      ∙ ap (λ (b : Bool). cond b (noteGroup (s .margin) (c .kinds) (c .deltas) (noteIdx (c .kinds) o)) 65535) n
+      ∙ ap (λ (marks : List ℕ). getD (groupNumbers marks) (noteIdx (c .kinds) o) 0) (rhythmMarks-made (s .margin) (c .kinds) (c .deltas))

@@ -1,4 +1,0 @@
--- The definitions that this crate's promises and laws cite.
-pub mod Record
-pub mod Calls
-pub mod Passes

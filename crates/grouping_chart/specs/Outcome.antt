@@ -1,0 +1,19 @@
+-- What a call on a chart comes to: its answer, and the lent memory afterwards. A refusal leaves all memory as it was lent.
+use Prim.Native.Nat.{ℕ}
+use Rattle.grouping_chart.specs.declared.object.ObjectIndex.{ObjectIndex}
+use Rattle.grouping_chart.specs.declared.chart.Verdict.{Verdict}
+use Rattle.grouping_chart.specs.declared.chart.Verdict.the-variants.{Accepted, Refused}
+use Rattle.lent.specs.Slice.{lent}
+
+pub record Outcome (Answer Memory : Type 0) : Type 0 where
+  pub answer : Answer
+  pub memory : Memory
+
+abbrev pub outcome : {Answer Memory : Type 0} → Answer → Memory → Outcome Answer Memory
+outcome a m = record { answer = a; memory = m }
+
+-- what a call with this verdict comes to, where it comes to `done` if accepted: a refusal leaves all as lent
+unfoldable pub answered : {Answer Memory : Type 0} → Verdict → Outcome Answer Memory → (ℕ → ObjectIndex → Answer)
+    → Memory → Outcome Answer Memory
+answered Accepted done refuse m = done
+answered (Refused number place) done refuse m = outcome (refuse number place) m

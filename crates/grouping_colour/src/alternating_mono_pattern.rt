@@ -1,0 +1,61 @@
+// Alternating patterns: which streaks open one, and which patterns are coupled.
+ghost use mathlib.Core.Path.{_≡_};
+ghost use Prim.Native.Nat.{_+_, _≤_, _<_};
+ghost use lib.ListN.{length};
+ghost use Rattle.lent.specs.Over.{put, part};
+ghost use Rattle.lent.specs.passes.Regions.{Apart, Triple, TripleApart};
+ghost use Rattle.grouping_colour.specs.AlternatingMonoPattern.{opensPattern, patternMarks};
+ghost use Rattle.grouping_colour.specs.passes.Coupled.{coupledAtIn, coupledIn};
+
+fn opens_pattern(w: &[u16], from: usize, m: usize, i: usize) -> u16
+    requires { ⌜ from + m ≤ length (now w) ⌝ ∗ ⌜ i < m ⌝ }
+    ensures { λ r. ⌜ r ≡ opensPattern (part from m (now (w .entry))) i ⌝ }
+{
+    if i == 0 {
+        return 1;
+    }
+    if w[from + i] == w[from + i - 1] { 0 } else { 1 }
+}
+
+// Marks the streaks that open an alternating pattern, by the m lengths at `from`.
+pub fn mark_patterns(w: &mut [u16], from: usize, m: usize, to: usize)
+    requires { ⌜ Apart (now w) from m to ⌝ }
+    ensures { λ r. ⌜ now (w .exit) ≡ put to (patternMarks (part from m (now (w .entry)))) (now (w .entry)) ⌝ }
+{
+    let mut i = 0;
+    while i < m {
+        let mark = opens_pattern(w, from, m, i);
+        w[to + i] = mark;
+        i += 1;
+    }
+}
+
+fn is_coupled(w: &[u16], lengths: usize, counts: usize, types: usize, m: usize, i: usize) -> u16
+    requires { ⌜ Triple (now w) lengths counts types m ⌝ ∗ ⌜ i < m ⌝ }
+    ensures { λ r. ⌜ r ≡ coupledAtIn lengths counts types m (now (w .entry)) i ⌝ }
+{
+    if m - i <= 2 {
+        return 0;
+    }
+    let same_length = w[lengths + i] == w[lengths + i + 2];
+    let same_count = w[counts + i] == w[counts + i + 2];
+    let same_type = w[types + i] == w[types + i + 2];
+    if same_length & (same_count & same_type) {
+        1
+    } else {
+        0
+    }
+}
+
+// Marks the coupled patterns.
+pub fn mark_coupled(w: &mut [u16], lengths: usize, counts: usize, types: usize, m: usize, to: usize)
+    requires { ⌜ TripleApart (now w) lengths counts types m to ⌝ }
+    ensures { λ r. ⌜ now (w .exit) ≡ put to (coupledIn lengths counts types m (now (w .entry))) (now (w .entry)) ⌝ }
+{
+    let mut i = 0;
+    while i < m {
+        let mark = is_coupled(w, lengths, counts, types, m, i);
+        w[to + i] = mark;
+        i += 1;
+    }
+}

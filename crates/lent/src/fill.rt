@@ -1,0 +1,80 @@
+// Filling a lent slice from its front: copies, look-ups and zeros.
+ghost use mathlib.Core.Path.{_≡_};
+ghost use Prim.Native.Nat.{ℕ, _+_, _≤_, _<_};
+ghost use lib.ListN.{length, getD, replicate};
+ghost use lib.Ieee as Ieee;
+ghost use lib.Ieee.{binary64};
+ghost use Rattle.lent.specs.Over.{over, put};
+ghost use Rattle.lent.specs.Scan.{gathered};
+
+pub fn copy(src: &[u16], out: &mut [u16])
+    requires { ⌜ length (now src) ≤ length (now out) ⌝ }
+    ensures { λ r. ⌜ now (out .exit) ≡ over (now (src .entry)) (now (out .entry)) ⌝ }
+{
+    let mut i = 0;
+    while i < src.len() {
+        out[i] = src[i];
+        i += 1;
+    }
+}
+
+// What the table has at each number.
+pub fn gather(table: &[u16], idx: &[u16], out: &mut [u16])
+    requires { ⌜ (length (now idx) ≤ length (now out))
+        × ((i : ℕ) → i < length (now idx) → getD (now idx) i 0 < length (now table)) ⌝ }
+    ensures { λ r. ⌜ now (out .exit) ≡ over (gathered (now (table .entry)) (now (idx .entry))) (now (out .entry)) ⌝ }
+{
+    let mut i = 0;
+    while i < idx.len() {
+        let j = idx[i] as usize;
+        out[i] = table[j];
+        i += 1;
+    }
+}
+
+// What the table, all of bytes, has at each number.
+pub fn gather_bytes(table: &[u16], idx: &[u16], out: &mut [u8])
+    requires { ⌜ (length (now idx) ≤ length (now out))
+        × (((i : ℕ) → i < length (now idx) → getD (now idx) i 0 < length (now table))
+        × ((j : ℕ) → getD (now table) j 0 < 256)) ⌝ }
+    ensures { λ r. ⌜ now (out .exit) ≡ over (gathered (now (table .entry)) (now (idx .entry))) (now (out .entry)) ⌝ }
+{
+    let mut i = 0;
+    while i < idx.len() {
+        let j = idx[i] as usize;
+        out[i] = table[j] as u8;
+        i += 1;
+    }
+}
+
+// Stores v in m places from `to` on.
+pub fn store_all(s: &mut [u16], to: usize, m: usize, v: u16)
+    requires { ⌜ to + m ≤ length (now s) ⌝ }
+    ensures { λ r. ⌜ now (s .exit) ≡ put to (replicate m v) (now (s .entry)) ⌝ }
+{
+    let mut i = 0;
+    while i < m {
+        s[to + i] = v;
+        i += 1;
+    }
+}
+
+// Sets the first n places to 0.
+pub fn clear(s: &mut [u16], n: usize)
+    requires { ⌜ n ≤ length (now s) ⌝ }
+    ensures { λ r. ⌜ now (s .exit) ≡ over (replicate n 0) (now (s .entry)) ⌝ }
+{
+    store_all(s, 0, n, 0);
+}
+
+// Sets the first n places to +0.0.
+pub fn clear_floats(s: &mut [f64], n: usize)
+    requires { ⌜ n ≤ length (now s) ⌝ }
+    ensures { λ r. ⌜ now (s .exit) ≡ over (replicate n (Ieee.ofBits binary64 0)) (now (s .entry)) ⌝ }
+{
+    let mut i = 0;
+    while i < n {
+        s[i] = 0.0;
+        i += 1;
+    }
+}
