@@ -1,14 +1,18 @@
 #!/usr/bin/env bash
-# Tests everything: the host tests over the static libraries, then every proof, must-fail edit and program from nothing.
-set -eu
+# Tests everything: each proof, must-fail edit and program from nothing, then the host tests over the static libraries.
+# The last line is rt's verdict, which is printed again once all else has passed.
+set -euo pipefail
 cd "$(dirname "$0")"
 
 rt fmt --check
 (cd tests/repository && cargo test --release --offline --quiet)
 
-# an archive's own crate is proved once more as it is made, so these are made side by side, and what they use is proved before;
-# few of these crates can be proved at the same time, so all that can are
-RT_JOBS=4 rt check call_colour call_record letters replay
+log=$(mktemp)
+trap 'rm -f "$log"' EXIT
+rt ci | tee "$log"
+verdict=$(tail -n 1 "$log")
+
+# what the archives are made of is proved by now
 rt staticlib dresserduck &
 archive=$!
 rt staticlib test_host
@@ -24,4 +28,4 @@ tests/original/run.sh compare 7 300000
 tests/letters/run.sh
 tests/replay/run.sh
 
-exec rt ci
+echo "$verdict"
