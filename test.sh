@@ -4,6 +4,9 @@
 set -euo pipefail
 cd "$(dirname "$0")"
 
+if [ "$(rt version)" != "$(cat KIT)" ]; then
+    echo "this tree was last proved with the kit $(cat KIT); here is $(rt version)"
+fi
 rt fmt --check
 (cd tests/repository && cargo test --release --offline --quiet)
 
@@ -27,5 +30,6 @@ tests/examples/run.sh
 tests/original/run.sh compare 7 300000
 tests/letters/run.sh
 tests/replay/run.sh
+tools/picture.py --check
 
 echo "$verdict"

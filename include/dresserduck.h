@@ -39,7 +39,7 @@ enum {
 /* The most objects that a chart may have. */
 enum { DRESSERDUCK_LARGEST_CHART = 16384 };
 
-/* The refusals, in the order in which they are tested: 1, 2, 3, then object by object 4, 5, 6, 7, then 8, 9.
+/* The refusals, in the order of their tests: 1 to 3 for the call, 4 to 7 for one object after another, then 8 and 9.
  * `place` is the object's number, counted from 0, for 4 to 7, and 0 for the others. */
 enum {
     DRESSERDUCK_ACCEPTED = 0,
@@ -53,10 +53,10 @@ enum {
     DRESSERDUCK_BAD_KIND = 4,  /* above 2 */
     DRESSERDUCK_BAD_START = 5, /* not finite, or outside +-16,777,216 */
     DRESSERDUCK_BAD_DELTA = 6, /* not finite, or outside +-16,777,216 */
-    DRESSERDUCK_BAD_RATIO = 7, /* below 2^-24, above 2^24, or NaN */
+    DRESSERDUCK_BAD_RATIO = 7, /* outside 2^-24 to 2^24, or a NaN */
 
     /* the player's settings'; 9 has two names, as its causes are two */
-    DRESSERDUCK_BAD_WINDOW = 8,  /* dresserduck_record: the window is not from 1.0 to 1,000.0, or NaN */
+    DRESSERDUCK_BAD_WINDOW = 8,  /* dresserduck_record: the window lies outside 1.0 to 1,000.0, or is a NaN */
     DRESSERDUCK_BAD_STRETCH = 9, /* dresserduck_stretch: a >= b or b > n */
     DRESSERDUCK_BAD_GROUP = 9    /* dresserduck_record: the group's number is not below the number of groups */
 };
@@ -107,7 +107,10 @@ typedef struct dresserduck_coloured {
     uint64_t place;
 } dresserduck_coloured;
 
-/* Fills per object its colour value: how hard the swap of colour at it is. Never a NaN or an infinity. */
+/* Fills per object its colour value: how new the change of colour at it is, not how fast. No time goes into it, so that a chart has
+ * the same values at any speed; the host, or the player's limit, brings the tempo in. No change is 0. In an even rhythm (ratios of 1)
+ * a value is at most about 2.99 from the third object on, and at most about 4.98 at the first two; above a ratio of 2.5 it may be below
+ * zero. Never a NaN or an infinity. */
 dresserduck_coloured dresserduck_colour(
     const uint8_t *kind, size_t kind_count,
     const double *start, size_t start_count,
@@ -122,7 +125,7 @@ typedef struct dresserduck_stretched {
     uint64_t refusal;
     uint64_t place;
     double mean;    /* the sum from left to right, divided by b - a; never a NaN or an infinity */
-    int64_t tenths; /* the largest whole number not above ten times the mean, exactly */
+    int64_t tenths; /* ten times the mean, rounded down to a whole number, exactly */
 } dresserduck_stretched;
 
 /* Fills the colour values as dresserduck_colour does, and returns the mean of those of the objects from a to b, b not included. */

@@ -1,5 +1,5 @@
 #!/usr/bin/env python3
-"""Computes and checks the logistic table T: T(n) is the f64 nearest to 1 / (1 + e^(e (n - 2))), n = 0 to 263.
+"""Computes and checks the logistic table T: 264 values, each the nearest f64 to 1 / (1 + e^(e (n - 2))).
 
 usage: logistic_table.py --source    the constant of the Rattle source, in shortest decimals
        logistic_table.py --spec      the list of bit patterns of the specification
@@ -39,7 +39,7 @@ def nearest(n, value):
 
 
 def check(table):
-    """What document 01 says of T: it falls, T(2) is a half, and D = (1 - T) / T grows by one factor."""
+    """What the scope says of T: it falls, T(2) is a half, and D = (1 - T) / T grows by one factor."""
     assert len(table) == STEPS and table[2] == 0.5
     odds = [(1 - Fraction(t)) / Fraction(t) for t in table]
     for n in range(STEPS - 1):

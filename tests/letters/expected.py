@@ -1,5 +1,5 @@
 #!/usr/bin/env python3
-"""Prints what the letters program is to print for the letters on standard input, by document 01's rules: a streak is a string of letters,
+"""Prints what the letters program is to print for the letters on standard input, by the scope's rules: a streak is a string of letters,
 an alternating pattern a list of streaks, a hit pattern a list of patterns."""
 import sys
 

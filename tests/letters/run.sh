@@ -36,7 +36,7 @@ letters() {
 }
 
 text=$(letters 1024)
-# what these print, by document 01's text alone: expected.py makes it
+# what these print, by the scope's text alone: expected.py makes it
 lines="$(cat "$here/expected.txt")\n"
 if command -v python3 > /dev/null; then
     printf %s "$text" | python3 "$here/expected.py" | cmp - "$here/expected.txt" >&2
@@ -44,7 +44,7 @@ else
     echo "no Python here: expected.txt is not made anew"
 fi
 
-expect "document 01's example" 'dkkddk\n' '17 d\n17 kk,dd\n2 k\n'
+expect "the scope's example" 'dkkddk\n' '17 d\n17 kk,dd\n2 k\n'
 expect 'a letter and no line feed' 'd' '17 d\n'
 expect 'a first byte that is no letter' 'xdk\n' 'bad 0\n'
 expect 'a later byte that is no letter' 'dkndKx\n' 'bad 4\n'

@@ -58,7 +58,7 @@ pub struct Stretched {
     pub place: u64,
     /// the sum from left to right, divided by how many there are
     pub mean: f64,
-    /// the largest whole number not above ten times the mean, exactly
+    /// ten times the mean, rounded down to a whole number, exactly
     pub tenths: i64,
 }
 

@@ -1,4 +1,4 @@
-//! Which stretches of a drum chart swap colour too fast for a player who uses one hand or a foot switch, and the chart's
+//! How new each change of colour in a drum chart is, for trainers of players with one hand or a foot switch, and the chart's
 //! rhythm groups. The answers come from code that is proved to give them: they are the same in every build, bit for bit.
 //!
 //! A [`Chart`] borrows four slices. A [`Workspace`] has the memory that the calls work in; it grows as needed and can be

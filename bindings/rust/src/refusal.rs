@@ -38,12 +38,12 @@ pub enum Refusal {
         /// its number, counted from 0
         object: usize,
     },
-    /// 7: an object's ratio is below 2^−24, above 2^24, or NaN.
+    /// 7: an object's ratio lies outside 2^−24 to 2^24, or is a NaN.
     BadRatio {
         /// its number, counted from 0
         object: usize,
     },
-    /// 8: the window is not from 1.0 to 1,000.0.
+    /// 8: the window lies outside 1.0 to 1,000.0, or is a NaN.
     BadWindow,
     /// 9: the stretch is empty or ends past the chart, or there is no group of this number.
     OutsideChart,

@@ -1,4 +1,4 @@
--- Document 01's starred charts "no objects" and "d", run by the definitions: colour and stretch into memory of exactly the size asked, bits and all.
+-- The scope's starred charts "no objects" and "d", run by the definitions: colour and stretch into memory of exactly the size asked, bits and all.
 use mathlib.Core.Path.{_≡_, refl}
 use mathlib.Core.Bool.{false}
 use mathlib.Core.List.{List, [], _∷_, map}
@@ -66,7 +66,7 @@ unfoldable pub examples : List Example
 examples =
     -- no objects: accepted, nothing written
     record { kinds = []; outcome = record { answer = colouring.Done; value = []; work = []; scratch = [] } }
-    -- d: T(0) × (T(0) × 2) × 0.5, plus T(0) × 2, plus 2, rounded in order
+    -- d: mono, alt and hit with T at 0 and interval 17, each step rounded
     ∷ record {
       kinds = 0 ∷ [];
       outcome = record { answer = colouring.Done; value = 0x4013_ee42_c838_4268 ∷ []; work = replicate 8 0; scratch = 0 ∷ [] };

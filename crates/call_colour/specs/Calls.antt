@@ -1,4 +1,4 @@
--- The calls colour and stretch ("Calls and what they fill" of document 01): what each answers, and what every lent
+-- The calls colour and stretch (scope: Calls and what they fill): what each answers, and what every lent
 -- slice holds afterwards. Refusal 9 is tested after 1 to 7.
 use Prim.Native.Nat.{ℕ, _*_}
 use mathlib.Core.Bool.{cond}

@@ -1,4 +1,4 @@
--- The mean of a stretch, which has object a and not object b ("Stretch" of document 01): its colour values added from
+-- The mean of a stretch, which has object a and not object b (scope: Stretch): its colour values added from
 -- left to right and divided by how many they are; its whole tenths, rounded down; and which stretches are refused.
 use mathlib.Core.Path.{_≡_}
 use Prim.Native.Nat.{ℕ, _-_}

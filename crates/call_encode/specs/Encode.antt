@@ -1,4 +1,4 @@
--- The call encode, of document 01's "Calls and what they fill": what it answers, and what every lent slice holds
+-- The call encode (scope: calls): what it answers, and what every lent slice holds
 -- afterwards.
 use Prim.Native.Nat.{ℕ, _*_}
 use mathlib.Core.List.{List, [], _∷_}

@@ -1,4 +1,4 @@
--- The call record ("Calls and what they fill" of document 01): what it answers, and what every lent slice holds
+-- The call record (scope: Calls and what they fill): what it answers, and what every lent slice holds
 -- afterwards. Refusals 8 and 9 are tested after 1 to 7.
 use Prim.Native.Nat.{ℕ, _*_}
 use mathlib.Core.Bool.{Bool, cond}

@@ -1,4 +1,4 @@
--- The record of one rhythm group ("Calls and what they fill" of document 01): its first note, by the number of its
+-- The record of one rhythm group (scope: Calls and what they fill): its first note, by the number of its
 -- object, how many notes it has, its own interval, ratio, interval, penalty, pattern group and pattern ratio.
 use Prim.Native.Nat.{ℕ, _-_}
 use mathlib.Core.List.{List, []}

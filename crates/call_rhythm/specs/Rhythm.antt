@@ -1,4 +1,4 @@
--- The call rhythm ("Calls and what they fill" of document 01): the number of each object's rhythm group and of its
+-- The call rhythm (scope: Calls and what they fill): the number of each object's rhythm group and of its
 -- pattern group, and how many of both there are.
 use Prim.Native.Nat.{ℕ, _*_}
 use mathlib.Core.Bool.{cond}

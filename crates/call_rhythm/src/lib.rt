@@ -20,7 +20,7 @@ use lent::fill;
 pub mod spread;
 pub mod tables;
 
-// The numbers of groups and of pattern groups, or the first refusal that applies and its place.
+// How many groups and pattern groups there are, or the first refusal that applies and its place.
 pub enum Grouping {
     Done(usize, usize),
     Refused(u8, ObjectIndex),

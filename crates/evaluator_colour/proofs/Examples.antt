@@ -19,7 +19,7 @@ standing interval outer inner streak pattern hit = record { interval = interval;
 unfoldable hundredth : Float
 hundredth = round binary64 false 1 100
 
--- ---- document 01's example d, whose idx is 0: by the definitions, and term by term
+-- ---- the scope's example d, whose idx is 0: by the definitions, and term by term
 shown-d : toBits binary64 (mul binary64 (objectSum (standing 17 0 0 true true true)) (ratioPenalty hundredth 0 one64 one64)) ≡ 0x4013ee42c8384268
 unfolding objectSum hitValue altValue monoValue addIf logisticAt tableBits ratioPenalty lowered hundredth isNear ofBits toBits round add sub mul div le
 shown-d = refl

@@ -1,4 +1,4 @@
--- The parts of an object's colour value (document 01, evaluators/color.rs): every operation is rounded to binary64
+-- The parts of an object's colour value (scope: evaluators/color.rs): every operation is rounded to binary64
 -- (IEEE 754-2019, 5.4.1), in the order written here.
 use mathlib.Core.Bool.{Bool, cond}
 use Prim.Native.Nat.{ℕ}

@@ -1,4 +1,4 @@
--- The ratio penalty (document 01, evaluators/color.rs) of object idx, by its ratio c and the ratio p of the object two
+-- The ratio penalty (scope: evaluators/color.rs) of object idx, by its ratio c and the ratio p of the object two
 -- before it. A quotient c / p near 1.0 counts as a ratio repeated; the tolerance is a parameter, as in the source.
 use mathlib.Core.Bool.{cond}
 use Prim.Native.Nat.{ℕ}

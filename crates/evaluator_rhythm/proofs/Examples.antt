@@ -1,4 +1,4 @@
--- Document 01's starred example of the walk, at the threshold 0.1: own intervals, the newest first, and the bits of what the walk over 3 gives.
+-- The scope's starred example of the walk, at the threshold 0.1: own intervals, the newest first, and the bits of what the walk over 3 gives.
 use mathlib.Core.Path.{_≡_, refl}
 use mathlib.Core.Bool.{false}
 use mathlib.Core.List.{List, [], _∷_, map}
@@ -25,7 +25,7 @@ record Example : Type 0 where
 
 examples : List Example
 examples =
-    -- "own intervals newest first 110, 150, 100: 1.0"
+    -- from the newest back, 110, 150, 100 gives 1.0
     record { owns = millis 110 ∷ millis 150 ∷ millis 100 ∷ []; penalty = 0x3ff0_0000_0000_0000 }
     -- "100, 150, 110: 0.8"
     ∷ record { owns = millis 100 ∷ millis 150 ∷ millis 110 ∷ []; penalty = 0x3fe9_9999_9999_999a }

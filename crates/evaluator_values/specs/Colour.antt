@@ -1,4 +1,4 @@
--- The colour value of each object of a chart (document 01, the call colour).
+-- The colour value of each object of a chart (scope: the call colour).
 use Prim.Native.Nat.{ℕ, _-_}
 use mathlib.Core.Bool.{Bool, true, cond, not}
 use mathlib.Core.List.{List}

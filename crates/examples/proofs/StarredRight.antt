@@ -1,4 +1,4 @@
--- Every one of document 01's starred examples comes out as the list says: the definitions compute to it.
+-- Every one of the scope's starred examples comes out as the list says: the definitions compute to it.
 use mathlib.Core.Path.{_≡_, refl}
 use mathlib.Core.List.{map}
 use lib.Ieee.{round, add, sub, mul, div, le, lt, eq, ofInt, ofBits, toBits}

@@ -94,7 +94,7 @@ unfoldable pub colourAnswer : Colouring → List ℕ
 colourAnswer colouring.Done = 0 ∷ []
 colourAnswer (colouring.Refused number place) = number ∷ place .0 ∷ []
 
--- 0 and the numbers of groups and of pattern groups, or the refusal and its place
+-- 0 and how many groups and pattern groups there are, or the refusal and its place
 unfoldable pub rhythmAnswer : Grouping → List ℕ
 rhythmAnswer (grouping.Done groups patterns) = 0 ∷ groups ∷ patterns ∷ []
 rhythmAnswer (grouping.Refused number place) = number ∷ place .0 ∷ []

@@ -1,4 +1,4 @@
--- The chart examples of document 01 that have a star, as one list of input and outcome. `StarredRight`, in proofs/, is
+-- The chart examples of the scope that have a star, as one list of input and outcome. `StarredRight`, in proofs/, is
 -- the theorem over the list.
 use Prim.Native.Nat.{ℕ, _*_}
 use mathlib.Core.List.{List, [], _∷_, _++_}
@@ -31,7 +31,7 @@ starred =
       question = rhythmed [];
       outcome = (0 ∷ 0 ∷ 0 ∷ []) ∷ (77 ∷ []) ∷ (77 ∷ []) ∷ (77 ∷ []) ∷ (one ∷ []) ∷ [];
     }
-    -- d: one hit pattern, interval 17; the value is T(0) × (T(0) × 2) × 0.5, plus T(0) × 2, plus 2, each rounded
+    -- d: one hit pattern, interval 17; the value is mono, alt and hit with T at 0, each step rounded
     ∷ record {
       question = encoded (0 ∷ []);
       outcome = encoding 1 1 (0 ∷ []) (0 ∷ []) (0 ∷ []) (0 ∷ []) (0 ∷ []) (17 ∷ []);
@@ -64,7 +64,7 @@ starred =
           (0 ∷ 0 ∷ 0 ∷ 0 ∷ []) (0 ∷ 0 ∷ 0 ∷ 0 ∷ [])
           (0 ∷ 0 ∷ 0 ∷ 0 ∷ []) (17 ∷ 17 ∷ 17 ∷ 17 ∷ []);
     }
-    -- d kk d: one hit pattern of three
+    -- d kk d: all in a single hit pattern
     ∷ record {
       question = encoded (0 ∷ 1 ∷ 1 ∷ 0 ∷ []);
       outcome = encoding 4 1

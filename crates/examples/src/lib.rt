@@ -1,1 +1,1 @@
-// Document 01's starred examples: definitions and a theorem, no code.
+// The scope's starred examples: definitions and a theorem, no code.

@@ -1,5 +1,5 @@
 -- A chart: four lists with a place for each of its n objects. Kind 0 is Center, 1 is Rim and 2 is NonHit; start and
--- delta are milliseconds. Document 01, first paragraph; n is at most 16,384.
+-- delta are milliseconds. The scope, first paragraph; n is at most 16,384.
 use Prim.Native.Nat.{ℕ}
 use mathlib.Core.Path.{_≡_}
 use mathlib.Core.Bool.{Bool, false, cond}

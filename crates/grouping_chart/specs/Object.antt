@@ -1,5 +1,5 @@
 -- An object's two counters, both from 0: its idx counts all objects, its note_idx counts Center and Rim only and is 0
--- for a NonHit. Its previous note is the one numbered note_idx - 1, and there is none at 0 (document 01, object.rs).
+-- for a NonHit. Its previous note is the one numbered note_idx - 1, and there is none at 0 (scope: object.rs).
 -- A list of kinds has a number for each object: 0 Center, 1 Rim, 2 NonHit.
 use Prim.Native.Nat.{ℕ, zero, suc}
 use mathlib.Core.Bool.{Bool, cond}

@@ -1,6 +1,6 @@
--- Refusals 1 to 7 and their order (document 01, "Refused by number"): 1, 2, what is refused beside the chart, of which
--- Room.antt has the numbers, then object by object 4, 5, 6, 7. A refusal has a number and a place, the object's for
--- those tested object by object, else 0.
+-- Refusals 1 to 7 and their order (scope: "Refused by number"): 1, 2, what is refused beside the chart, of which
+-- Room.antt has the numbers, then 4 to 7 for one object after another. A refusal has a number and a place: the
+-- object's for 4 to 7, else 0.
 use Prim.Native.Nat.{ℕ, _+_}
 use mathlib.Core.Bool.{Bool, cond}
 use mathlib.Core.List.{List, [], _∷_}

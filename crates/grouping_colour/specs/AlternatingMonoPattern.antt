@@ -1,4 +1,4 @@
--- Document 01, alternating_mono_pattern.rs: neighbouring streaks of one length make an alternating pattern, and a
+-- Scope, alternating_mono_pattern.rs: neighbouring streaks of one length make an alternating pattern, and a
 -- pattern is coupled with the next but one where the two are alike.
 use Prim.Native.Nat.{ℕ, _+_, _-_}
 use mathlib.Core.Bool.{cond, _&&_}

@@ -1,4 +1,4 @@
--- Document 01, mono_streak.rs: an object whose previous note has its kind continues the open streak, others open one.
+-- Scope, mono_streak.rs: an object whose previous note has its kind continues the open streak, others open one.
 -- A NonHit is no note, so it always opens one, and a note after it may continue that one.
 use Prim.Native.Nat.{ℕ}
 use mathlib.Core.Bool.{Bool, false, cond}

@@ -1,4 +1,4 @@
--- Document 01, demand 2, on intervals: the interval is the nearest match below the limit, and one above the limit exactly where there
+-- Demand 2 on intervals: the interval is the nearest match below the limit, and one above the limit exactly where there
 -- is none. By induction on the tries that are left the search gives the first match, with none nearer, or `none`, with no match in reach.
 use mathlib.Core.Path.{_≡_, refl, sym, subst, _∙_}
 use mathlib.Core.Logic.{_⊎_, inl, inr, ⊎-elim, _↔_}

@@ -1,5 +1,5 @@
--- Document 01, repeating_hit_patterns.rs: hit patterns, when two of them match, and the interval at which one repeats.
--- The search limit M is a parameter, 16 in the original: k runs from 1 to M − 1, and M + 1 says that there is none,
+-- Scope, repeating_hit_patterns.rs: hit patterns, when two of them match, and the interval at which one repeats.
+-- The search limit M is a parameter, 16 in the original: k stays below M, and M + 1 says that none matches,
 -- so M itself never occurs.
 use Prim.Native.Nat.{ℕ, zero, suc, _+_, _-_}
 use mathlib.Core.Bool.{Bool, cond, _&&_}

@@ -1,4 +1,4 @@
--- Document 01's starred examples of deltas, with the margin 5.0: each list of deltas with its marks, 1 where a note opens a group and 0 where it continues one.
+-- The scope's starred examples of deltas, with the margin 5.0: each list of deltas with its marks, 1 where a note opens a group and 0 where it continues one.
 use mathlib.Core.Path.{_≡_, refl}
 use mathlib.Core.Bool.{false}
 use mathlib.Core.List.{List, [], _∷_, map}

@@ -1,4 +1,4 @@
--- Document 01's starred example of the normaliser, and others, with the margin 5.0: each list of deltas with the bits of what each delta counts as.
+-- The scope's starred example of the normaliser, and others, with the margin 5.0: each list of deltas with the bits of what each delta counts as.
 use mathlib.Core.Path.{_≡_, refl}
 use mathlib.Core.Bool.{false}
 use mathlib.Core.List.{List, [], _∷_, map}

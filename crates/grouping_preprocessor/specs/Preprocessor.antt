@@ -1,4 +1,4 @@
--- Document 01, color/preprocessor.rs: the levels of a chart's kinds, from streaks to hit patterns, and an object's six
+-- Scope, color/preprocessor.rs: the levels of a chart's kinds, from streaks to hit patterns, and an object's six
 -- numbers: its streak and alternating pattern, each with its place in the level above, its hit pattern, the interval.
 use Prim.Native.Nat.{ℕ}
 use mathlib.Core.List.{List}

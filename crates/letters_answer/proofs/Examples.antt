@@ -1,4 +1,4 @@
--- Inputs and what the program prints for them, as one list: the definition computes to each output. Document 01's `dkkddk` is the first.
+-- Inputs and what the program prints for them, as one list: the definition computes to each output. The scope's `dkkddk` is the first.
 use mathlib.Core.Path.{_≡_, refl}
 use mathlib.Core.List.{List, [], _∷_, map}
 use Prim.Native.Nat.{ℕ}

@@ -1,4 +1,4 @@
--- The letters program, by document 01's paragraph of that name: for each hit pattern of the letters d, k and n (the
+-- The letters program, by the scope's paragraph of that name: for each hit pattern of the letters d, k and n (the
 -- kinds 0, 1 and 2) a line with its interval and its letters. `dkkddk` gives `17 d`, `17 kk,dd`, `2 k`.
 use mathlib.Core.Path.{_≡_}
 use Prim.Native.Nat.{ℕ, _≤_}

@@ -1,4 +1,4 @@
--- Inputs and what is printed for them, as one list: the definitions compute to each output. Document 01's `dkkddk` is among them.
+-- Inputs and what is printed for them, as one list: the definitions compute to each output. The scope's `dkkddk` is among them.
 use mathlib.Core.Path.{_≡_, refl}
 use mathlib.Core.List.{List, [], _∷_, _++_, map}
 use Prim.Native.Nat.{ℕ}

@@ -1,4 +1,4 @@
--- What the letters program reads, by document 01's paragraph on it: letters, of which there are at most 1,024, and
+-- What the letters program reads, by the scope's paragraph on it: letters, of which there are at most 1,024, and
 -- after them one line feed that counts for nothing. A text that is too long is told as that, whatever its bytes are;
 -- else its first byte that is no letter is told.
 -- A text is a list of bytes.

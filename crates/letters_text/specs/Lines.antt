@@ -1,4 +1,4 @@
--- What the letters program prints, by document 01's paragraph on it: a line for each hit pattern, with its interval
+-- What the letters program prints, by the scope's paragraph on it: a line for each hit pattern, with its interval
 -- and its letters, among which `|` parts alternating patterns and `,` streaks; or one line on what is wrong with the
 -- text. No letters, no line.
 use Prim.Native.Nat.{ℕ}

@@ -1,4 +1,4 @@
--- The f64 numbers that the formulas of document 01 name: 64 for binary64, so that none is taken for a natural number.
+-- The f64 numbers that the formulas of the scope name: 64 for binary64, so that none is taken for a natural number.
 use mathlib.Core.Bool.{false}
 use lib.IntN.{pos, negsuc}
 use lib.Ieee.{Float, fin, binary64, round}

@@ -1,5 +1,5 @@
 -- Two values are near where they are a margin apart at most: a parameter, as of the source's `almost_eq`.
--- In document 01's interval_grouping.rs it is 5.0.
+-- In the scope's interval_grouping.rs it is 5.0.
 -- The difference is IEEE 754-2019's subtraction (5.4.1), rounded; the comparison is 5.11's, so a NaN is near nothing.
 use mathlib.Core.Bool.{Bool, false}
 use lib.Ieee.{Float, nan, inf, fin, binary64, sub, le}

@@ -1,4 +1,4 @@
--- Ranges with their ends, and those of a chart's times and ratios (document 01, refusals 5 to 7).
+-- Ranges with their ends, and those of a chart's times and ratios (scope: refusals 5 to 7).
 use mathlib.Core.Bool.{Bool, true, false, _&&_}
 use lib.IntN.{pos, negsuc}
 use lib.Ieee.{Float, fin, le}

@@ -1,4 +1,4 @@
--- A value in tenths, downwards, from the exact product with ten (document 01, stretch).
+-- A value in tenths, downwards, from the exact product with ten (scope: stretch).
 -- A finite x is m * up e / down e in size. For a negative x the largest whole number not above 10 x is minus
 -- the smallest one not below 10 |x|.
 use mathlib.Core.Bool.{true, false}

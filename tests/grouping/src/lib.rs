@@ -1,4 +1,4 @@
-//! Exports of libtest_host.a as safe functions, document 01's rules beside them, and the values that the tests try.
+//! Exports of libtest_host.a as safe functions, the scope's rules beside them, and the values that the tests try.
 
 pub mod plain;
 pub mod samples;

@@ -1,4 +1,4 @@
-//! Document 01's rule for the groups of intervals, value by value. It knows nothing of the library.
+//! The scope's rule for the groups of intervals, value by value. It knows nothing of the library.
 
 /// How a value stands to the one before it.
 #[derive(Clone, Copy, PartialEq, Eq, Debug)]

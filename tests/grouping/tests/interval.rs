@@ -1,4 +1,4 @@
-//! group_by_interval against stored answers of the original at the margin 5.0, and document 01's rule at other margins.
+//! group_by_interval against stored answers of the original at the margin 5.0, and the scope's rule at other margins.
 
 use grouping_tests::plain::{groups, step, Step};
 use grouping_tests::samples::{values, Xorshift};
@@ -52,7 +52,7 @@ fn stored_answers_of_the_original() {
         let numbers = numbers_of(sizes);
         check(&values, STORED_MARGIN, &numbers);
         let read = groups(&values, STORED_MARGIN);
-        assert_eq!(read, numbers, "document 01's rule on {values:?}");
+        assert_eq!(read, numbers, "the scope's rule on {values:?}");
         count += 1;
         largest += usize::from(values.len() == MOST_VALUES);
     }
@@ -100,7 +100,7 @@ fn random_lists_at_the_margin_50() {
     check_random(23, 50.0);
 }
 
-/// The values that document 01 names, and steps that rounding makes odd.
+/// The values that the scope names, and steps that rounding makes odd.
 #[test]
 fn known_lists() {
     let (least, above) = (2f64.powi(-51), 5.0 + 2f64.powi(-50));
@@ -122,7 +122,7 @@ fn known_lists() {
         assert_eq!(
             groups(values, 5.0),
             want,
-            "document 01's rule on {values:?}"
+            "the scope's rule on {values:?}"
         );
     }
 }

@@ -1,4 +1,4 @@
-/* colour and stretch from C and from C++: values by document 01's formulas, a mean below zero, and its tenths.
+/* colour and stretch from C and from C++: values by the scope's formulas, a mean below zero, and its tenths.
  * Prints `ok`, or each line that fails. */
 #include "dresserduck.h"
 

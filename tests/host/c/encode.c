@@ -1,4 +1,4 @@
-/* encode from C and from C++: document 01's d kk dd k, a chart that gives no two lists the same, and a refusal.
+/* encode from C and from C++: the scope's d kk dd k, a chart that gives no two lists the same, and a refusal.
  * Prints `ok`, or each line that fails. */
 #include "dresserduck.h"
 
@@ -14,7 +14,7 @@ static dresserduck_encoded encode(const uint8_t *kind, size_t n)
 }
 
 /* d | kk,dd | k */
-static void document_01s_example(void)
+static void the_scopes_example(void)
 {
     static const uint8_t kind[6] = {0, 1, 1, 0, 0, 1};
     static const uint16_t hit[6] = {0, 1, 1, 1, 1, 2};
@@ -56,7 +56,7 @@ static void refused(void)
 
 int main(void)
 {
-    document_01s_example();
+    the_scopes_example();
     each_list_in_its_slice();
     refused();
     return finish();

@@ -1,4 +1,4 @@
-//! Document 01's colour landmarks, read sentence by sentence from the plain encoder's numbers of one chart.
+//! The scope's colour landmarks, read sentence by sentence from the plain encoder's numbers of one chart.
 
 use crate::plain;
 

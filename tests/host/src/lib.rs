@@ -1,4 +1,4 @@
-//! The exports of libdresserduck.a over a chart and lent memory whose every place is known, and document 01's words beside them.
+//! The exports of libdresserduck.a over a chart and lent memory whose every place is known, and the scope's words beside them.
 
 pub mod chart;
 pub mod check;

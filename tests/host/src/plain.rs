@@ -1,4 +1,4 @@
-//! Document 01's encoder, sentence by sentence over lists of lists. It knows nothing of the library.
+//! The scope's encoder, sentence by sentence over lists of lists. It knows nothing of the library.
 
 const NON_HIT: u8 = 2;
 const NO_INTERVAL: u8 = 17;

@@ -1,4 +1,4 @@
-//! Document 01's words for colour and stretch. It knows nothing of the library.
+//! The scope's words for colour and stretch. It knows nothing of the library.
 
 use crate::chart::Chart;
 use crate::plain;

@@ -1,4 +1,4 @@
-//! Document 01's words for rhythm and record, with lists of lists. It knows nothing of the library.
+//! The scope's words for rhythm and record, with lists of lists. It knows nothing of the library.
 
 use std::collections::HashMap;
 
@@ -112,7 +112,7 @@ fn walk(owns: &[Option<f64>], group: usize, count: usize) -> f64 {
     }
 }
 
-/// A NaN as document 01 has it.
+/// A NaN as the scope has it.
 fn bits(x: f64) -> u64 {
     if x.is_nan() {
         0x7FF8_0000_0000_0000

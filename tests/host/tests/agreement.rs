@@ -1,4 +1,4 @@
-//! Two charts with a common tail agree from the colour landmarks of document 01 on: demand 3 through the calls.
+//! Two charts with a common tail agree from the colour landmarks of the scope on: demand 3 through the calls.
 
 use host_tests::chart::Chart;
 use host_tests::colour::{stretch, Memory, Stretched};

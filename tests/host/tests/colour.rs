@@ -1,4 +1,4 @@
-//! colour and stretch over the static library: document 01's example, a plain reimplementation, memory, and refusals 1 to 9.
+//! colour and stretch over the static library: the scope's example, a plain reimplementation, memory, and refusals 1 to 9.
 
 use host_tests::chart::Chart;
 use host_tests::check::bad_charts;
@@ -34,7 +34,7 @@ const DONE: Coloured = Coloured {
 };
 
 #[test]
-fn one_object_has_the_value_of_document_01() {
+fn one_object_has_the_value_of_the_scope() {
     let mut memory = exact(1);
     assert_eq!(colour(&Chart::of_text("d"), &mut memory), DONE);
     assert_eq!(memory.value.lent()[0].to_bits(), 0x4013_ee42_c838_4268);
@@ -68,7 +68,7 @@ fn check_stretch(chart: &Chart, values: &[f64], a: usize, b: usize) -> f64 {
 }
 
 #[test]
-fn values_and_stretches_follow_document_01() {
+fn values_and_stretches_follow_the_scope() {
     let table = table();
     let mut rng = Xorshift::new(0x5EED);
     let (mut stretches, mut negative) = (0, 0);

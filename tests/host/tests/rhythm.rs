@@ -1,4 +1,4 @@
-//! rhythm and record over the static library: document 01's examples, a plain reimplementation, memory, and refusals 1 to 9.
+//! rhythm and record over the static library: the scope's examples, a plain reimplementation, memory, and refusals 1 to 9.
 
 use host_tests::chart::Chart;
 use host_tests::check::bad_charts;
@@ -58,7 +58,7 @@ fn check_record(chart: &Chart, groups: &Groups, group: usize, window: f64) -> Re
 }
 
 #[test]
-fn groups_of_document_01s_examples() {
+fn groups_of_the_scopes_examples() {
     let cases: [(&[f64], &[u16]); 6] = [
         (&[100.0, 100.0, 100.0], &[0, 0, 0]),
         (&[100.0, 100.0, 200.0], &[0, 0, 1]),
@@ -75,7 +75,7 @@ fn groups_of_document_01s_examples() {
 }
 
 #[test]
-fn own_interval_of_document_01s_examples() {
+fn own_interval_of_the_scopes_examples() {
     let own = |deltas: &[f64]| {
         let chart = notes(deltas);
         let got = record(&chart, 0, 100.0, &mut exact(chart.size()));
@@ -88,7 +88,7 @@ fn own_interval_of_document_01s_examples() {
 }
 
 #[test]
-fn groups_and_records_follow_document_01() {
+fn groups_and_records_follow_the_scope() {
     let mut rng = Xorshift::new(0xD0C01);
     let (mut records, mut nans, mut minus_zeros, mut above) = (0, 0, 0, 0);
     for _ in 0..2_000 {

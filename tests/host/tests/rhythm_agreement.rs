@@ -1,4 +1,4 @@
-//! Two charts with a common tail have the same rhythm groups from the rhythm landmarks of document 01 on: demand 3 through the call rhythm.
+//! Two charts with a common tail have the same rhythm groups from the rhythm landmarks of the scope on: demand 3 through the call rhythm.
 
 use host_tests::pairs::{random_pair, Pair};
 use host_tests::rhythm::{rhythm, Memory};

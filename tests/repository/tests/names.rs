@@ -5,8 +5,12 @@ use std::fs;
 
 use repository_tests::{declaration, found, has_name, named, root, tree_words, Named};
 
-const DOCUMENTS: [&str; 4] = [
+const DOCUMENTS: [&str; 8] = [
     "README.md",
+    "CONTRIBUTING.md",
+    "docs/GUIDE.md",
+    "docs/PROOFS.md",
+    "docs/SPEED.md",
     "docs/SCOPE.md",
     "docs/DECISIONS.md",
     "docs/DIFFERENCES.md",

@@ -25,7 +25,7 @@ use Rattle.agreement.proofs.colour.LandmarkLaws.{test-landmark}
 use Rattle.agreement.proofs.colour.HitsAgree.{colour-agree}
 use Rattle.agreement.proofs.colour.Claimed.{same-hits}
 
--- document 01's own landmark: the claim holds
+-- the scope's own landmark: the claim holds
 plain-holds : ClaimFrom hitOf (isLandmark plain)
 plain-holds xs ys t i i′ s c e = same-hits baseSettings (kinds-only xs) (kinds-only ys) (colour-agree 16 xs ys t i i′ s c (inl (test-landmark xs t i e)) .agree)
   where
@@ -84,7 +84,7 @@ oneThenNext l streak pattern =
     ∷ eqb (getD (l .flags) pattern 0) 0
     ∷ [])
 
--- ---- document 01's conditions with one of them weaker
+-- ---- the scope's conditions with one of them weaker
 
 abbrev withObject : (Levels → ℕ → ℕ → Bool) → Conditions
 withObject condition = record { object = condition; streak = streakServes; pattern = patternServes }

@@ -1,4 +1,4 @@
--- Where the rhythm landmark is taken more widely than document 01 takes it, the claim fails: for each wider landmark two lists of deltas, with the margin 5.0.
+-- Where the rhythm landmark is taken more widely than the scope takes it, the claim fails: for each wider landmark two lists of deltas, with the margin 5.0.
 use mathlib.Core.Path.{_≡_, refl}
 use mathlib.Core.Logic.{inl}
 use mathlib.Core.Bool.{Bool, true, not}
@@ -22,7 +22,7 @@ use Rattle.agreement.proofs.rhythm.Claimed.{rhythm-claim}
 abbrev numbers : List Float → List ℕ
 numbers deltas = groupNumbers (intervalMarks margin deltas)
 
--- document 01's own landmark: the claim holds
+-- the scope's own landmark: the claim holds
 plain-holds : ClaimFrom numbers (isRhythmLandmark margin)
 plain-holds xs ys t i i′ s c e = rhythm-claim margin s i i′ c (inl (test-landmark margin xs t i e))
 

@@ -57,7 +57,7 @@ pub record SameStretch (s : Settings) (c : Chart) (a b : ℕ) (c′ : Chart) (a�
 -- two charts, from a landmark on before which p objects stand in the one and p′ in the other
 pub record ColourClaim (s : Settings) (c c′ : Chart) (p p′ : ℕ) : Type 0 where
   pub hits : HitsClaim (s .limit) (hitsOf s c) p (hitsOf s c′) p′
-  -- from the M-th hit pattern on every object has its counterpart's colour value
+  -- from the M-th hit pattern on an object and its counterpart have one colour value
   pub value : (i i′ : ℕ) → Settled (s .limit) (hitPatterns c) p i → Counterparts (size c) (size c′) i i′
       → getD (valuesOf s c) i nan ≡ getD (valuesOf s c′) i′ nan
   -- every later object is there too, so that a stretch lies wholly there when its first object does

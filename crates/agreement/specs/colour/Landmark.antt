@@ -1,4 +1,4 @@
--- Where a colour landmark stands (document 01, "Landmarks"). Whatever stands before the tail, behind it
+-- Where a colour landmark stands (scope: "Landmarks"). Whatever stands before the tail, behind it
 -- the groups are in step.
 use Prim.Native.Nat.{ℕ, _+_, _≤_, _<_}
 use mathlib.Core.Path.{_≡_}

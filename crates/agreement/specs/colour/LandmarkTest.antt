@@ -67,7 +67,7 @@ patternServes l streak pattern =
     ∷ eqb (getD (l .flags) (pattern + 1) 0) 0
     ∷ [])
 
--- document 01's reading
+-- the scope's reading
 abbrev pub plain : Conditions
 plain = record { object = objectServes; streak = streakServes; pattern = patternServes }
 

@@ -1,4 +1,4 @@
--- Which note is a rhythm landmark (document 01, "Landmarks"): the second of three neighbours in the tail, near the
+-- Which note is a rhythm landmark (scope: "Landmarks"): the second of three neighbours in the tail, near the
 -- first and not near the third.
 use Prim.Native.Nat.{ℕ, _+_, _-_, _≤_, _<_}
 use mathlib.Core.Path.{_≡_}

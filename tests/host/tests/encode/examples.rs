@@ -1,4 +1,4 @@
-//! Document 01's starred examples that speak of kinds, and a few more, each with its six numbers.
+//! The scope's starred examples that speak of kinds, and a few more, each with its six numbers.
 
 use host_tests::chart::Chart;
 use host_tests::check::accepted_with;

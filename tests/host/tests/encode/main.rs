@@ -1,4 +1,4 @@
-//! encode on good charts: document 01's examples written out, and a plain encoder compared at scale.
+//! encode on good charts: the scope's examples written out, and a plain encoder compared at scale.
 
 mod examples;
 mod intervals;

@@ -1,4 +1,4 @@
--- Each return is one case of the definition, in the order 1, 2, 3, then object by object.
+-- Each return is one case of the definition, in their order.
 use mathlib.Core.Path.{sym, _∙_}
 use Rattle.grouping_chart.proofs.RefusalLaws.{verdict-1, verdict-2, verdict-beside, verdict-objects}
 use Rattle.grouping_chart.proofs.AcceptedLaws.{equal-lengths}
