@@ -2,14 +2,14 @@
 -- patterns.
 use mathlib.Core.Path.{_≡_, sym, ap, _∙_}
 use mathlib.Core.List.{List}
-use Prim.Native.Nat.{ℕ, _+_, _-_, _*_, _≤_, _<_}
+use Prim.Native.Nat.{ℕ, _+_, _-_, _*_, _≤_}
 use native.Mathlib.Omega.{arith}
-use lib.ListN.{length, take, drop, getD, replicate, length-replicate}
+use lib.ListN.{length, take, drop, replicate, length-replicate}
 use lib.Ieee.{Float, binary64, ofBits}
 use Rattle.lent.specs.Over.{over, put, part, written}
 use Rattle.lent.specs.Scan.{gathered}
 use Rattle.grouping_marks.specs.Marks.{groupCount, groupNumbers}
-use Rattle.lent.proofs.OverLaws.{length-part, length-put, drop-put, part-put-same, lent-part, over-agree}
+use Rattle.lent.proofs.OverLaws.{length-part, drop-put, part-put-same, lent-part, over-agree}
 use Rattle.lent.proofs.FillLaws.{length-gathered, getD-gathered}
 use Rattle.grouping_marks.proofs.MarksLaws.{length-numbers, numbers-below}
 use Rattle.grouping_chart.specs.Object.{notes}

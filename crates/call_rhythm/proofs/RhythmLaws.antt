@@ -5,7 +5,6 @@ use mathlib.Core.List.{List}
 use Prim.Native.Nat.{ℕ, _<_}
 use native.Mathlib.Omega.{arith}
 use lib.ListN.{getD}
-use lib.Ieee.{Float}
 use Rattle.grouping_marks.specs.Marks.{groupNumbers}
 use Rattle.lent.proofs.PieceLaws.{getD-over}
 use Rattle.grouping_chart.specs.Object.{isNote, noteIdx}
