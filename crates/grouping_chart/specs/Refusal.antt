@@ -1,6 +1,6 @@
 -- Refusals 1 to 7 and the order in which they are tested (document 01, "Refused by number"): 1, 2, what is refused
--- beside the chart, then object by object 4, 5, 6, 7. Room.antt alone says which number is refused beside the chart, and
--- when. A refusal has a number and a place, the object's for those tested object by object, else 0.
+-- beside the chart, then object by object 4, 5, 6, 7. Room.antt alone says which number is refused beside the chart,
+-- and when. A refusal has a number and a place, the object's for those tested object by object, else 0.
 use Prim.Native.Nat.{ℕ, _+_}
 use mathlib.Core.Bool.{Bool, cond}
 use mathlib.Core.List.{List, [], _∷_}

@@ -1,4 +1,4 @@
-// The verdict on every call: refusals 1 to 7, with what is refused beside the chart. That is 3, a slice that is too short.
+// The verdict on every call: refusals 1 to 7, of which 3, a slice that is too short, is beside the chart.
 ghost use mathlib.Core.Path.{_≡_};
 ghost use lib.ListN.{length};
 ghost use Rattle.lent.specs.Slice.{lent};
