@@ -5,24 +5,20 @@ use mathlib.Core.List.{List}
 use Prim.Native.Nat.{ℕ}
 use native.Mathlib.Omega.{arith}
 use borrow.Author.Tests.{eqb-true}
-use lib.Dec.{eqb, ltb}
+use lib.Dec.{eqb}
 use lib.IntN.{ℤ}
-use lib.ListN.{length}
 use lib.Ieee.{Float}
-use Rattle.grouping_chart.specs.Chart.{Chart, size}
-use Rattle.grouping_chart.specs.Refusal.{verdict, refused}
-use Rattle.grouping_chart.specs.Room.{shortRefusal}
+use Rattle.grouping_chart.specs.Chart.{Chart}
+use Rattle.grouping_chart.specs.Refusal.{refused}
 use Rattle.grouping_chart.specs.Outcome.{outcome}
 use Rattle.grouping_chart.specs.declared.chart.Verdict.{Verdict}
 use Rattle.grouping_chart.specs.declared.chart.Verdict.the-variants.{Accepted, Refused}
-use Rattle.grouping_chart.proofs.OutcomeLaws.{judged-is, answered-done}
-use Rattle.grouping_chart.proofs.CallLaws.{call-room}
-use Rattle.grouping_chart.proofs.RoomLaws.{short-last}
+use Rattle.grouping_chart.proofs.OutcomeLaws.{accommodated, answered-done}
 use Rattle.grouping_chart.specs.Settings.{Settings, Permitted}
 use Rattle.call_colour.specs.declared.Colouring.the-variants as colouring
 use Rattle.call_colour.specs.declared.Stretching.the-variants as stretching
 use Rattle.call_colour.specs.Stretch.{stretchRefusal, GoodStretch}
-use Rattle.call_colour.specs.Calls.{Memory, judged, filled, colourOutcome, stretchVerdict, chartMean, chartTenths, stretchOutcome}
+use Rattle.call_colour.specs.Calls.{Memory, places, judged, filled, colourOutcome, stretchVerdict, chartMean, chartTenths, stretchOutcome}
 use Rattle.call_colour.specs.passes.Rooms.{ChartRoom}
 
 -- ---- the verdict on a stretch, by the number of what is refused of it
@@ -48,21 +44,18 @@ unfolding stretchVerdict
 within-bounds Accepted kinds a b e = record { accepted = refl; stretch = eqb-true _ 0 (none-refused (eqb (stretchRefusal kinds a b) 0) _ e) }
 within-bounds (Refused number at) kinds a b e = absurd (let z : _≡_ {A = ℕ} 0 1 = cc in omega arith)
 
--- ---- what the tests that were run say of the definition's verdict
-module _ (s : Settings) (c : Chart) (m : Memory) where
-  -- the verdict on the chart, from what `short_refusal` and `check` answered
-  pub chart-judged : {b : ℕ} {v u : Verdict} → b ≡ shortRefusal (ltb (length (m .value)) (size c)) (size c) (length (m .work)) (length (m .scratch))
-      → v ≡ verdict c b → v ≡ u → judged c m ≡ u
-  chart-judged e f g = judged-is c _ _ _ (short-last (size c) (length (m .value))) e f g
+-- ---- each case leaves its outcome
 
+module _ (s : Settings) (c : Chart) (m : Memory) where
+  -- an accepted call has room
   pub chart-room : Permitted s → judged c m ≡ Accepted → ChartRoom s (c .kinds) (c .ratios) m
   chart-room p h =
-      let r = call-room c _ _ _ h in
+      let r = accommodated c (places m) _ _ h in
       record {
         permitted = p;
-        ratio = r .good .lengths .ratio;
-        values = r .answered .0;
-        regions = record { few = r .good .few; room = r .regions };
+        ratio = r .chart .lengths .ratio;
+        values = r .long .0;
+        regions = record { few = r .chart .few; room = r .regions };
         floats = r .floats;
       }
 
@@ -71,11 +64,6 @@ module _ (s : Settings) (c : Chart) (m : Memory) where
   colour-done new h f = answered-done _ colouring.Refused m h (λ t. outcome colouring.Done (f t))
 
   module _ (a b : ℕ) where
-    -- the same, with what `stretch_verdict` answered
-    pub stretch-is : {n : ℕ} {u v w : Verdict} → n ≡ shortRefusal (ltb (length (m .value)) (size c)) (size c) (length (m .work)) (length (m .scratch))
-        → u ≡ verdict c n → v ≡ stretchVerdict u (c .kinds) a b → v ≡ w → stretchVerdict (judged c m) (c .kinds) a b ≡ w
-    stretch-is e f g h = ap (λ (x : Verdict). stretchVerdict x (c .kinds) a b) (chart-judged e f refl) ∙ sym g ∙ h
-
     pub stretch-done : (mean : Float) (tenths : ℤ) (new : Memory) → stretchVerdict (judged c m) (c .kinds) a b ≡ Accepted → mean ≡ chartMean s c a b
         → tenths ≡ chartTenths s c a b → new ≡ filled s (c .kinds) (c .ratios) m → outcome (stretching.Done mean tenths) new ≡ stretchOutcome s c a b m
     unfolding stretchOutcome

@@ -20,7 +20,8 @@ use Rattle.grouping_chart.specs.Outcome.{Outcome, answered}
 use Rattle.grouping_chart.specs.Room.{anyShort, shortRefusal}
 use Rattle.grouping_chart.specs.Settings.{baseSettings}
 use Rattle.grouping_chart.specs.Refusal.{timeGood, ratioGood, objectRefusal, firstRefused, verdict}
-use Rattle.grouping_hits.specs.RepeatingHitPatterns.{coupledRun, hitSize, hitMarksAfter, hitMarks, secondAt, secondLengths, matches, nearestMatch, intervalAt, intervals}
+use Rattle.grouping_hits.specs.RepeatingHitPatterns.{coupledRun, hitSize, hitMarksAfter, hitMarks, secondAt, secondLengths}
+use Rattle.grouping_hits.specs.RepeatingHitPatterns.{matches, nearestMatch, intervalAt, intervals}
 use Rattle.grouping_colour.specs.MonoStreak.{continues, opensStreak, streakMarks, streakOf, streakLengths, streakTypes}
 use Rattle.grouping_colour.specs.AlternatingMonoPattern.{opensPattern, patternMarks, coupledAt, coupled}
 use Rattle.grouping_preprocessor.specs.Preprocessor.{patternsOpen, firstLengths, streakCounts, patternTypes, coupledPatterns, hitsOpen, hitCount, hitSizes}
@@ -37,7 +38,9 @@ use Rattle.call_colour.specs.Calls.{Memory, filled, colourOutcome, stret
 
 -- starts and deltas 0.0, ratios 1.0
 unfoldable pub chart : List ℕ → Chart
-chart kinds = record { kinds = kinds; starts = replicate (length kinds) zero64; deltas = replicate (length kinds) zero64; ratios = replicate (length kinds) one64 }
+chart kinds =
+    let zeros = replicate (length kinds) zero64 in
+    record { kinds = kinds; starts = zeros; deltas = zeros; ratios = replicate (length kinds) one64 }
 
 -- n values, 8 n and n places of work, none of them 0 before the call
 unfoldable pub lent : ℕ → Memory
@@ -119,8 +122,8 @@ unfolding examples stretches coloured stretched chart lent shown answered colour
     meanOf averageOf stretchValues sumFrom part ofInt anyShort shortRefusal verdict equallyLong firstRefused objectRefusal timeGood ratioGood within filled
     colourValues colourAt standingAt isFirst over tabulate scan endState gathered opened groupCount groupNumbers placeByMark groupPlaces sizesFrom groupSizes
     firstsFrom groupFirsts isNote notes noteIdx noteBefore previousNote continues opensStreak streakMarks streakOf streakLengths streakTypes opensPattern
-    patternMarks coupledAt coupled coupledRun hitSize hitMarksAfter hitMarks secondAt secondLengths matches nearestMatch intervalAt intervals patternsOpen firstLengths
-    streakCounts patternTypes coupledPatterns hitsOpen hitCount hitSizes hitFirsts hitSeconds hitIntervals streakPlaceOf alternatingOf patternPlaceOf hitOf
-    intervalOf objectSum hitValue altValue monoValue addIf ratioPenalty lowered eightTenths logisticAt tableBits isNear round add sub mul div le ofBits
-    toBits
+    patternMarks coupledAt coupled coupledRun hitSize hitMarksAfter hitMarks secondAt secondLengths matches nearestMatch intervalAt intervals patternsOpen
+    firstLengths streakCounts patternTypes coupledPatterns hitsOpen hitCount hitSizes hitFirsts hitSeconds hitIntervals streakPlaceOf alternatingOf
+    patternPlaceOf hitOf intervalOf objectSum hitValue altValue monoValue addIf ratioPenalty lowered eightTenths logisticAt tableBits isNear round add sub mul
+    div le ofBits toBits
 examples-right = (refl, refl)

@@ -12,14 +12,17 @@ use Rattle.grouping_preprocessor.specs.declared.Levels.{Levels}
 use Rattle.evaluator_values.specs.Colour.{colourValues}
 use Rattle.call_colour.specs.Calls.{Memory, memory, filled}
 
+abbrev pub ofLists : List Float → List ℕ → List Float → Memory
+ofLists = memory (λ A (xs : List A). xs)
+
 pub filled-is : (s : Settings) {kinds w work : List ℕ} {k : Levels} {value scratch : List Float} (ratios : List Float) (m : Memory)
     → Tables (s .limit) kinds (m .work) w k
     → value ≡ over (colourValues (k .limit) (s .tolerance) kinds ratios) (m .value)
     → work ≡ over (replicate (8 * length kinds) 0) w
     → scratch ≡ over (replicate (length kinds) (ofBits binary64 0)) (m .scratch)
-    → memory value work scratch ≡ filled s kinds ratios m
+    → ofLists value work scratch ≡ filled s kinds ratios m
 unfolding filled
 filled-is s {kinds} {w} ratios m t v z f =
     let values = v ∙ ap (λ (l : ℕ). over (colourValues l (s .tolerance) kinds ratios) (m .value)) (t .searched) in
     let zeros = z ∙ over-agree (replicate (8 * length kinds) 0) w (m .work) (8 * length kinds) (length-replicate (8 * length kinds) 0) (t .outside .beyond) in
-    λ i. memory (values i) (zeros i) (f i)
+    λ i. ofLists (values i) (zeros i) (f i)

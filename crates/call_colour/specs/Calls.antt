@@ -7,12 +7,13 @@ use lib.Dec.{eqb}
 use lib.IntN.{ℤ}
 use lib.ListN.{length, replicate}
 use lib.Ieee.{Float, binary64, ofBits}
+use denote.Ref.{now}
 use Rattle.lent.specs.Over.{over}
 use Rattle.grouping_chart.specs.Chart.{Chart, size}
 use Rattle.grouping_chart.specs.Refusal.{verdict, refused}
 use Rattle.grouping_chart.specs.Room.{beside}
 use Rattle.grouping_chart.specs.Outcome.{Outcome, outcome, answered}
-use Rattle.lent.specs.Slice.{Slice, lent, left}
+use Rattle.lent.specs.Slice.{Held, Slice, lent, left}
 use Rattle.grouping_chart.specs.declared.chart.Verdict.{Verdict}
 use Rattle.grouping_chart.specs.declared.chart.Verdict.the-variants.{Accepted, Refused}
 use Rattle.grouping_chart.specs.Settings.{Settings}
@@ -29,19 +30,33 @@ pub record Memory : Type 0 where
   pub work : List ℕ
   pub scratch : List Float
 
-abbrev pub memory : List Float → List ℕ → List Float → Memory
-memory value work scratch = record { value = value; work = work; scratch = scratch }
+-- the memory that is made of the three slices, in the order in which they are lent, by how one of them is read
+abbrev pub Lending : (Type 0 → Type 0) → Type 0
+Lending S = S Float → S ℕ → S Float → Memory
 
--- as lent, and as left
-abbrev pub before : Slice Float → Slice ℕ → Slice Float → Memory
-before value work scratch = memory (lent value) (lent work) (lent scratch)
+abbrev pub memory : {S : Type 0 → Type 0} → ((A : Type 0) → S A → List A) → Lending S
+memory read value work scratch = record {
+  value = read Float value;
+  work = read ℕ work;
+  scratch = read Float scratch;
+}
 
-abbrev pub after : Slice Float → Slice ℕ → Slice Float → Memory
-after value work scratch = memory (left value) (left work) (left scratch)
+-- as lent, as left, and where a pass begins
+abbrev pub before : Lending Slice
+before = memory (λ A. lent)
 
--- the verdict on the chart
+abbrev pub after : Lending Slice
+after = memory (λ A. left)
+
+abbrev pub held : Lending Held
+held = memory (λ A. now)
+
+-- how many places the answer slice has
+abbrev pub places : Memory → List ℕ
+places m = length (m .value) ∷ []
+
 abbrev pub judged : Chart → Memory → Verdict
-judged c m = verdict c (beside (size c) (length (m .value) ∷ []) (length (m .work)) (length (m .scratch)))
+judged c m = verdict c (beside (size c) (places m) (length (m .work)) (length (m .scratch)))
 
 -- the memory after an accepted call, by the chart's kinds and ratios
 unfoldable pub filled : Settings → List ℕ → List Float → Memory → Memory

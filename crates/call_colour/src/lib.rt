@@ -4,11 +4,11 @@ ghost use Rattle.grouping_chart.specs.Settings.{baseSettings};
 ghost use Rattle.grouping_chart.specs.Outcome.{outcome};
 ghost use Rattle.grouping_chart.specs.Chart.{chart};
 ghost use Rattle.lent.specs.Slice.{lent};
-ghost use Rattle.call_colour.specs.Calls.{memory, before, after, filled, colourOutcome, stretchOutcome};
+ghost use Rattle.call_colour.specs.Calls.{before, after, held, filled, colourOutcome, stretchOutcome};
 ghost use Rattle.call_colour.specs.passes.Rooms.{ChartRoom};
 use grouping_chart::chart::Verdict;
 use grouping_chart::object::ObjectIndex;
-use grouping_chart::room::short_refusal;
+use grouping_chart::room::judge;
 use grouping_chart::settings;
 use grouping_chart::settings::Settings;
 use lent::fill;
@@ -36,7 +36,7 @@ fn fill_chart(
     work: &mut [u16],
     scratch: &mut [f64],
 )
-    requires { ⌜ ChartRoom s (now kind) (now ratio) (memory (now value) (now work) (now scratch)) ⌝ }
+    requires { ⌜ ChartRoom s (now kind) (now ratio) (held value work scratch) ⌝ }
     ensures { λ r. ⌜ after value work scratch ≡ filled s (lent kind) (lent ratio) (before value work scratch) ⌝ }
 {
     let n = kind.len();
@@ -59,9 +59,8 @@ pub fn colour(
     ensures { λ r. ⌜ outcome r (after value work scratch)
         ≡ colourOutcome baseSettings (chart kind start delta ratio) (before value work scratch) ⌝ }
 {
-    let n = kind.len();
-    let refusal = short_refusal(value.len() < n, n, work.len(), scratch.len());
-    match grouping_chart::chart::check(kind, start, delta, ratio, refusal) {
+    let short = value.len() < kind.len();
+    match judge(kind, start, delta, ratio, short, work.len(), scratch.len()) {
         Verdict::Refused(number, place) => Colouring::Refused(number, place),
         Verdict::Accepted => {
             fill_chart(kind, ratio, settings::base(), value, work, scratch);
@@ -84,9 +83,8 @@ pub fn stretch(
     ensures { λ r. ⌜ outcome r (after value work scratch)
         ≡ stretchOutcome baseSettings (chart kind start delta ratio) a b (before value work scratch) ⌝ }
 {
-    let n = kind.len();
-    let refusal = short_refusal(value.len() < n, n, work.len(), scratch.len());
-    let verdict = grouping_chart::chart::check(kind, start, delta, ratio, refusal);
+    let short = value.len() < kind.len();
+    let verdict = judge(kind, start, delta, ratio, short, work.len(), scratch.len());
     match mean::stretch_verdict(verdict, kind, a, b) {
         Verdict::Refused(number, place) => Stretching::Refused(number, place),
         Verdict::Accepted => {

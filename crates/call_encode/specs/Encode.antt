@@ -14,7 +14,8 @@ use Rattle.lent.specs.Slice.{Held, Slice, lent, left}
 use Rattle.grouping_chart.specs.Settings.{Settings}
 use Rattle.grouping_chart.specs.declared.chart.Verdict.{Verdict}
 use Rattle.grouping_colour.specs.MonoStreak.{streakOf}
-use Rattle.grouping_preprocessor.specs.Preprocessor.{streakPlaceOf, alternatingOf, patternPlaceOf, hitOf, intervalOf, hitCount}
+use Rattle.grouping_preprocessor.specs.Preprocessor.{streakPlaceOf, alternatingOf, patternPlaceOf}
+use Rattle.grouping_preprocessor.specs.Preprocessor.{hitOf, intervalOf, hitCount}
 use Rattle.call_encode.specs.declared.Encoding.{Encoding}
 use Rattle.call_encode.specs.declared.Encoding.the-variants.{Done}
 use Rattle.call_encode.specs.declared.Encoding.the-variants as answer

@@ -1,7 +1,6 @@
 -- The outcomes of record, case by case, over plain lists: a refusal leaves all as lent, and an accepted call has room in both slices and finite deltas.
 use mathlib.Core.Path.{_≡_, refl, ap, _∙_}
 use mathlib.Core.Bool.{Bool, true, false, cond}
-use mathlib.Core.List.{[]}
 use Prim.Native.Nat.{ℕ, _≤_, _<_}
 use native.Mathlib.Omega.{arith}
 use borrow.Author.Tests.{lt-ltb, le-ltb}
@@ -12,23 +11,19 @@ use lib.Ieee.Scale.{finite}
 use Rattle.numeric.specs.Range.{earliest, latest}
 use Rattle.numeric.proofs.Values.{finite-between}
 use Rattle.grouping_chart.specs.Chart.{Chart, size}
-use Rattle.grouping_chart.specs.Refusal.{timeGood, verdict, refused}
-use Rattle.grouping_chart.specs.Room.{shortRefusal}
+use Rattle.grouping_chart.specs.Refusal.{timeGood, refused}
 use Rattle.grouping_chart.specs.Outcome.{outcome}
 use Rattle.grouping_chart.specs.Settings.{Settings}
 use Rattle.grouping_chart.specs.declared.object.ObjectIndex.{ObjectIndex}
 use Rattle.grouping_chart.specs.declared.chart.Verdict.{Verdict}
 use Rattle.grouping_chart.specs.declared.chart.Verdict.the-variants.{Accepted, Refused}
-use Rattle.grouping_chart.proofs.AcceptedLaws.{accepted-good}
-use Rattle.grouping_chart.proofs.CallLaws.{call-room}
 use Rattle.grouping_chart.proofs.RangeLaws.{time-range}
-use Rattle.grouping_chart.proofs.OutcomeLaws.{judged-is, answered-refused, answered-done}
-use Rattle.grouping_chart.proofs.RoomLaws.{none-asked}
+use Rattle.grouping_chart.proofs.OutcomeLaws.{accommodated, answered-refused, answered-done}
 use Rattle.call_record.specs.declared.GroupRecord.{GroupRecord}
 use Rattle.call_record.specs.declared.Recording.the-variants.{Done}
 use Rattle.call_record.specs.declared.Recording.the-variants as answer
 use Rattle.call_record.specs.Record.{recordAt}
-use Rattle.call_record.specs.Calls.{Memory, judged, windowGood, recordVerdict, cleared, groupsOf, recordOutcome}
+use Rattle.call_record.specs.Calls.{Memory, places, judged, windowGood, recordVerdict, cleared, groupsOf, recordOutcome}
 use Rattle.call_record.specs.passes.Found.{GroupRoom}
 
 -- ---- a time in range is finite
@@ -37,21 +32,16 @@ finite-time x t =
     let b = time-range x t in
     finite-between earliest x latest tt tt (b .0) (b .1)
 
--- ---- what the tests that were run say of the definition's verdict
+-- ---- what is known of an accepted call
+pub lengths-same : (c : Chart) (m : Memory) → judged c m ≡ Accepted → length (c .deltas) ≡ size c
+lengths-same c m h = accommodated c (places m) _ _ h .chart .lengths .delta
+
 module _ (s : Settings) (c : Chart) (m : Memory) where
-  -- from what `short_refusal` and `check` answered
-  pub chart-judged : {b : ℕ} {v u : Verdict} → b ≡ shortRefusal false (size c) (length (m .work)) (length (m .scratch)) → v ≡ verdict c b → v ≡ u
-      → judged c m ≡ u
-  chart-judged e f g = judged-is c [] _ _ (none-asked (size c)) e f g
-
-  pub lengths-same : judged c m ≡ Accepted → length (c .deltas) ≡ length (c .kinds)
-  lengths-same h = accepted-good c _ h .lengths .delta
-
   pub group-room : (g : ℕ) → judged c m ≡ Accepted → g < groupsOf s c
       → GroupRoom (s .margin) (c .kinds) (c .starts) (c .deltas) g (m .work) (m .scratch)
   group-room g h there =
-      let r = call-room c [] _ _ h in
-      let good = r .good in
+      let r = accommodated c (places m) _ _ h in
+      let good = r .chart in
       record {
         tables = record { few = good .few; started = good .lengths .start; whole = good .lengths .delta; regions = r .regions; floats = r .floats };
         numbers = λ i k. finite-time (getD (c .deltas) i nan) (good .objects i nan (omega (arith, good .lengths .delta)) .delta);

@@ -22,7 +22,7 @@ use Rattle.call_rhythm.specs.passes.Tables.{TablesRoom, notesWrites}
 use Rattle.call_rhythm.proofs.TablesLaws.{groups-few, length-first-objects, length-group-intervals, first-object-below, notes-left}
 use Rattle.evaluator_rhythm.specs.RepeatedInterval.{repeatedIntervalPenalty}
 use Rattle.call_record.specs.Record.{recordAt}
-use Rattle.call_record.specs.Calls.{memory, cleared}
+use Rattle.call_record.specs.Calls.{Memory, memory, cleared}
 use Rattle.call_record.specs.passes.Found.{GroupRoom, locatedAt, locateWrites, foundAt, findWrites}
 use Rattle.call_record.specs.declared.GroupRecord.{GroupRecord}
 use Rattle.call_record.specs.declared.found.LocatedGroup.{LocatedGroup}
@@ -160,6 +160,10 @@ recorded s kinds starts deltas g window x r r′ p q =
     }
 
 -- and both slices are cleared
+
+abbrev pub ofLists : List ℕ → List Float → Memory
+ofLists = memory (λ A (xs : List A). xs)
+
 pub cleared-is : {margin : Float} {kinds : List ℕ} {starts deltas : List Float} {g : ℕ} {work₀ work₁ work : List ℕ} {scratch₀ scratch : List Float}
     (scratch₁ : List Float)
     → GroupRoom margin kinds starts deltas g work₀ scratch₀
@@ -167,10 +171,10 @@ pub cleared-is : {margin : Float} {kinds : List ℕ} {starts deltas : List Float
     → drop (length kinds) scratch₁ ≡ drop (length kinds) scratch₀
     → work ≡ over (replicate (8 * length kinds) 0) work₁
     → scratch ≡ over (replicate (length kinds) (ofBits binary64 0)) scratch₁
-    → memory work scratch ≡ cleared (length kinds) (memory work₀ scratch₀)
+    → ofLists work scratch ≡ cleared (length kinds) (ofLists work₀ scratch₀)
 unfolding cleared
 cleared-is {kinds = kinds} {work₀ = work₀} {work₁} {scratch₀ = scratch₀} scratch₁ room noted past z f =
     let n : ℕ = length kinds in
     let zeros = z ∙ over-agree (replicate (8 * n) 0) work₁ work₀ (8 * n) (length-replicate (8 * n) 0) (notes-left (room .tables) noted .past) in
     let floats = f ∙ over-agree (replicate n (ofBits binary64 0)) scratch₁ scratch₀ n (length-replicate n (ofBits binary64 0)) past in
-    λ t. memory (zeros t) (floats t)
+    λ t. ofLists (zeros t) (floats t)

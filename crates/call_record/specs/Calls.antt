@@ -6,6 +6,7 @@ use mathlib.Core.List.{List, []}
 use lib.Dec.{ltb}
 use lib.ListN.{length, replicate}
 use lib.Ieee.{Float, binary64, ofBits}
+use denote.Ref.{now}
 use Rattle.numeric.specs.Constants.{one64, thousand64}
 use Rattle.numeric.specs.Range.{within}
 use Rattle.lent.specs.Over.{over}
@@ -13,7 +14,7 @@ use Rattle.grouping_chart.specs.Chart.{Chart, size}
 use Rattle.grouping_chart.specs.Refusal.{verdict, refused}
 use Rattle.grouping_chart.specs.Room.{beside}
 use Rattle.grouping_chart.specs.Outcome.{Outcome, outcome, answered}
-use Rattle.lent.specs.Slice.{Slice, lent, left}
+use Rattle.lent.specs.Slice.{Held, Slice, lent, left}
 use Rattle.grouping_chart.specs.Settings.{Settings}
 use Rattle.grouping_chart.specs.declared.chart.Verdict.{Verdict}
 use Rattle.grouping_chart.specs.declared.chart.Verdict.the-variants.{Accepted, Refused}
@@ -28,19 +29,36 @@ pub record Memory : Type 0 where
   pub work : List ℕ
   pub scratch : List Float
 
-abbrev pub memory : List ℕ → List Float → Memory
-memory work scratch = record { work = work; scratch = scratch }
+-- the memory that is made of the two slices, in the order in which they are lent, by how one of them is read
+abbrev pub Lending : (Type 0 → Type 0) → Type 0
+Lending S = S ℕ → S Float → Memory
 
--- as lent, and as left
-abbrev pub before : Slice ℕ → Slice Float → Memory
-before work scratch = memory (lent work) (lent scratch)
+abbrev pub memory : {S : Type 0 → Type 0} → ((A : Type 0) → S A → List A) → Lending S
+memory read work scratch = record { work = read ℕ work; scratch = read Float scratch }
 
-abbrev pub after : Slice ℕ → Slice Float → Memory
-after work scratch = memory (left work) (left scratch)
+-- as lent, as left, and where a pass begins
+abbrev pub before : Lending Slice
+before = memory (λ A. lent)
 
--- the verdict on the chart; there are no answer slices
+abbrev pub after : Lending Slice
+after = memory (λ A. left)
+
+abbrev pub held : Lending Held
+held = memory (λ A. now)
+
+-- there are no answer slices
+abbrev pub places : Memory → List ℕ
+places m = []
+
 abbrev pub judged : Chart → Memory → Verdict
-judged c m = verdict c (beside (size c) [] (length (m .work)) (length (m .scratch)))
+judged c m = verdict c (beside (size c) (places m) (length (m .work)) (length (m .scratch)))
+
+-- the memory after an accepted call
+unfoldable pub cleared : ℕ → Memory → Memory
+cleared n m = record {
+  work = over (replicate (8 * n) 0) (m .work);
+  scratch = over (replicate n (ofBits binary64 0)) (m .scratch);
+}
 
 -- from 1.0 to 1,000.0: a NaN is not
 unfoldable pub windowGood : Float → Bool
@@ -51,13 +69,6 @@ unfoldable pub recordVerdict : Verdict → Float → ℕ → ℕ → Verdict
 recordVerdict Accepted window g groups =
     cond (windowGood window) (cond (ltb g groups) Accepted (refused 9)) (refused 8)
 recordVerdict (Refused number place) window g groups = Refused number place
-
--- the memory after an accepted call
-unfoldable pub cleared : ℕ → Memory → Memory
-cleared n m = record {
-  work = over (replicate (8 * n) 0) (m .work);
-  scratch = over (replicate n (ofBits binary64 0)) (m .scratch);
-}
 
 -- how many groups a chart has
 abbrev pub groupsOf : Settings → Chart → ℕ

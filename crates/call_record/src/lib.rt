@@ -11,7 +11,7 @@ ghost use Rattle.call_record.specs.passes.Found.{GroupRoom};
 use evaluator_rhythm::repeated_interval_penalty;
 use grouping_chart::chart::Verdict;
 use grouping_chart::object::ObjectIndex;
-use grouping_chart::room::short_refusal;
+use grouping_chart::room::judge;
 use grouping_chart::settings;
 use grouping_chart::settings::Settings;
 use grouping_same_rhythm::own::Own;
@@ -97,8 +97,7 @@ pub fn record(
     ensures { λ r. ⌜ outcome r (after work scratch)
         ≡ recordOutcome baseSettings (chart kind start delta ratio) g window (before work scratch) ⌝ }
 {
-    let refusal = short_refusal(false, kind.len(), work.len(), scratch.len());
-    match grouping_chart::chart::check(kind, start, delta, ratio, refusal) {
+    match judge(kind, start, delta, ratio, false, work.len(), scratch.len()) {
         Verdict::Refused(number, place) => Recording::Refused(number, place),
         Verdict::Accepted => {
             if !window_good(window) {

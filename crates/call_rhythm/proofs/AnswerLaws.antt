@@ -2,14 +2,14 @@
 -- patterns.
 use mathlib.Core.Path.{_≡_, sym, ap, _∙_}
 use mathlib.Core.List.{List}
-use Prim.Native.Nat.{ℕ, _+_, _-_, _*_, _≤_, _<_}
+use Prim.Native.Nat.{ℕ, _+_, _-_, _*_, _≤_}
 use native.Mathlib.Omega.{arith}
-use lib.ListN.{length, take, drop, getD, replicate, length-replicate}
+use lib.ListN.{length, take, drop, replicate, length-replicate}
 use lib.Ieee.{Float, binary64, ofBits}
 use Rattle.lent.specs.Over.{over, put, part, written}
 use Rattle.lent.specs.Scan.{gathered}
 use Rattle.grouping_marks.specs.Marks.{groupCount, groupNumbers}
-use Rattle.lent.proofs.OverLaws.{length-part, length-put, drop-put, part-put-same, lent-part, over-agree}
+use Rattle.lent.proofs.OverLaws.{length-part, drop-put, part-put-same, lent-part, over-agree}
 use Rattle.lent.proofs.FillLaws.{length-gathered, getD-gathered}
 use Rattle.grouping_marks.proofs.MarksLaws.{length-numbers, numbers-below}
 use Rattle.grouping_chart.specs.Object.{notes}
@@ -53,6 +53,9 @@ module _ {kinds : List ℕ} {k : GroupCounts} {work group₀ pattern₀ : List �
       ∙ part-put-same (2 * length kinds) (k .notes) (notePatterns kinds k work) work l (omega (arith, notes-most, r .regions))
 
 -- ---- the answers are the definition's
+
+abbrev pub ofLists : List ℕ → List ℕ → List ℕ → List Float → Memory
+ofLists = memory (λ A (xs : List A). xs)
 
 module _ (s : Settings) {kinds : List ℕ} {starts deltas : List Float} {m : Memory} {k : GroupCounts} {work₁ : List ℕ} {scratch₁ : List Float}
     (r : GroupsRoom kinds starts deltas m) (counts : k ≡ countsOf (s .margin) kinds starts deltas)
@@ -99,7 +102,7 @@ module _ (s : Settings) {kinds : List ℕ} {starts deltas : List Float} {m : Mem
   pub filled-is : {work₂ work group pattern : List ℕ} {scratch : List Float} → group ≡ over (byObject (noteGroups kinds k work₁) kinds) (m .group)
       → pattern ≡ over (byObject (notePatterns kinds k work₁) kinds) (m .pattern) → work₂ ≡ put (2 * length kinds) (notePatterns kinds k work₁) work₁
       → work ≡ over (replicate (8 * length kinds) 0) work₂ → scratch ≡ over (replicate (length kinds) (ofBits binary64 0)) scratch₁
-      → memory group pattern work scratch ≡ filled s kinds starts deltas m
+      → ofLists group pattern work scratch ≡ filled s kinds starts deltas m
   unfolding filled groupOf noteGroup
   filled-is {work₂} g p x z q =
       let there = tables-there in
@@ -112,4 +115,4 @@ module _ (s : Settings) {kinds : List ℕ} {starts deltas : List Float} {m : Mem
       let patterns = p ∙ ap (λ (xs : List ℕ). over xs (m .pattern)) by-objects in
       let zeros = z ∙ over-agree (replicate (8 * n) 0) work₂ (m .work) (8 * n) (length-replicate (8 * n) 0) past in
       let floats = q ∙ over-agree (replicate n (ofBits binary64 0)) scratch₁ (m .scratch) n (length-replicate n (ofBits binary64 0)) (left .past-floats) in
-      λ t. memory (groups t) (patterns t) (zeros t) (floats t)
+      λ t. ofLists (groups t) (patterns t) (zeros t) (floats t)

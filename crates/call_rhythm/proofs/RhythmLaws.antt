@@ -5,7 +5,6 @@ use mathlib.Core.List.{List}
 use Prim.Native.Nat.{ℕ, _<_}
 use native.Mathlib.Omega.{arith}
 use lib.ListN.{getD}
-use lib.Ieee.{Float}
 use Rattle.grouping_marks.specs.Marks.{groupNumbers}
 use Rattle.lent.proofs.PieceLaws.{getD-over}
 use Rattle.grouping_chart.specs.Object.{isNote, noteIdx}
@@ -14,28 +13,29 @@ use Rattle.grouping_chart.specs.Chart.{Chart, size}
 use Rattle.grouping_chart.specs.Outcome.{Outcome, outcome}
 use Rattle.grouping_chart.specs.Settings.{Settings}
 use Rattle.grouping_chart.specs.declared.chart.Verdict.the-variants.{Accepted}
-use Rattle.grouping_chart.proofs.CallLaws.{call-room}
-use Rattle.grouping_chart.proofs.OutcomeLaws.{answered-done}
+use Rattle.grouping_chart.proofs.OutcomeLaws.{accommodated, answered-done}
 use Rattle.grouping_interval.specs.IntervalGrouping.{intervalMarks}
 use Rattle.grouping_same_rhythm.proofs.MadeLaws.{rhythmMarks-made}
 use Rattle.call_rhythm.specs.declared.Grouping.the-variants as answer
 use Rattle.call_rhythm.specs.declared.tables.GroupCounts.{GroupCounts}
-use Rattle.call_rhythm.specs.Rhythm.{Memory, judged, noteGroup, groupOf, countsOf, filled, groupingDone, rhythmOutcome}
+use Rattle.call_rhythm.specs.Rhythm.{Memory, places, judged, noteGroup, groupOf, countsOf, filled, groupingDone, rhythmOutcome}
 use Rattle.call_rhythm.specs.passes.Tables.{GroupsRoom}
 use Rattle.call_rhythm.proofs.PerNoteLaws.{length-per-note, per-note-at}
 
--- ---- each case leaves its outcome
-module _ (s : Settings) (c : Chart) (m : Memory) where
-  pub rhythm-room : judged c m ≡ Accepted → GroupsRoom (c .kinds) (c .starts) (c .deltas) m
-  rhythm-room h =
-      let r = call-room c _ _ _ h in
-      let g = r .good in
-      record {
-        tables = record { few = g .few; started = g .lengths .start; whole = g .lengths .delta; regions = r .regions; floats = r .floats };
-        group-room = r .answered .0;
-        pattern-room = r .answered .1 .0;
-      }
+-- an accepted call has room
+pub rhythm-room : (c : Chart) (m : Memory) → judged c m ≡ Accepted → GroupsRoom (c .kinds) (c .starts) (c .deltas) m
+rhythm-room c m h =
+    let r = accommodated c (places m) _ _ h in
+    let good = r .chart in
+    record {
+      tables = record { few = good .few; started = good .lengths .start; whole = good .lengths .delta; regions = r .regions; floats = r .floats };
+      group-room = r .long .0;
+      pattern-room = r .long .1 .0;
+    }
 
+-- ---- each case leaves its outcome
+
+module _ (s : Settings) (c : Chart) (m : Memory) where
   -- the counts and the memory that the passes leave are the definition's
   pub rhythm-done : (k : GroupCounts) (new : Memory) → judged c m ≡ Accepted → k ≡ countsOf (s .margin) (c .kinds) (c .starts) (c .deltas)
       → new ≡ filled s (c .kinds) (c .starts) (c .deltas) m → outcome (groupingDone k) new ≡ rhythmOutcome s c m

@@ -5,6 +5,7 @@ use mathlib.Core.Bool.{cond}
 use mathlib.Core.List.{List, [], _∷_}
 use lib.ListN.{length, getD, replicate}
 use lib.Ieee.{Float, binary64, ofBits}
+use denote.Ref.{now}
 use Rattle.lent.specs.Over.{over}
 use Rattle.lent.specs.Scan.{tabulate}
 use Rattle.grouping_marks.specs.Marks.{groupCount, groupNumbers}
@@ -13,7 +14,7 @@ use Rattle.grouping_chart.specs.Chart.{Chart, size}
 use Rattle.grouping_chart.specs.Refusal.{verdict}
 use Rattle.grouping_chart.specs.Room.{beside}
 use Rattle.grouping_chart.specs.Outcome.{Outcome, outcome, answered}
-use Rattle.lent.specs.Slice.{Slice, lent, left}
+use Rattle.lent.specs.Slice.{Held, Slice, lent, left}
 use Rattle.grouping_chart.specs.Settings.{Settings}
 use Rattle.grouping_chart.specs.declared.chart.Verdict.{Verdict}
 use Rattle.grouping_interval.specs.IntervalGrouping.{intervalMarks}
@@ -23,28 +24,6 @@ use Rattle.call_rhythm.specs.declared.tables.GroupCounts.{GroupCounts}
 use Rattle.call_rhythm.specs.declared.Grouping.{Grouping}
 use Rattle.call_rhythm.specs.declared.Grouping.the-variants.{Done}
 use Rattle.call_rhythm.specs.declared.Grouping.the-variants as answer
-
--- the slices that are lent to be written: two answers and two work slices
-pub record Memory : Type 0 where
-  pub group : List ℕ
-  pub pattern : List ℕ
-  pub work : List ℕ
-  pub scratch : List Float
-
-abbrev pub memory : List ℕ → List ℕ → List ℕ → List Float → Memory
-memory group pattern work scratch = record { group = group; pattern = pattern; work = work; scratch = scratch }
-
--- as lent, and as left
-abbrev pub before : Slice ℕ → Slice ℕ → Slice ℕ → Slice Float → Memory
-before group pattern work scratch = memory (lent group) (lent pattern) (lent work) (lent scratch)
-
-abbrev pub after : Slice ℕ → Slice ℕ → Slice ℕ → Slice Float → Memory
-after group pattern work scratch = memory (left group) (left pattern) (left work) (left scratch)
-
--- the verdict on the chart
-abbrev pub judged : Chart → Memory → Verdict
-judged c m =
-    verdict c (beside (size c) (length (m .group) ∷ length (m .pattern) ∷ []) (length (m .work)) (length (m .scratch)))
 
 -- what is said of each note, object by object, and 65535 for a NonHit
 unfoldable pub perNote : (ℕ → ℕ) → List ℕ → List ℕ
@@ -81,6 +60,42 @@ countsOf margin kinds starts deltas = record {
   groups = groupsIn margin kinds deltas;
   patterns = patternGroupsIn margin kinds starts deltas;
 }
+
+-- the slices that are lent to be written: two answers and two work slices
+pub record Memory : Type 0 where
+  pub group : List ℕ
+  pub pattern : List ℕ
+  pub work : List ℕ
+  pub scratch : List Float
+
+-- the memory that is made of the four slices, in the order in which they are lent, by how one of them is read
+abbrev pub Lending : (Type 0 → Type 0) → Type 0
+Lending S = S ℕ → S ℕ → S ℕ → S Float → Memory
+
+abbrev pub memory : {S : Type 0 → Type 0} → ((A : Type 0) → S A → List A) → Lending S
+memory read group pattern work scratch = record {
+  group = read ℕ group;
+  pattern = read ℕ pattern;
+  work = read ℕ work;
+  scratch = read Float scratch;
+}
+
+-- as lent, as left, and where a pass begins
+abbrev pub before : Lending Slice
+before = memory (λ A. lent)
+
+abbrev pub after : Lending Slice
+after = memory (λ A. left)
+
+abbrev pub held : Lending Held
+held = memory (λ A. now)
+
+-- how many places the answer slices have
+abbrev pub places : Memory → List ℕ
+places m = length (m .group) ∷ length (m .pattern) ∷ []
+
+abbrev pub judged : Chart → Memory → Verdict
+judged c m = verdict c (beside (size c) (places m) (length (m .work)) (length (m .scratch)))
 
 -- the memory after an accepted call, by the chart's kinds, starts and deltas
 unfoldable pub filled : Settings → List ℕ → List Float → List Float → Memory → Memory

@@ -1,18 +1,15 @@
 // The call rhythm: per object the number of its rhythm group and of its pattern group.
 ghost use mathlib.Core.Path.{_≡_};
-ghost use mathlib.Core.List.{[], _∷_};
-ghost use lib.ListN.{length};
-ghost use Rattle.grouping_chart.specs.Room.{anyShort};
 ghost use Rattle.grouping_chart.specs.Settings.{baseSettings};
 ghost use Rattle.grouping_chart.specs.Outcome.{outcome};
 ghost use Rattle.grouping_chart.specs.Chart.{chart};
 ghost use Rattle.lent.specs.Slice.{lent};
-ghost use Rattle.call_rhythm.specs.Rhythm.{memory, before, after, countsOf, filled, rhythmOutcome};
+ghost use Rattle.call_rhythm.specs.Rhythm.{before, after, held, countsOf, filled, rhythmOutcome};
 ghost use Rattle.call_rhythm.specs.passes.Tables.{GroupsRoom};
 use crate::tables::GroupCounts;
 use grouping_chart::chart::Verdict;
 use grouping_chart::object::ObjectIndex;
-use grouping_chart::room::short_refusal;
+use grouping_chart::room::judge;
 use grouping_chart::settings;
 use grouping_chart::settings::Settings;
 use lent::fill;
@@ -26,16 +23,6 @@ pub enum Grouping {
     Refused(u8, ObjectIndex),
 }
 
-// Whether an answer slice has too few places for n objects.
-fn too_short(n: usize, group: &[u16], pattern: &[u16]) -> bool
-    ensures { λ r. ⌜ r ≡ anyShort n (length (lent group) ∷ length (lent pattern) ∷ []) ⌝ }
-{
-    if group.len() < n {
-        return true;
-    }
-    pattern.len() < n
-}
-
 // What the call does with an accepted chart: group, fill the answers, and clear the work slices.
 fn fill_groups(
     kind: &[u8],
@@ -47,8 +34,7 @@ fn fill_groups(
     work: &mut [u16],
     scratch: &mut [f64],
 ) -> GroupCounts
-    requires { ⌜ GroupsRoom (now kind) (now start) (now delta)
-        (memory (now group) (now pattern) (now work) (now scratch)) ⌝ }
+    requires { ⌜ GroupsRoom (now kind) (now start) (now delta) (held group pattern work scratch) ⌝ }
     ensures { λ r. ⌜ r ≡ countsOf (s .margin) (lent kind) (lent start) (lent delta) ⌝ }
     ensures { λ r. ⌜ after group pattern work scratch
         ≡ filled s (lent kind) (lent start) (lent delta) (before group pattern work scratch) ⌝ }
@@ -75,9 +61,8 @@ pub fn rhythm(
         ≡ rhythmOutcome baseSettings (chart kind start delta ratio) (before group pattern work scratch) ⌝ }
 {
     let n = kind.len();
-    let short = too_short(n, group, pattern);
-    let refusal = short_refusal(short, n, work.len(), scratch.len());
-    match grouping_chart::chart::check(kind, start, delta, ratio, refusal) {
+    let short = (group.len() < n) | (pattern.len() < n);
+    match judge(kind, start, delta, ratio, short, work.len(), scratch.len()) {
         Verdict::Refused(number, place) => Grouping::Refused(number, place),
         Verdict::Accepted => {
             let s = settings::base();

@@ -12,7 +12,9 @@ use Rattle.grouping_chart.proofs.ObjectLaws.{notes-append}
 -- the notes before object i, and those from it on
 pub notes-split : (kinds : List ℕ) (i : ℕ) → length (notes kinds) ≡ length (notes (take i kinds)) + length (notes (drop i kinds))
 notes-split kinds i =
-    ap (λ (ks : List ℕ). length (notes ks)) (sym (take-append-drop i kinds)) ∙ ap length (notes-append (take i kinds) (drop i kinds)) ∙ length-append (notes (take i kinds)) (notes (drop i kinds))
+    ap (λ (ks : List ℕ). length (notes ks)) (sym (take-append-drop i kinds))
+    ∙ ap length (notes-append (take i kinds) (drop i kinds))
+    ∙ length-append (notes (take i kinds)) (notes (drop i kinds))
 
 pub note-number : (kinds : List ℕ) (i : ℕ) → isNote (getD kinds i 0) ≡ true → noteIdx kinds i ≡ length (notes (take i kinds))
 unfolding noteIdx

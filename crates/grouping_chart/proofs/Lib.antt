@@ -1,14 +1,13 @@
 -- The laws of this crate. Those that are public are for the crates above, or are results of their own; the others serve the proofs of this crate alone.
-pub mod RefusalLaws
 pub mod AcceptedLaws
 pub mod RoomLaws
 pub mod OutcomeLaws
-pub mod CallLaws
 pub mod ObjectLaws
 pub mod NotesLaws
 pub mod SeenLaws
 pub mod RangeLaws
 pub mod BaseLaws
 pub mod CutLaws
+mod RefusalLaws
 mod AllLaws
 mod Examples

@@ -10,19 +10,13 @@ use Rattle.grouping_chart.specs.Outcome.{Outcome, outcome, answered}
 use Rattle.grouping_chart.specs.declared.object.ObjectIndex.{ObjectIndex}
 use Rattle.grouping_chart.specs.declared.chart.Verdict.{Verdict}
 use Rattle.grouping_chart.specs.declared.chart.Verdict.the-variants.{Accepted, Refused}
-use Rattle.grouping_chart.proofs.RefusalLaws.{verdict-is}
 use Rattle.grouping_chart.proofs.AcceptedLaws.{GoodChart, accepted-good}
 use Rattle.grouping_chart.proofs.RoomLaws.{AllLong, roomy, all-long}
-
--- from whether an answer slice is short, and what `short_refusal` and `check` answered
-pub judged-is : (c : Chart) (answers : List ℕ) (work scratch : ℕ) {short : Bool} {b : ℕ} {v u : Verdict} → short ≡ anyShort (size c) answers
-    → b ≡ shortRefusal short (size c) work scratch → v ≡ verdict c b → v ≡ u → verdict c (beside (size c) answers work scratch) ≡ u
-judged-is c answers work scratch e f g h = verdict-is c (f ∙ ap (λ (x : Bool). shortRefusal x (size c) work scratch) e) g h
 
 -- from whether an answer slice is short, and what `judge` answered
 pub verdict-judged : (c : Chart) (answers : List ℕ) (work scratch : ℕ) {short : Bool} {v u : Verdict} → short ≡ anyShort (size c) answers
     → v ≡ verdict c (shortRefusal short (size c) work scratch) → v ≡ u → verdict c (beside (size c) answers work scratch) ≡ u
-verdict-judged c answers work scratch e f g = verdict-is c (ap (λ (x : Bool). shortRefusal x (size c) work scratch) e) f g
+verdict-judged c answers work scratch e f g = sym (ap (λ (short : Bool). verdict c (shortRefusal short (size c) work scratch)) e) ∙ sym f ∙ g
 
 -- an accepted call: its chart is good, and every slice has room for its objects
 pub record Accommodated (c : Chart) (answers : List ℕ) (work scratch : ℕ) : Type 0 where

@@ -1,5 +1,5 @@
--- The cases of the definitions of refusals 1 to 7, one law a case: the proofs of this crate's functions and of calls on a chart cite these.
-use mathlib.Core.Path.{_≡_, sym, ap, _∙_}
+-- The cases of the definitions of refusals 1 to 7, one law a case: the proofs of this crate's functions cite these.
+use mathlib.Core.Path.{_≡_}
 use mathlib.Core.List.{List}
 use mathlib.Core.Bool.{true, false}
 use Prim.Native.Nat.{ℕ, _+_, _≤_, _<_}
@@ -9,7 +9,6 @@ use borrow.Author.Tests.{lt-ltb, le-ltb, le-leb, lt-leb, eq-eqb, ne-eqb}
 use lib.ListN.{length, drop, getD, drop-of-length-le}
 use lib.Seq.{drop-cons}
 use lib.Ieee.{Float}
-use Rattle.grouping_chart.specs.declared.chart.Verdict.{Verdict}
 use Rattle.grouping_chart.specs.declared.chart.Verdict.the-variants.{Accepted, Refused}
 use Rattle.grouping_chart.specs.Chart.{Chart, SameLengths, equallyLong}
 use Rattle.grouping_chart.specs.Refusal.{timeGood, ratioGood, objectRefusal, firstRefused, refused, verdict}
@@ -107,7 +106,3 @@ module _ (c : Chart) (beside : ℕ) where
       → verdict c beside ≡ firstRefused 0 (c .kinds) (c .starts) (c .deltas) (c .ratios)
   unfolding verdict
   verdict-objects h e n = rw (le-ltb _ _ h, e, eq-eqb _ _ n)
-
--- the verdict on a call, from what its tests answered
-pub verdict-is : (c : Chart) {beside b : ℕ} {v u : Verdict} → b ≡ beside → v ≡ verdict c b → v ≡ u → verdict c beside ≡ u
-verdict-is c e f g = sym (ap (verdict c) e) ∙ sym f ∙ g

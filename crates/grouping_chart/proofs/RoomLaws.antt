@@ -35,22 +35,9 @@ roomy answers n work scratch e =
 
 -- ---- the answer slices, one after another
 
-module _ (n l : ℕ) (ls : List ℕ) where
-  pub short-here : l < n → true ≡ anyShort n (l ∷ ls)
-  unfolding anyShort
-  short-here h = rw (lt-ltb l n h)
-
-  pub short-later : n ≤ l → anyShort n ls ≡ anyShort n (l ∷ ls)
-  unfolding anyShort
-  short-later h = rw (le-ltb l n h)
-
-  pub long-enough : anyShort n (l ∷ ls) ≡ false → (n ≤ l) × (anyShort n ls ≡ false)
-  unfolding anyShort
-  long-enough e = let t = either-false _ _ e in (ltb-false l n (t .0), t .1)
-
-pub short-last : (n l : ℕ) → ltb l n ≡ anyShort n (l ∷ [])
+pub long-enough : (n l : ℕ) (ls : List ℕ) → anyShort n (l ∷ ls) ≡ false → (n ≤ l) × (anyShort n ls ≡ false)
 unfolding anyShort
-short-last n l = or-false (ltb l n)
+long-enough n l ls e = let t = either-false _ _ e in (ltb-false l n (t .0), t .1)
 
 -- each of some slices has a place for each of n objects
 abbrev pub AllLong : ℕ → List ℕ → Type 0

@@ -1,4 +1,5 @@
--- What a call on a chart comes to: its answer, and the lent memory afterwards. A refusal leaves all memory as it was lent.
+-- What a call on a chart comes to: its answer, and the lent memory afterwards. A refusal leaves all memory as it was
+-- lent.
 use Prim.Native.Nat.{ℕ}
 use Rattle.grouping_chart.specs.declared.object.ObjectIndex.{ObjectIndex}
 use Rattle.grouping_chart.specs.declared.chart.Verdict.{Verdict}

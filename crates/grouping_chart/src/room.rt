@@ -1,4 +1,4 @@
-// What is refused beside a chart, and so the verdict on every call. Refusal 3: the places that a call needs.
+// The verdict on every call: refusals 1 to 7, of which 3, a slice that is too short, is beside the chart.
 ghost use mathlib.Core.Path.{_≡_};
 ghost use lib.ListN.{length};
 ghost use Rattle.lent.specs.Slice.{lent};
@@ -9,7 +9,7 @@ use crate::chart;
 use crate::chart::Verdict;
 
 // 3, or 0 where no slice is too short for n objects; `answers` says that an answer slice is.
-pub fn short_refusal(answers: bool, n: usize, work: usize, scratch: usize) -> u8
+fn short_refusal(answers: bool, n: usize, work: usize, scratch: usize) -> u8
     ensures { λ r. ⌜ r ≡ shortRefusal answers n work scratch ⌝ }
 {
     if answers {

@@ -1,14 +1,15 @@
 -- `colour` meets its contract: the verdict of the definition is the one that the tests gave, and each case leaves its outcome.
 use mathlib.Core.Path.{_≡_, ap, _∙_}
-use Rattle.grouping_chart.specs.Chart.{Chart}
-use Rattle.grouping_chart.specs.Settings.{Settings, baseSettings}
+use Rattle.grouping_chart.specs.Chart.{Chart, size}
+use Rattle.grouping_chart.specs.Settings.{Settings}
 use Rattle.grouping_chart.specs.declared.chart.Verdict.{Verdict}
 use Rattle.grouping_chart.specs.declared.chart.Verdict.the-variants.{Accepted}
 use Rattle.grouping_chart.proofs.BaseLaws.{is-permitted}
-use Rattle.grouping_chart.proofs.OutcomeLaws.{answered-refused}
+use Rattle.grouping_chart.proofs.OutcomeLaws.{verdict-judged, answered-refused}
+use Rattle.grouping_chart.proofs.RoomLaws.{short-joined}
 use Rattle.call_colour.specs.declared.Colouring.the-variants as answer
-use Rattle.call_colour.specs.Calls.{Memory, memory, judged, colourOutcome}
-use Rattle.call_colour.proofs.CallsLaws.{chart-judged, chart-room, colour-done}
+use Rattle.call_colour.specs.Calls.{Memory, held, places, judged, colourOutcome}
+use Rattle.call_colour.proofs.CallsLaws.{chart-room, colour-done}
 use borrow.Author.Needs.{needs}
 use Rattle.call_colour.proofs.colour.Statement.{statement}
 use Rattle.call_colour.proofs.colour.Tie as tie
@@ -18,18 +19,20 @@ abbrev chartOf : tie.Start → Chart
 chartOf c = record { kinds = c .args .kind .now; starts = c .args .start .now; deltas = c .args .delta .now; ratios = c .args .ratio .now }
 
 abbrev memoryOf : tie.Start → Memory
-memoryOf c = memory (c .args .value .now) (c .args .work .now) (c .args .scratch .now)
+memoryOf c = held (c .args .value) (c .args .work) (c .args .scratch)
 
--- ---- once the chart is tested
-abbrev start : tie.After-check → tie.Start
-start c = c .before .before .before .before .before .before .before .before .before
+-- ---- once the call is judged
+abbrev start : tie.After-judge → tie.Start
+start c = c .before .before .before .before .before .before .before .before
 
-verdict-is : (c : tie.After-check) {v : Verdict} → c .check .result ≡ v → judged (chartOf (start c)) (memoryOf (start c)) ≡ v
-verdict-is c e = chart-judged baseSettings (chartOf (start c)) (memoryOf (start c)) (c .before .short-refusal .ensures) (c .check .ensures) e
+verdict-told : (c : tie.After-judge) {v : Verdict} → c .judge .result ≡ v → judged (chartOf (start c)) (memoryOf (start c)) ≡ v
+verdict-told c =
+    let s = start c in
+    verdict-judged (chartOf s) (places (memoryOf s)) _ _ (short-joined (size (chartOf s)) _ _) (c .judge .ensures)
 
 -- ---- once it is accepted
 accepted : (c : tie.After-enum-told) → judged (chartOf (start (c .before .before))) (memoryOf (start (c .before .before))) ≡ Accepted
-accepted c = verdict-is (c .before .before) (c .enum-told .given .1)
+accepted c = verdict-told (c .before .before) (c .enum-told .given .1)
 
 fill-chart-requires : tie.Need-fill-chart-requires
 fill-chart-requires c κs =
@@ -41,7 +44,7 @@ returns : tie.Need-returns
 unfolding colourOutcome
 returns c =
     let k = c .before .before .before in
-    answered-refused _ answer.Refused (memoryOf (start k)) (verdict-is k (c .before .number .given .1))
+    answered-refused _ answer.Refused (memoryOf (start k)) (verdict-told k (c .before .number .given .1))
 
 returns-2 : tie.Need-returns-2
 returns-2 c =
@@ -55,7 +58,6 @@ pub colour-spec : {M : Type 1} → statement M
 colour-spec =
     tie.close
     (tie.spec
-    (λ c κs. search needs)
     (λ c κs. search needs)
     (λ c. search needs)
     (λ c. search needs)

@@ -2,7 +2,7 @@
 use borrow.Author.Needs.{needs}
 use native.Mathlib.Omega.{arith}
 use Rattle.evaluator_values.proofs.TablesLaws.{tabled}
-use Rattle.call_colour.specs.Calls.{memory}
+use Rattle.call_colour.specs.Calls.{held}
 use Rattle.call_colour.proofs.FilledLaws.{filled-is}
 use Rattle.call_colour.proofs.fill_chart.Statement.{statement}
 use Rattle.call_colour.proofs.fill_chart.Tie as tie
@@ -23,7 +23,7 @@ returns c =
     let f = c .before .before .before .before .before .before .before .before .before .before in
     let e = f .before .before .before .before .before .before .before in
     let a = start e .args in
-    filled-is (a .s) _ (memory (a .value .now) (a .work .now) (a .scratch .now)) (e .encode-colors .ensures .tables) (f .fill-values .ensures)
+    filled-is (a .s) _ (held (a .value) (a .work) (a .scratch)) (e .encode-colors .ensures .tables) (f .fill-values .ensures)
     (c .before .before .before .before .before .before .clear .ensures) (c .before .before .clear-floats .ensures)
 
 pub fill-chart-spec : {M : Type 1} → statement M

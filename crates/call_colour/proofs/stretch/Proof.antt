@@ -1,18 +1,19 @@
 -- `stretch` meets its contract: the verdict of the definition is the one that the tests gave, each case leaves its outcome, and the mean of an accepted
 -- stretch is small enough for its tenths.
-use mathlib.Core.Path.{_≡_, ap, _∙_}
+use mathlib.Core.Path.{_≡_, refl, sym, ap, _∙_}
 use mir.Facts.{toZ-ofZ}
 use Rattle.numeric.specs.Tenths.{tenthsOf}
-use Rattle.grouping_chart.specs.Chart.{Chart}
-use Rattle.grouping_chart.specs.Settings.{Settings, baseSettings}
+use Rattle.grouping_chart.specs.Chart.{Chart, size}
+use Rattle.grouping_chart.specs.Settings.{Settings}
 use Rattle.grouping_chart.specs.declared.chart.Verdict.{Verdict}
 use Rattle.grouping_chart.specs.declared.chart.Verdict.the-variants.{Accepted}
 use Rattle.grouping_chart.proofs.BaseLaws.{is-permitted}
-use Rattle.grouping_chart.proofs.OutcomeLaws.{answered-refused}
+use Rattle.grouping_chart.proofs.OutcomeLaws.{verdict-judged, answered-refused}
+use Rattle.grouping_chart.proofs.RoomLaws.{short-joined}
 use Rattle.call_colour.specs.declared.Stretching.the-variants as answer
 use Rattle.call_colour.specs.Stretch.{meanTenths}
-use Rattle.call_colour.specs.Calls.{Memory, memory, judged, stretchVerdict, stretchOutcome}
-use Rattle.call_colour.proofs.CallsLaws.{within-bounds, chart-room, stretch-is, stretch-done}
+use Rattle.call_colour.specs.Calls.{Memory, held, places, judged, stretchVerdict, stretchOutcome}
+use Rattle.call_colour.proofs.CallsLaws.{within-bounds, chart-room, stretch-done}
 use Rattle.call_colour.proofs.StretchLaws.{stretch-room, mean-is, mean-in-range}
 use borrow.Author.Needs.{needs}
 use Rattle.call_colour.proofs.stretch.Statement.{statement}
@@ -23,24 +24,25 @@ abbrev chartOf : tie.Start → Chart
 chartOf c = record { kinds = c .args .kind .now; starts = c .args .start .now; deltas = c .args .delta .now; ratios = c .args .ratio .now }
 
 abbrev memoryOf : tie.Start → Memory
-memoryOf c = memory (c .args .value .now) (c .args .work .now) (c .args .scratch .now)
+memoryOf c = held (c .args .value) (c .args .work) (c .args .scratch)
 
 -- the definition's verdict
 abbrev verdictOf : tie.Start → Verdict
 verdictOf c = stretchVerdict (judged (chartOf c) (memoryOf c)) (c .args .kind .now) (c .args .a) (c .args .b)
 
--- ---- once the chart and the stretch are tested
+-- ---- once the call and the stretch are judged
 abbrev start : tie.After-stretch-verdict → tie.Start
-start c = c .before .before .before .before .before .before .before .before .before .before
+start c = c .before .before .before .before .before .before .before .before .before
 
-verdict-is : (c : tie.After-stretch-verdict) {v : Verdict} → c .stretch-verdict .result ≡ v → verdictOf (start c) ≡ v
-verdict-is c e =
-    stretch-is baseSettings (chartOf (start c)) (memoryOf (start c)) _ _ (c .before .before .short-refusal .ensures) (c .before .check .ensures)
-    (c .stretch-verdict .ensures) e
+verdict-told : (c : tie.After-stretch-verdict) {v : Verdict} → c .stretch-verdict .result ≡ v → verdictOf (start c) ≡ v
+verdict-told c e =
+    let s = start c in
+    let j = verdict-judged (chartOf s) (places (memoryOf s)) _ _ (short-joined (size (chartOf s)) _ _) (c .before .judge .ensures) refl in
+    ap (λ (v : Verdict). stretchVerdict v (s .args .kind .now) (s .args .a) (s .args .b)) j ∙ sym (c .stretch-verdict .ensures) ∙ e
 
 -- ---- once they are accepted
 accepted : (c : tie.After-enum-told) → verdictOf (start (c .before .before)) ≡ Accepted
-accepted c = verdict-is (c .before .before) (c .enum-told .given .1)
+accepted c = verdict-told (c .before .before) (c .enum-told .given .1)
 
 abbrev entered : tie.After-base → tie.Start
 entered c = start (c .before .before .before)
@@ -75,7 +77,7 @@ returns : tie.Need-returns
 unfolding stretchOutcome
 returns c =
     let k = c .before .before .before in
-    answered-refused _ answer.Refused (memoryOf (start k)) (verdict-is k (c .before .number .given .1))
+    answered-refused _ answer.Refused (memoryOf (start k)) (verdict-told k (c .before .number .given .1))
 
 returns-2 : tie.Need-returns-2
 unfolding meanTenths
@@ -94,7 +96,6 @@ pub stretch-spec : {M : Type 1} → statement M
 stretch-spec =
     tie.close
     (tie.spec
-    (λ c κs. search needs)
     (λ c κs. search needs)
     (λ c κs. search needs)
     (λ c. search needs)

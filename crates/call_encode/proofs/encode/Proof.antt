@@ -20,28 +20,28 @@ use Rattle.call_encode.proofs.encode.Tie as tie
 abbrev start : tie.After-judge → tie.Start
 start c = c .before .before .before .before .before .before .before .before .before .before .before .before .before
 
-abbrev set : tie.After-encode-kinds → tie.After-base
-set c = c .before .before .before .before .before .before .before .before .before
+abbrev based : tie.After-encode-kinds → tie.After-base
+based c = c .before .before .before .before .before .before .before .before .before
 
 abbrev given : tie.After-clear-floats-arg → tie.After-encode-kinds
 given c = c .before .before .before .before .before .before .before .before .before .before .before .before .before .before .before
 
 -- ---- the chart and the memory as lent, and the verdict on them
 
-abbrev chartOf : tie.After-judge → Chart
-chartOf c =
-    let a = start c .args in
-    record { kinds = a .kind .now; starts = a .start .now; deltas = a .delta .now; ratios = a .ratio .now }
+abbrev chartOf : tie.Start → Chart
+chartOf c = record { kinds = c .args .kind .now; starts = c .args .start .now; deltas = c .args .delta .now; ratios = c .args .ratio .now }
 
-abbrev memoryOf : tie.After-judge → Memory
+abbrev memoryOf : tie.Start → Memory
 memoryOf c =
-    let a = start c .args in
+    let a = c .args in
     held (a .streak) (a .streak-place) (a .pattern) (a .pattern-place) (a .hit) (a .interval) (a .work) (a .scratch)
 
-verdict-told : (c : tie.After-judge) {v : Verdict} → c .judge .result ≡ v → judged (chartOf c) (memoryOf c) ≡ v
-verdict-told c = verdict-judged (chartOf c) (places (memoryOf c)) _ _ (short-joined (size (chartOf c)) _ _) (c .judge .ensures)
+verdict-told : (c : tie.After-judge) {v : Verdict} → c .judge .result ≡ v → judged (chartOf (start c)) (memoryOf (start c)) ≡ v
+verdict-told c =
+    let s = start c in
+    verdict-judged (chartOf s) (places (memoryOf s)) _ _ (short-joined (size (chartOf s)) _ _) (c .judge .ensures)
 
-accepted : (c : tie.After-enum-told) → judged (chartOf (c .before .before)) (memoryOf (c .before .before)) ≡ Accepted
+accepted : (c : tie.After-enum-told) → judged (chartOf (start (c .before .before))) (memoryOf (start (c .before .before))) ≡ Accepted
 accepted c = verdict-told (c .before .before) (c .enum-told .given .1)
 
 -- ---- the needs
@@ -52,29 +52,30 @@ cast-m c = omega (arith, is-permitted (c .before .base .ensures))
 encode-kinds-requires : tie.Need-encode-kinds-requires
 encode-kinds-requires c κs =
     let b = c .before .before .before .before .before .before .before .before in
-    let j = b .before .before .before in
-    kinds-room (b .base .result) (chartOf j) (memoryOf j) (is-permitted (b .base .ensures)) (accepted (b .before))
+    let s = start (b .before .before .before) in
+    kinds-room (b .base .result) (chartOf s) (memoryOf s) (is-permitted (b .base .ensures)) (accepted (b .before))
 
 clear-floats-requires : tie.Need-clear-floats-requires
 clear-floats-requires c κs =
-    let t = set (given c) .before in
-    scratch-room (chartOf (t .before .before)) (memoryOf (t .before .before)) (accepted t)
+    let t = based (given c) .before in
+    let s = start (t .before .before) in
+    scratch-room (chartOf s) (memoryOf s) (accepted t)
 
 returns : tie.Need-returns
 unfolding encodeOutcome
 returns c =
-    let j = c .before .before .before in
-    answered-refused _ answer.Refused (memoryOf j) (verdict-told j (c .before .number .given .1))
+    let k = c .before .before .before in
+    answered-refused _ answer.Refused (memoryOf (start k)) (verdict-told k (c .before .number .given .1))
 
 returns-2 : tie.Need-returns-2
 returns-2 c =
     let e = given (c .before .before .before) in
-    let b = set e in
-    let s = b .base .result in
-    let j = b .before .before .before in
-    let f = filled-is s (chartOf j) (memoryOf j) (e .encode-kinds .ensures) (c .before .before .clear-floats .ensures) in
-    done-outcome s (chartOf j) (memoryOf j) _ _ (accepted (b .before)) (e .encode-kinds .ensures .counted) f
-    ∙ ap (λ (x : Settings). encodeOutcome x (chartOf j) (memoryOf j)) (b .base .ensures)
+    let b = based e in
+    let set = b .base .result in
+    let s = start (b .before .before .before) in
+    let f = filled-is set (chartOf s) (memoryOf s) (e .encode-kinds .ensures) (c .before .before .clear-floats .ensures) in
+    done-outcome set (chartOf s) (memoryOf s) _ _ (accepted (b .before)) (e .encode-kinds .ensures .counted) f
+    ∙ ap (λ (x : Settings). encodeOutcome x (chartOf s) (memoryOf s)) (b .base .ensures)
 
 pub encode-spec : {M : Type 1} → statement M
 encode-spec =

@@ -6,7 +6,8 @@ use lib.ListN.{length, take, getD, replicate}
 use Rattle.lent.specs.Over.{over, part}
 use Rattle.lent.specs.Scan.{gathered}
 use Rattle.grouping_colour.specs.MonoStreak.{streakOf}
-use Rattle.grouping_preprocessor.specs.Preprocessor.{streakPlaceOf, alternatingOf, patternPlaceOf, hitOf, intervalOf, hitCount}
+use Rattle.grouping_preprocessor.specs.Preprocessor.{streakPlaceOf, alternatingOf, patternPlaceOf}
+use Rattle.grouping_preprocessor.specs.Preprocessor.{hitOf, intervalOf, hitCount}
 use Rattle.grouping_preprocessor.specs.declared.Levels.{Levels}
 use Rattle.call_encode.specs.Encode.{Memory, memory}
 

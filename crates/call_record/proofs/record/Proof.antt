@@ -2,15 +2,17 @@
 use mathlib.Core.Path.{_≡_, refl, sym, ap, _∙_}
 use mathlib.Core.Bool.{Bool, true, false, not}
 use native.Mathlib.Omega.{arith}
-use Rattle.grouping_chart.specs.Chart.{Chart}
+use Rattle.grouping_chart.specs.Chart.{Chart, size}
 use Rattle.grouping_chart.specs.Settings.{Settings, baseSettings}
 use Rattle.grouping_chart.specs.Outcome.{Outcome}
 use Rattle.grouping_chart.specs.declared.chart.Verdict.{Verdict}
 use Rattle.grouping_chart.specs.declared.chart.Verdict.the-variants.{Accepted}
+use Rattle.grouping_chart.proofs.OutcomeLaws.{verdict-judged}
+use Rattle.grouping_chart.proofs.RoomLaws.{none-asked}
 use Rattle.call_rhythm.proofs.TablesLaws.{groups-counted}
 use Rattle.call_record.specs.declared.Recording.{Recording}
-use Rattle.call_record.specs.Calls.{Memory, memory, judged, windowGood, groupsOf, recordOutcome}
-use Rattle.call_record.proofs.CallsLaws.{chart-judged, lengths-same, group-room, chart-refused, window-refused, group-refused, record-done}
+use Rattle.call_record.specs.Calls.{Memory, held, places, judged, windowGood, groupsOf, recordOutcome}
+use Rattle.call_record.proofs.CallsLaws.{lengths-same, group-room, chart-refused, window-refused, group-refused, record-done}
 use borrow.Author.Needs.{needs}
 use Rattle.call_record.proofs.record.Statement.{statement}
 use Rattle.call_record.proofs.record.Tie as tie
@@ -28,21 +30,23 @@ abbrev chartOf : tie.Start → Chart
 chartOf c = record { kinds = c .args .kind .now; starts = c .args .start .now; deltas = c .args .delta .now; ratios = c .args .ratio .now }
 
 abbrev memoryOf : tie.Start → Memory
-memoryOf c = memory (c .args .work .now) (c .args .scratch .now)
+memoryOf c = held (c .args .work) (c .args .scratch)
 
--- ---- once the chart is tested
-abbrev start : tie.After-check → tie.Start
-start c = c .before .before .before .before .before .before .before .before
+-- ---- once the call is judged
+abbrev start : tie.After-judge → tie.Start
+start c = c .before .before .before .before .before .before .before
 
-verdict-is : (c : tie.After-check) {v : Verdict} → c .check .result ≡ v → judged (chartOf (start c)) (memoryOf (start c)) ≡ v
-verdict-is c e = chart-judged baseSettings (chartOf (start c)) (memoryOf (start c)) (c .before .short-refusal .ensures) (c .check .ensures) e
+verdict-told : (c : tie.After-judge) {v : Verdict} → c .judge .result ≡ v → judged (chartOf (start c)) (memoryOf (start c)) ≡ v
+verdict-told c =
+    let s = start c in
+    verdict-judged (chartOf s) (places (memoryOf s)) _ _ (none-asked (size (chartOf s))) (c .judge .ensures)
 
 -- ---- once it is accepted
 abbrev entered : tie.After-enum-told → tie.Start
 entered c = start (c .before .before)
 
 accepted : (c : tie.After-enum-told) → judged (chartOf (entered c)) (memoryOf (entered c)) ≡ Accepted
-accepted c = verdict-is (c .before .before) (c .enum-told .given .1)
+accepted c = verdict-told (c .before .before) (c .enum-told .given .1)
 
 -- ---- once the window is known to be good
 window : (c : tie.Else1) → windowGood (entered (c .before .before) .args .window) ≡ true
@@ -55,7 +59,7 @@ told c = c .before .before .before
 counted : (c : tie.After-count-groups) → c .count-groups .result ≡ groupsOf (c .before .base .result) (chartOf (entered (told (c .before))))
 counted c =
     let t = told (c .before) in
-    c .count-groups .ensures ∙ sym (groups-counted _ _ _ (lengths-same baseSettings (chartOf (entered t)) (memoryOf (entered t)) (accepted t)))
+    c .count-groups .ensures ∙ sym (groups-counted _ _ _ (lengths-same (chartOf (entered t)) (memoryOf (entered t)) (accepted t)))
 
 -- what is said under the settings that were made is said under the base's
 abbrev outcomeOf : tie.Start → Settings → Outcome Recording Memory
@@ -74,7 +78,7 @@ returns c =
 count-groups-requires : tie.Need-count-groups-requires
 count-groups-requires c κs =
     let t = told c in
-    lengths-same baseSettings (chartOf (entered t)) (memoryOf (entered t)) (accepted t)
+    lengths-same (chartOf (entered t)) (memoryOf (entered t)) (accepted t)
 
 returns-2 : tie.Need-returns-2
 returns-2 c =
@@ -96,7 +100,7 @@ returns-3 : tie.Need-returns-3
 returns-3 c =
     let k = c .before .before .before in
     let s = start k in
-    chart-refused baseSettings (chartOf s) (memoryOf s) (s .args .g) (s .args .window) _ _ (verdict-is k (c .before .number .given .1))
+    chart-refused baseSettings (chartOf s) (memoryOf s) (s .args .g) (s .args .window) _ _ (verdict-told k (c .before .number .given .1))
 
 returns-4 : tie.Need-returns-4
 returns-4 c =
@@ -112,7 +116,6 @@ pub record-spec : {M : Type 1} → statement M
 record-spec =
     tie.close
     (tie.spec
-    (λ c κs. search needs)
     (λ c κs. search needs)
     (λ c. search needs)
     (λ c. search needs)

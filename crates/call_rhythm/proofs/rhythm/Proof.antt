@@ -1,12 +1,13 @@
 -- The verdict of the definition is the one that the tests gave, and each case leaves its outcome.
 use mathlib.Core.Path.{_≡_, ap, _∙_}
-use Rattle.grouping_chart.specs.Chart.{Chart}
-use Rattle.grouping_chart.specs.Settings.{Settings, baseSettings}
+use Rattle.grouping_chart.specs.Chart.{Chart, size}
+use Rattle.grouping_chart.specs.Settings.{Settings}
 use Rattle.grouping_chart.specs.declared.chart.Verdict.{Verdict}
 use Rattle.grouping_chart.specs.declared.chart.Verdict.the-variants.{Accepted}
-use Rattle.grouping_chart.proofs.OutcomeLaws.{judged-is, answered-refused}
+use Rattle.grouping_chart.proofs.OutcomeLaws.{verdict-judged, answered-refused}
+use Rattle.grouping_chart.proofs.RoomLaws.{short-joined}
 use Rattle.call_rhythm.specs.declared.Grouping.the-variants as answer
-use Rattle.call_rhythm.specs.Rhythm.{Memory, memory, judged, rhythmOutcome}
+use Rattle.call_rhythm.specs.Rhythm.{Memory, held, places, judged, rhythmOutcome}
 use Rattle.call_rhythm.proofs.RhythmLaws.{rhythm-room, rhythm-done}
 use borrow.Author.Needs.{needs}
 use Rattle.call_rhythm.proofs.rhythm.Statement.{statement}
@@ -17,30 +18,32 @@ abbrev chartOf : tie.Start → Chart
 chartOf c = record { kinds = c .args .kind .now; starts = c .args .start .now; deltas = c .args .delta .now; ratios = c .args .ratio .now }
 
 abbrev memoryOf : tie.Start → Memory
-memoryOf c = memory (c .args .group .now) (c .args .pattern .now) (c .args .work .now) (c .args .scratch .now)
+memoryOf c = held (c .args .group) (c .args .pattern) (c .args .work) (c .args .scratch)
 
--- ---- once the chart is tested
-abbrev start : tie.After-check → tie.Start
-start c = c .before .before .before .before .before .before .before .before .before .before .before .before .before
+-- ---- once the call is judged
+abbrev start : tie.After-judge → tie.Start
+start c = c .before .before .before .before .before .before .before .before .before
 
-verdict-is : (c : tie.After-check) {v : Verdict} → c .check .result ≡ v → judged (chartOf (start c)) (memoryOf (start c)) ≡ v
-verdict-is c e = judged-is (chartOf (start c)) _ _ _ (c .before .before .too-short .ensures) (c .before .short-refusal .ensures) (c .check .ensures) e
+verdict-told : (c : tie.After-judge) {v : Verdict} → c .judge .result ≡ v → judged (chartOf (start c)) (memoryOf (start c)) ≡ v
+verdict-told c =
+    let s = start c in
+    verdict-judged (chartOf s) (places (memoryOf s)) _ _ (short-joined (size (chartOf s)) _ _) (c .judge .ensures)
 
 -- ---- once it is accepted
 accepted : (c : tie.After-enum-told) → judged (chartOf (start (c .before .before))) (memoryOf (start (c .before .before))) ≡ Accepted
-accepted c = verdict-is (c .before .before) (c .enum-told .given .1)
+accepted c = verdict-told (c .before .before) (c .enum-told .given .1)
 
 fill-groups-requires : tie.Need-fill-groups-requires
 fill-groups-requires c κs =
     let t = c .before .before .before .before .before in
     let s = start (t .before .before) in
-    rhythm-room baseSettings (chartOf s) (memoryOf s) (accepted t)
+    rhythm-room (chartOf s) (memoryOf s) (accepted t)
 
 returns : tie.Need-returns
 unfolding rhythmOutcome
 returns c =
     let k = c .before .before .before in
-    answered-refused _ answer.Refused (memoryOf (start k)) (verdict-is k (c .before .number .given .1))
+    answered-refused _ answer.Refused (memoryOf (start k)) (verdict-told k (c .before .number .given .1))
 
 returns-2 : tie.Need-returns-2
 returns-2 c =
@@ -55,14 +58,10 @@ rhythm-spec =
     tie.close
     (tie.spec
     (λ c κs. search needs)
-    (λ c κs. search needs)
-    (λ c κs. search needs)
     (λ c. search needs)
     (λ c. search needs)
     (λ c κs. search needs)
     fill-groups-requires
-    (λ c. search needs)
-    (λ c. search needs)
     returns
     (λ c. search needs)
     (λ c. search needs)
