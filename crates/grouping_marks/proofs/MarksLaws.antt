@@ -2,7 +2,7 @@
 use mathlib.Core.Path.{_≡_, refl, _∙_, ap}
 use mathlib.Core.List.{List, [], _∷_}
 use mathlib.Core.Bool.{Bool, true, false, cond}
-use Prim.Native.Nat.{ℕ, zero, suc, _+_, _-_, _≤_, _<_}
+use Prim.Native.Nat.{ℕ, zero, suc, _+_, _≤_, _<_}
 use native.Mathlib.Nat.{le-of-suc-le-suc, not-suc-le-zero}
 use native.Mathlib.Omega.{arith}
 use lib.Dec.{eqb}
@@ -12,15 +12,11 @@ use Rattle.lent.specs.Scan.{scan, endState}
 use Rattle.grouping_marks.specs.Marks.{opened, numberByMark, placeByMark, groupCount, groupNumbers, groupPlaces}
 use Rattle.grouping_marks.specs.Marks.{sizesFrom, groupSizes, firstsFrom, groupFirsts}
 use Rattle.lent.proofs.ScanLaws.{length-scan}
-use Rattle.lent.proofs.WalkLaws.{after-none, after-first, scan-none, scan-first}
+use Rattle.lent.proofs.WalkLaws.{after-none, after-first, scan-first}
 
 pub length-numbers : (marks : List ℕ) → length (groupNumbers marks) ≡ length marks
 unfolding groupNumbers
 length-numbers marks = length-scan opened numberByMark 0 marks
-
-pub numbers-of-none : groupNumbers [] ≡ []
-unfolding groupNumbers
-numbers-of-none = scan-none opened numberByMark 0
 
 pub length-places : (marks : List ℕ) → length (groupPlaces marks) ≡ length marks
 unfolding groupPlaces

@@ -6,4 +6,5 @@ pub mod ScanLaws
 pub mod PieceLaws
 pub mod WalkLaws
 pub mod AppendLaws
+pub mod WrittenLaws
 pub mod TableLaws
