@@ -17,8 +17,8 @@ use Rattle.evaluator_values.specs.Colour.{isFirst, standingAt, colourAt}
 -- object i of the one chart stands in its groups as object i′ of the other does
 pub record StandingAlike (limit : ℕ) (kinds : List ℕ) (i : ℕ) (kinds′ : List ℕ) (i′ : ℕ) : Type 0 where
   pub interval : getD (intervalOf limit kinds) i 0 ≡ getD (intervalOf limit kinds′) i′ 0
-  pub outer : getD (patternPlaceOf kinds) i 0 ≡ getD (patternPlaceOf kinds′) i′ 0
-  pub inner : getD (streakPlaceOf kinds) i 0 ≡ getD (streakPlaceOf kinds′) i′ 0
+  pub patternPlace : getD (patternPlaceOf kinds) i 0 ≡ getD (patternPlaceOf kinds′) i′ 0
+  pub streakPlace : getD (streakPlaceOf kinds) i 0 ≡ getD (streakPlaceOf kinds′) i′ 0
   pub streak : isFirst (streakOf kinds) i ≡ isFirst (streakOf kinds′) i′
   pub pattern : isFirst (alternatingOf kinds) i ≡ isFirst (alternatingOf kinds′) i′
   pub hit : isFirst (hitOf kinds) i ≡ isFirst (hitOf kinds′) i′
@@ -26,7 +26,14 @@ pub record StandingAlike (limit : ℕ) (kinds : List ℕ) (i : ℕ) (kinds′ : 
 standing-alike : {limit : ℕ} {kinds : List ℕ} {i : ℕ} {kinds′ : List ℕ} {i′ : ℕ} → StandingAlike limit kinds i kinds′ i′
     → standingAt limit kinds i ≡ standingAt limit kinds′ i′
 unfolding standingAt
-standing-alike e t = record { interval = e .interval t; outer = e .outer t; inner = e .inner t; streak = e .streak t; pattern = e .pattern t; hit = e .hit t }
+standing-alike e t = record {
+  interval = e .interval t;
+  «pattern_place» = e .patternPlace t;
+  «streak_place» = e .streakPlace t;
+  streak = e .streak t;
+  pattern = e .pattern t;
+  hit = e .hit t;
+}
 
 -- from object 4 on the penalty hangs on the two ratios alone
 penalty-late : (tolerance : Float) (i j : ℕ) (c p : Float) → 4 ≤ i → 4 ≤ j → ratioPenalty tolerance i c p ≡ ratioPenalty tolerance j c p
