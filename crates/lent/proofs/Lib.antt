@@ -7,4 +7,5 @@ pub mod PieceLaws
 pub mod WalkLaws
 pub mod AppendLaws
 pub mod WrittenLaws
+pub mod NeverLaws
 pub mod TableLaws
