@@ -147,7 +147,9 @@ cut-from c (m ∷ ms) q z l h =
   where
     by : (a b : Bool) → eqb m 0 ≡ a → eqb q c ≡ b → (opened c m ≤ q → CutFrom c (m ∷ ms) q) → CutFrom c (m ∷ ms) q
     by true b e f go = go (omega (arith, opened-same c m z (eqb-true m 0 e)))
-    by false true e f go = record { front = []; back = m ∷ ms; whole = refl; count = after-none opened c ∙ sym (eqb-true q c f); opening = opens (eqb-false m 0 e) }
+    by false true e f go =
+        let n = after-none opened c ∙ sym (eqb-true q c f) in
+        record { front = []; back = m ∷ ms; whole = refl; count = n; opening = opens (eqb-false m 0 e) }
     by false false e f go = let n : q ≡ c → ⊥ = eqb-false q c f in go (omega (arith, opened-new c m (eqb-false m 0 e)))
 
 pub cut-at : (marks : List ℕ) (q : ℕ) → 0 < q → q ≤ groupCount marks → CutAt marks q
