@@ -1,15 +1,13 @@
 -- What it means that tests say true: each of some tests does, or the test of some number below n.
-use mathlib.Core.Path.{_≡_, refl, sym, ap, _∙_}
+use mathlib.Core.Path.{_≡_, refl, ap, _∙_}
 use mathlib.Core.Logic.{_⊎_, inl, inr}
 use mathlib.Core.List.{List, [], _∷_}
 use mathlib.Core.Bool.{Bool, true, false, not}
 use Prim.Native.Nat.{ℕ, zero, suc, _<_}
 use native.Mathlib.Nat.{not-suc-le-zero, eq-or-lt-of-le, le-of-suc-le-suc}
 use native.Mathlib.Omega.{arith}
+use Rattle.lent.proofs.NeverLaws.{never}
 use Rattle.agreement.specs.Tests.{allTrue, anyBelow}
-
-pub false-not-true : _≡_ {A = Bool} false true → ⊥
-false-not-true e = let z : _≡_ {A = ℕ} 0 1 = cc in omega arith
 
 pub not-of : (a : Bool) → a ≡ false → not a ≡ true
 not-of a e = rw e
@@ -24,7 +22,7 @@ all-first false bs e = e
 pub all-rest : (b : Bool) (bs : List Bool) → allTrue (b ∷ bs) ≡ true → allTrue bs ≡ true
 unfolding allTrue
 all-rest true bs e = e
-all-rest false bs e = absurd (false-not-true e)
+all-rest false bs e = never (cc)
 
 pub all-none : allTrue [] ≡ true
 unfolding allTrue
@@ -43,7 +41,7 @@ pub record FoundBelow (n : ℕ) (test : ℕ → Bool) : Type 0 where
 
 pub any-found : (n : ℕ) (test : ℕ → Bool) → anyBelow n test ≡ true → FoundBelow n test
 unfolding anyBelow
-any-found zero test e = absurd (false-not-true e)
+any-found zero test e = never (cc)
 any-found (suc n) test e = by (test n) refl e (λ q. later (any-found n test q))
   where
     later : FoundBelow n test → FoundBelow (suc n) test
@@ -61,7 +59,7 @@ found-any (suc n) test i h e = by (test n) refl (eq-or-lt-of-le (le-of-suc-le-su
   where
     by : (b : Bool) → test n ≡ b → (i ≡ n) ⊎ (i < n) → (i < n → anyBelow n test ≡ true) → elim b [ true ↦ true | false ↦ anyBelow n test ] ≡ true
     by true q c go = refl
-    by false q (inl r) go = absurd (false-not-true (sym q ∙ ap test (sym r) ∙ e))
+    by false q (inl r) go = let f : test i ≡ false = ap test r ∙ q in never (cc)
     by false q (inr l) go = go l
 
 pub none-found : (n : ℕ) (test : ℕ → Bool) → ((i : ℕ) → i < n → test i ≡ true → ⊥) → anyBelow n test ≡ false
@@ -72,4 +70,4 @@ none-found n test h = by (anyBelow n test) refl
     by false e = refl
 
 pub found-none : (n : ℕ) (test : ℕ → Bool) → anyBelow n test ≡ false → (i : ℕ) → i < n → test i ≡ true → ⊥
-found-none n test e i h t = false-not-true (sym e ∙ found-any n test i h t)
+found-none n test e i h t = let f : anyBelow n test ≡ true = found-any n test i h t in never (cc)

@@ -3,11 +3,11 @@ use mathlib.Core.Path.{_≡_, refl, sym, ap, _∙_}
 use mathlib.Core.Bool.{Bool, true, false, cond}
 use mathlib.Core.List.{List}
 use Prim.Native.Nat.{ℕ}
-use native.Mathlib.Omega.{arith}
 use borrow.Author.Tests.{eqb-true}
 use lib.Dec.{eqb}
 use lib.IntN.{ℤ}
 use lib.Ieee.{Float}
+use Rattle.lent.proofs.NeverLaws.{never}
 use Rattle.grouping_chart.specs.Chart.{Chart}
 use Rattle.grouping_chart.specs.Refusal.{refused}
 use Rattle.grouping_chart.specs.Outcome.{outcome}
@@ -37,12 +37,12 @@ pub record Within (v : Verdict) (kinds : List ℕ) (a b : ℕ) : Type 0 where
 
 none-refused : (zero : Bool) (number : ℕ) → cond zero Accepted (refused number) ≡ Accepted → zero ≡ true
 none-refused true number e = refl
-none-refused false number e = absurd (let z : _≡_ {A = ℕ} 0 1 = cc in omega arith)
+none-refused false number e = never (cc)
 
 pub within-bounds : (v : Verdict) (kinds : List ℕ) (a b : ℕ) → stretchVerdict v kinds a b ≡ Accepted → Within v kinds a b
 unfolding stretchVerdict
 within-bounds Accepted kinds a b e = record { accepted = refl; stretch = eqb-true _ 0 (none-refused (eqb (stretchRefusal kinds a b) 0) _ e) }
-within-bounds (Refused number at) kinds a b e = absurd (let z : _≡_ {A = ℕ} 0 1 = cc in omega arith)
+within-bounds (Refused number at) kinds a b e = never (cc)
 
 -- ---- each case leaves its outcome
 

@@ -22,7 +22,6 @@ use Rattle.grouping_interval.specs.Notes.{NotesListed}
 use Rattle.grouping_same_rhythm.specs.SameRhythm.{groupObjects, groupDeltas}
 use Rattle.grouping_same_rhythm.specs.Own.{ownsOf}
 use Rattle.grouping_same_rhythm.specs.Own.{recentOf}
-use Rattle.grouping_same_rhythm.specs.passes.Groups.{FirstsRoom, FirstsListed}
 use Rattle.grouping_same_rhythm.specs.passes.Owns.{GroupThere, ReachedIs, settledUpTo}
 use Rattle.grouping_same_rhythm.specs.declared.owns.Reached.{Reached}
 use Rattle.grouping_same_rhythm.proofs.MadeLaws.{groupObjects-made, groupDeltas-made}

@@ -26,7 +26,7 @@ use Rattle.grouping_same_rhythm.proofs.GroupsLaws.{length-starts, length-interv
 use Rattle.call_rhythm.specs.Rhythm.{groupsIn, patternGroupsIn, countsOf}
 use Rattle.call_rhythm.specs.passes.Tables.{NumbersRoom, NotesNumbered, FirstsThere, GroupsNumbered, TablesRoom, notesWrites, workWrites, scratchWrites}
 use Rattle.call_rhythm.specs.declared.tables.GroupCounts.{GroupCounts}
-use Rattle.call_rhythm.proofs.WrittenLaws.{Ends, length-written, drop-written}
+use Rattle.lent.proofs.WrittenLaws.{Ends, length-written, drop-written}
 use Rattle.call_rhythm.proofs.RegionLaws.{length-group-numbers}
 
 -- ---- how many there are

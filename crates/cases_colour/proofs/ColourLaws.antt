@@ -9,6 +9,7 @@ use lib.ListN.{length, take, drop, replicate}
 use lib.Ieee.{Float, binary64, toBits, ofBits}
 use Rattle.lent.specs.Over.{over}
 use Rattle.lent.proofs.OverLaws.{lent-part}
+use Rattle.lent.proofs.NeverLaws.{never}
 use Rattle.grouping_chart.specs.Chart.{Chart}
 use Rattle.grouping_chart.specs.Outcome.{Outcome}
 use Rattle.grouping_chart.specs.Settings.{baseSettings}
@@ -36,7 +37,7 @@ use Rattle.cases_colour.specs.declared.Asked.the-variants as asked
 -- ---- the answer of either call
 
 pub colour-refused : (answer : Colouring) (number : ℕ) (place : ObjectIndex) → answer ≡ colouring.Refused number place → Tells false (answer ≡ colouring.Done)
-colour-refused answer number place e = denied (λ h. let z : _≡_ {A = ℕ} 0 1 = cc in omega arith)
+colour-refused answer number place e = denied (λ h. never (cc))
 
 module _ {call : Asked} {c : Chart} {m : Memory} {r : Bool} where
   pub colour-answered : {o : Outcome Colouring Memory} → call ≡ asked.Colour → o ≡ colourOutcome baseSettings c m

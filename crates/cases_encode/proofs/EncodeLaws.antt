@@ -3,12 +3,12 @@ use mathlib.Core.Path.{_≡_, ap, _∙_}
 use mathlib.Core.List.{List}
 use mathlib.Core.Bool.{Bool, true, false, _&&_}
 use Prim.Native.Nat.{ℕ, _+_, _-_, _*_, _≤_}
-use native.Mathlib.Omega.{arith}
 use lib.Dec.{eqb}
 use lib.ListN.{length, take, drop, replicate}
 use lib.Ieee.{Float}
 use Rattle.lent.specs.Over.{part}
 use Rattle.lent.proofs.OverLaws.{lent-part}
+use Rattle.lent.proofs.NeverLaws.{never}
 use Rattle.grouping_chart.specs.Chart.{Chart}
 use Rattle.grouping_chart.specs.Outcome.{Outcome}
 use Rattle.grouping_chart.specs.Settings.{baseSettings}
@@ -33,7 +33,7 @@ module _ (body : List ℕ) (answer : Encoding) where
   count-told count stored e q = tells-as (λ h. e ∙ ap Done (h ∙ q)) (λ h. cc) (tells-eqb count stored)
 
   pub refused-told : (number : ℕ) (place : ObjectIndex) → answer ≡ Refused number place → Tells false (answer ≡ Done (pairAt body 0))
-  refused-told number place e = denied (λ h. let z : _≡_ {A = ℕ} 0 1 = cc in omega arith)
+  refused-told number place e = denied (λ h. never (cc))
 
 -- ---- answer and slices: each part is compared by itself, and what is told of the parts is put together
 

@@ -39,9 +39,9 @@ fn outcome_holds(
     body: &[u8],
     answer: Encoding,
     streak: &[u16],
-    inner: &[u16],
+    streak_place: &[u16],
     pattern: &[u16],
-    outer: &[u16],
+    pattern_place: &[u16],
     hit: &[u16],
     interval: &[u8],
     work: &[u16],
@@ -49,13 +49,21 @@ fn outcome_holds(
 ) -> bool
     requires { ⌜ EncodeCompared size (h .objects) (now body) (now interval) ⌝ }
     ensures { λ r. ⌜ Tells r (EncodeStored size (h .width) (h .objects) (lent body)
-        (outcome answer (before streak inner pattern outer hit interval work scratch))) ⌝ }
+        (outcome answer (before streak «streak_place» pattern «pattern_place» hit interval work scratch))) ⌝ }
 {
     let n = h.objects;
     let at = 2 + n;
     let count = count_holds(body, answer);
-    let streaks = sentinel::columns_held(body, at, size, h.width, n, streak, inner);
-    let patterns = sentinel::columns_held(body, at + 2 * size, size, h.width, n, pattern, outer);
+    let streaks = sentinel::columns_held(body, at, size, h.width, n, streak, streak_place);
+    let patterns = sentinel::columns_held(
+        body,
+        at + 2 * size,
+        size,
+        h.width,
+        n,
+        pattern,
+        pattern_place,
+    );
     let hits = held::column_held(body, at + 4 * size, h.width, n, NUMBER_SENTINEL, hit);
     let intervals = held::bytes_held(body, at + 5 * size, n, BYTE_SENTINEL, interval);
     let cleared = sentinel::work_cleared(n, work, scratch);
@@ -72,9 +80,9 @@ fn lent_holds(
     kind: &[u8],
     one: &[f64],
     streak: &mut [u16],
-    inner: &mut [u16],
+    streak_place: &mut [u16],
     pattern: &mut [u16],
-    outer: &mut [u16],
+    pattern_place: &mut [u16],
     hit: &mut [u16],
     interval: &mut [u8],
     work: &mut [u16],
@@ -83,7 +91,7 @@ fn lent_holds(
     requires { ⌜ EncodeCompared size (h .objects) (now body) (now interval) ⌝ }
     ensures { λ r. ⌜ Tells r (EncodeStored size (h .width) (h .objects) (lent body)
         (encodeOutcome baseSettings (chart kind one one one)
-        (before streak inner pattern outer hit interval work scratch))) ⌝ }
+        (before streak «streak_place» pattern «pattern_place» hit interval work scratch))) ⌝ }
 {
     let got = call_encode::encode(
         kind,
@@ -91,9 +99,9 @@ fn lent_holds(
         one,
         one,
         streak,
-        inner,
+        streak_place,
         pattern,
-        outer,
+        pattern_place,
         hit,
         interval,
         work,
@@ -105,9 +113,9 @@ fn lent_holds(
         body,
         got,
         streak,
-        inner,
+        streak_place,
         pattern,
-        outer,
+        pattern_place,
         hit,
         interval,
         work,

@@ -48,13 +48,13 @@ pub sum-bounded : (o : Standing) → Bounded (objectSum o) 5
 unfolding objectSum
 sum-bounded o =
     let hit = hitValue (o .interval) in
-    let alt = altValue (o .outer) hit in
-    let mono = monoValue (o .inner) alt in
+    let alt = altValue (o .«pattern_place») hit in
+    let mono = monoValue (o .«streak_place») alt in
     let with-mono = addIf (o .streak) zero64 mono in
     let with-alt = addIf (o .pattern) with-mono alt in
     let h = hit-bounded (o .interval) in
-    let a = alt-bounded (o .outer) hit h in
-    let m = add-if-bounded (o .streak) zero64 mono 0 1 (leb→le 0 1 tt) (leb→le 1 (2 ^ 53) tt) (leb→le 0 0 tt) (mono-bounded (o .inner) alt a) in
+    let a = alt-bounded (o .«pattern_place») hit h in
+    let m = add-if-bounded (o .streak) zero64 mono 0 1 (leb→le 0 1 tt) (leb→le 1 (2 ^ 53) tt) (leb→le 0 0 tt) (mono-bounded (o .«streak_place») alt a) in
     add-if-bounded (o .hit) with-alt hit 3 2 (leb→le 3 5 tt) (leb→le 5 (2 ^ 53) tt)
     (add-if-bounded (o .pattern) with-mono alt 1 2 (leb→le 1 3 tt) (leb→le 3 (2 ^ 53) tt) m a) h
 

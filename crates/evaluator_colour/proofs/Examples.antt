@@ -13,7 +13,14 @@ use Rattle.evaluator_colour.specs.Color.{hitValue, altValue, monoValue, 
 use Rattle.evaluator_colour.specs.RatioPenalty.{lowered, ratioPenalty}
 
 abbrev standing : ℕ → ℕ → ℕ → Bool → Bool → Bool → Standing
-standing interval outer inner streak pattern hit = record { interval = interval; outer = outer; inner = inner; streak = streak; pattern = pattern; hit = hit }
+standing interval patternPlace streakPlace streak pattern hit = record {
+  interval = interval;
+  «pattern_place» = patternPlace;
+  «streak_place» = streakPlace;
+  streak = streak;
+  pattern = pattern;
+  hit = hit;
+}
 
 -- 0.01, the f64 nearest to 1 / 100
 unfoldable hundredth : Float

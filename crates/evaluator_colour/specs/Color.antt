@@ -27,5 +27,5 @@ addIf first sum x = cond first (add binary64 sum x) sum
 unfoldable pub objectSum : Standing → Float
 objectSum o =
     let hit = hitValue (o .interval) in
-    let alt = altValue (o .outer) hit in
-    addIf (o .hit) (addIf (o .pattern) (addIf (o .streak) zero64 (monoValue (o .inner) alt)) alt) hit
+    let alt = altValue (o .«pattern_place») hit in
+    addIf (o .hit) (addIf (o .pattern) (addIf (o .streak) zero64 (monoValue (o .«streak_place») alt)) alt) hit

@@ -7,12 +7,12 @@ use grouping_chart::object::ObjectIndex;
 use numeric::logistic::logistic;
 use numeric::near::near;
 
-// How an object stands in its groups: its hit pattern's interval, its alternating pattern's place in that (outer), its
-// streak's place in the alternating pattern (inner), and of which of the three it is the first object.
+// How an object stands in its groups: its hit pattern's interval, its alternating pattern's place in that, its
+// streak's place in the alternating pattern, and of which of the three it is the first object.
 pub struct Standing {
     pub interval: usize,
-    pub outer: usize,
-    pub inner: usize,
+    pub pattern_place: usize,
+    pub streak_place: usize,
     pub streak: bool,
     pub pattern: bool,
     pub hit: bool,
@@ -51,8 +51,8 @@ pub fn object_sum(table: &[f64], o: Standing) -> f64
     ensures { λ r. ⌜ r ≡ objectSum o ⌝ }
 {
     let hit = hit_value(table, o.interval);
-    let alt = alt_value(table, o.outer, hit);
-    let mono = mono_value(table, o.inner, alt);
+    let alt = alt_value(table, o.pattern_place, hit);
+    let mono = mono_value(table, o.streak_place, alt);
     add_if(
         o.hit,
         add_if(o.pattern, add_if(o.streak, 0.0, mono), alt),

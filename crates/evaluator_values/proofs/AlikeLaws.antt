@@ -1,11 +1,10 @@
 -- An object of one chart has the value of an object of another where both stand alike in their groups. For crates above this one.
 use mathlib.Core.Path.{_≡_, refl, sym, ap, _∙_}
-use mathlib.Core.Bool.{true, false, cond, not}
+use mathlib.Core.Bool.{false}
 use mathlib.Core.List.{List}
 use Prim.Native.Nat.{ℕ, _-_, _≤_}
 use native.Mathlib.Omega.{arith}
 use borrow.Author.Tests.{le-ltb}
-use lib.Dec.{eqb}
 use lib.ListN.{getD}
 use lib.Ieee.{Float, nan, binary64, mul}
 use Rattle.grouping_colour.specs.MonoStreak.{streakOf}
@@ -15,16 +14,11 @@ use Rattle.evaluator_colour.specs.RatioPenalty.{ratioPenalty}
 use Rattle.evaluator_colour.proofs.PenaltyCases.{tested}
 use Rattle.evaluator_values.specs.Colour.{isFirst, standingAt, colourAt}
 
--- the same object of two lists of group numbers, by its number and the one before
-pub first-alike : (xs ys : List ℕ) (i : ℕ) → getD xs i 0 ≡ getD ys i 0 → getD xs (i - 1) 0 ≡ getD ys (i - 1) 0 → isFirst xs i ≡ isFirst ys i
-unfolding isFirst
-first-alike xs ys i e f t = cond (eqb i 0) true (not (eqb (e t) (f t)))
-
 -- object i of the one chart stands in its groups as object i′ of the other does
 pub record StandingAlike (limit : ℕ) (kinds : List ℕ) (i : ℕ) (kinds′ : List ℕ) (i′ : ℕ) : Type 0 where
   pub interval : getD (intervalOf limit kinds) i 0 ≡ getD (intervalOf limit kinds′) i′ 0
-  pub outer : getD (patternPlaceOf kinds) i 0 ≡ getD (patternPlaceOf kinds′) i′ 0
-  pub inner : getD (streakPlaceOf kinds) i 0 ≡ getD (streakPlaceOf kinds′) i′ 0
+  pub patternPlace : getD (patternPlaceOf kinds) i 0 ≡ getD (patternPlaceOf kinds′) i′ 0
+  pub streakPlace : getD (streakPlaceOf kinds) i 0 ≡ getD (streakPlaceOf kinds′) i′ 0
   pub streak : isFirst (streakOf kinds) i ≡ isFirst (streakOf kinds′) i′
   pub pattern : isFirst (alternatingOf kinds) i ≡ isFirst (alternatingOf kinds′) i′
   pub hit : isFirst (hitOf kinds) i ≡ isFirst (hitOf kinds′) i′
@@ -32,7 +26,14 @@ pub record StandingAlike (limit : ℕ) (kinds : List ℕ) (i : ℕ) (kinds′ : 
 standing-alike : {limit : ℕ} {kinds : List ℕ} {i : ℕ} {kinds′ : List ℕ} {i′ : ℕ} → StandingAlike limit kinds i kinds′ i′
     → standingAt limit kinds i ≡ standingAt limit kinds′ i′
 unfolding standingAt
-standing-alike e t = record { interval = e .interval t; outer = e .outer t; inner = e .inner t; streak = e .streak t; pattern = e .pattern t; hit = e .hit t }
+standing-alike e t = record {
+  interval = e .interval t;
+  «pattern_place» = e .patternPlace t;
+  «streak_place» = e .streakPlace t;
+  streak = e .streak t;
+  pattern = e .pattern t;
+  hit = e .hit t;
+}
 
 -- from object 4 on the penalty hangs on the two ratios alone
 penalty-late : (tolerance : Float) (i j : ℕ) (c p : Float) → 4 ≤ i → 4 ≤ j → ratioPenalty tolerance i c p ≡ ratioPenalty tolerance j c p

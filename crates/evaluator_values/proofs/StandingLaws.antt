@@ -23,7 +23,14 @@ change-first numbers i x y h p q = rw (ne-eqb i 0 h) (λ t. not (eqb (p t) (q t)
 
 pub standing-is : {limit : ℕ} {kinds : List ℕ} {i : ℕ} {r : Standing} → StandingIs limit kinds i r → r ≡ standingAt limit kinds i
 unfolding standingAt
-standing-is e t = record { interval = e .interval t; outer = e .outer t; inner = e .inner t; streak = e .streak t; pattern = e .pattern t; hit = e .hit t }
+standing-is e t = record {
+  interval = e .interval t;
+  «pattern_place» = e .patternPlace t;
+  «streak_place» = e .streakPlace t;
+  streak = e .streak t;
+  pattern = e .pattern t;
+  hit = e .hit t;
+}
 
 -- ---- the values
 module _ (limit : ℕ) (tolerance : Float) (kinds : List ℕ) (ratios : List Float) where

@@ -68,8 +68,8 @@ module _ {kinds w : List ℕ} {k : Levels} {i : ℕ} (o : ObjectIn kinds w k i) 
 
   hit-is : getD w (length kinds + getD w (3 * length kinds + getD w i 0) 0) 0 ≡ getD (hitOf kinds) i 0
   hit-is =
-      entry-is w (length kinds) (k .patterns) _ (alternatingOf kinds) _ i (getD w (3 * length kinds + getD w i 0) 0) (o .tabled .tables .hit) (hitOf-looked kinds)
-      (omega (arith, length-alternatingOf kinds, o .within)) pattern-in pattern-is
+      entry-is w (length kinds) (k .patterns) _ (alternatingOf kinds) _ i (getD w (3 * length kinds + getD w i 0) 0)
+      (o .tabled .tables .hit) (hitOf-looked kinds) (omega (arith, length-alternatingOf kinds, o .within)) pattern-in pattern-is
 
   hit-in : getD w (length kinds + getD w (3 * length kinds + getD w i 0) 0) 0 < k .hits
   hit-in = omega (arith, hit-is, hitOf-below kinds i (o .within), o .tabled .tables .count-h)
@@ -88,12 +88,12 @@ module _ {kinds w : List ℕ} {k : Levels} {i : ℕ} (o : ObjectIn kinds w k i) 
         entry-is w (7 * length kinds) (k .hits) _ (hitOf kinds) _ i (r .hit) (o .tabled .tables .interval) (intervalOf-looked kinds (k .limit))
         (omega (arith, length-hitOf kinds, o .within)) (a .in-hits) (a .hits)
 
-    pub outer-is : getD w (2 * length kinds + r .pattern) 0 ≡ getD (patternPlaceOf kinds) i 0
-    outer-is =
+    pub pattern-place-is : getD w (2 * length kinds + r .pattern) 0 ≡ getD (patternPlaceOf kinds) i 0
+    pattern-place-is =
         entry-is w (2 * length kinds) (k .patterns) _ (alternatingOf kinds) _ i (r .pattern) (o .tabled .tables .pattern-place) (patternPlaceOf-looked kinds)
         (omega (arith, length-alternatingOf kinds, o .within)) (a .in-patterns) (a .patterns)
 
-    pub inner-is : getD w (4 * length kinds + r .streak) 0 ≡ getD (streakPlaceOf kinds) i 0
-    inner-is =
+    pub streak-place-is : getD w (4 * length kinds + r .streak) 0 ≡ getD (streakPlaceOf kinds) i 0
+    streak-place-is =
         entry-is w (4 * length kinds) (k .streaks) _ (streakOf kinds) _ i (r .streak) (o .tabled .tables .streak-place) (streakPlaceOf-looked kinds)
         (omega (arith, length-streakOf kinds, o .within)) (a .in-streaks) (a .streaks)

@@ -22,8 +22,8 @@ isFirst numbers i = cond (eqb i 0) true (not (eqb (getD numbers i 0) (getD numbe
 unfoldable pub standingAt : ℕ → List ℕ → ℕ → Standing
 standingAt limit kinds i = record {
   interval = getD (intervalOf limit kinds) i 0;
-  outer = getD (patternPlaceOf kinds) i 0;
-  inner = getD (streakPlaceOf kinds) i 0;
+  «pattern_place» = getD (patternPlaceOf kinds) i 0;
+  «streak_place» = getD (streakPlaceOf kinds) i 0;
   streak = isFirst (streakOf kinds) i;
   pattern = isFirst (alternatingOf kinds) i;
   hit = isFirst (hitOf kinds) i;

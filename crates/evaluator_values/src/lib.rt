@@ -44,13 +44,13 @@ fn standing_at(kind: &[u8], w: &[u16], k: Levels, idx: ObjectIndex) -> Standing
     let pattern = at.pattern;
     let hit = at.hit;
     let interval = w[7 * n + hit] as usize;
-    let outer = w[2 * n + pattern] as usize;
-    let inner = w[4 * n + streak] as usize;
+    let pattern_place = w[2 * n + pattern] as usize;
+    let streak_place = w[4 * n + streak] as usize;
     if i == 0 {
         return Standing {
             interval,
-            outer,
-            inner,
+            pattern_place,
+            streak_place,
             streak: true,
             pattern: true,
             hit: true,
@@ -59,8 +59,8 @@ fn standing_at(kind: &[u8], w: &[u16], k: Levels, idx: ObjectIndex) -> Standing
     let before = numbers_at(kind, w, k, ObjectIndex(i - 1));
     Standing {
         interval,
-        outer,
-        inner,
+        pattern_place,
+        streak_place,
         streak: streak != before.streak,
         pattern: pattern != before.pattern,
         hit: hit != before.hit,

@@ -8,6 +8,7 @@ use borrow.Author.Tests.{ltb-false, le-leb, leb-true, eqb-true}
 use lib.Dec.{T, eqb, leb}
 use lib.ListN.{length, getD}
 use lib.Ieee.{Float, nan}
+use Rattle.lent.proofs.NeverLaws.{never}
 use Rattle.grouping_chart.specs.declared.object.ObjectIndex.{ObjectIndex}
 use Rattle.grouping_chart.specs.declared.chart.Verdict.{Verdict}
 use Rattle.grouping_chart.specs.declared.chart.Verdict.the-variants.{Accepted, Refused}
@@ -64,10 +65,10 @@ good-object {k} {s} {d} {r} g = rw (le-leb k 2 (g .kind), of-T (timeGood s) (g .
 -- an accepted verdict after a test that refuses where it fails, and after one that refuses where it holds
 test-held : (b : Bool) (later : Verdict) (n : ℕ) (at : ObjectIndex) → cond b later (Refused n at) ≡ Accepted → (b ≡ true) × (later ≡ Accepted)
 test-held true later n at e = (refl, e)
-test-held false later n at e = absurd (let z : _≡_ {A = ℕ} 0 1 = cc in omega arith)
+test-held false later n at e = never (cc)
 
 test-failed : (b : Bool) (v : Verdict) (n : ℕ) (at : ObjectIndex) → cond b (Refused n at) v ≡ Accepted → (b ≡ false) × (v ≡ Accepted)
-test-failed true v n at e = absurd (let z : _≡_ {A = ℕ} 0 1 = cc in omega arith)
+test-failed true v n at e = never (cc)
 test-failed false v n at e = (refl, e)
 
 objects-good : (j : ℕ) (ks : List ℕ) (ss ds rs : List Float) → SameLengths (length ks) ss ds rs → firstRefused j ks ss ds rs ≡ Accepted
@@ -115,8 +116,8 @@ all-good-accepted kinds starts deltas ratios same e =
 
 all-three : (a b c : Bool) → cond a (cond b c false) false ≡ true → (a ≡ true) × ((b ≡ true) × (c ≡ true))
 all-three true true c e = (refl, (refl, e))
-all-three true false c e = absurd (let z : _≡_ {A = ℕ} 0 1 = cc in omega arith)
-all-three false b c e = absurd (let z : _≡_ {A = ℕ} 0 1 = cc in omega arith)
+all-three true false c e = never (cc)
+all-three false b c e = never (cc)
 
 pub equal-lengths : (c : Chart) → equallyLong c ≡ true → SameLengths (length (c .kinds)) (c .starts) (c .deltas) (c .ratios)
 unfolding equallyLong

@@ -1,5 +1,5 @@
 -- What follows from a list of marks, where it is cut at an item that opens a group: each derived list is the front's and then the back's.
-use mathlib.Core.Path.{_≡_, refl, sym, ap, _∙_}
+use mathlib.Core.Path.{_≡_, refl}
 use mathlib.Core.List.{List, [], _∷_, _++_, map, append-nil}
 use mathlib.Core.Bool.{Bool, true, false, cond}
 use Prim.Native.Nat.{ℕ, _+_, _-_, _≤_, _<_}
@@ -12,6 +12,7 @@ use Rattle.grouping_marks.specs.Marks.{opened, numberByMark, placeByMark
 use Rattle.grouping_marks.specs.Marks.{sizesFrom, groupSizes, firstsFrom, groupFirsts}
 use Rattle.grouping_marks.proofs.MarksLaws.{opened-bounds}
 use Rattle.lent.proofs.ScanLaws.{scan-append, after-append}
+use Rattle.lent.proofs.WalkLaws.{after-none, after-first, scan-none, scan-first}
 
 -- ---- which lists may stand behind a cut: the empty one, and those whose first item opens a group
 
@@ -105,44 +106,46 @@ opened-shift c k m h = by (eqb m 0) (eqb (c + k) 0) (eqb k 0) refl refl
     by false u v e g = omega arith
 
 after-shift : (c k : ℕ) (ms : List ℕ) → 1 ≤ k → endState opened (c + k) ms ≡ c + endState opened k ms
-unfolding endState
-after-shift c k [] h = refl
-after-shift c k (m ∷ ms) h = rw (opened-shift c k m h) (after-shift c (opened k m) ms (opened-bounds k m .1 .0))
+after-shift c k [] h = simp after-none
+after-shift c k (m ∷ ms) h = simp after-first (rw (opened-shift c k m h) (after-shift c (opened k m) ms (opened-bounds k m .1 .0)))
 
 numbers-moved : (c k : ℕ) (ms : List ℕ) → 1 ≤ k → scan opened numberByMark (c + k) ms ≡ map (λ (j : ℕ). c + j) (scan opened numberByMark k ms)
-unfolding scan
-numbers-moved c k [] h = refl
+numbers-moved c k [] h = simp scan-none
 numbers-moved c k (m ∷ ms) h =
     let e : opened (c + k) m ≡ c + opened k m = opened-shift c k m h in
     let d : opened (c + k) m - 1 ≡ c + (opened k m - 1) = omega (arith, e, opened-bounds k m .1 .0) in
-    rw (d, e, numbers-moved c (opened k m) ms (opened-bounds k m .1 .0))
+    simp scan-first (rw (d, e, numbers-moved c (opened k m) ms (opened-bounds k m .1 .0)))
 
 pub count-cut : (fs bs : List ℕ) → Opening bs → groupCount (fs ++ bs) ≡ groupCount fs + groupCount bs
-unfolding groupCount endState
-count-cut fs [] o = rw (append-nil fs) (omega arith)
+unfolding groupCount
+count-cut fs [] o = rw (append-nil fs, after-none opened 0) (omega arith)
 count-cut fs (m ∷ ms) (opens z) =
-    rw (after-append opened 0 fs (m ∷ ms), opened-new (endState opened 0 fs) m z, opened-new 0 m z) (after-shift (endState opened 0 fs) 1 ms (omega arith))
+    let c : ℕ = endState opened 0 fs in
+    rw (after-append opened 0 fs (m ∷ ms), after-first opened c m ms, after-first opened 0 m ms, opened-new c m z, opened-new 0 m z)
+    (after-shift c 1 ms (omega arith))
 
 -- the back's numbers go on where the front's end
 pub numbers-cut : (fs bs : List ℕ) → Opening bs → groupNumbers (fs ++ bs) ≡ groupNumbers fs ++ map (λ (j : ℕ). groupCount fs + j) (groupNumbers bs)
-unfolding groupNumbers groupCount scan
-numbers-cut fs [] o = rw (append-nil fs, append-nil (scan opened numberByMark 0 fs))
+unfolding groupNumbers groupCount
+numbers-cut fs [] o = rw (scan-none opened numberByMark 0, append-nil fs, append-nil (scan opened numberByMark 0 fs))
 numbers-cut fs (m ∷ ms) (opens z) =
     let c : ℕ = endState opened 0 fs in
-    scan-append opened numberByMark 0 fs (m ∷ ms)
-    ∙ ap (λ (l : List ℕ). scan opened numberByMark 0 fs ++ l)
-    (ap (λ (k : ℕ). (k - 1) ∷ scan opened numberByMark k ms) (opened-new c m z)
-    ∙ (λ i. head c i ∷ numbers-moved c 1 ms (omega arith) i)
-    ∙ ap (λ (k : ℕ). (c + (k - 1)) ∷ map (λ (j : ℕ). c + j) (scan opened numberByMark k ms)) (sym (opened-new 0 m z)))
+    rw (scan-append opened numberByMark 0 fs (m ∷ ms), scan-first opened numberByMark c m ms, scan-first opened numberByMark 0 m ms)
+    (rw (opened-new c m z, opened-new 0 m z, numbers-moved c 1 ms (omega arith), head c))
   where
     head : (c : ℕ) → c + 1 - 1 ≡ c + (1 - 1)
     head c = omega arith
 
 -- ---- the places
 
+place-new : (p m : ℕ) → (m ≡ 0 → ⊥) → placeByMark p m ≡ 0
+unfolding placeByMark
+place-new p m z = rw (ne-eqb m 0 z)
+
 pub places-cut : (fs bs : List ℕ) → Opening bs → groupPlaces (fs ++ bs) ≡ groupPlaces fs ++ groupPlaces bs
-unfolding groupPlaces scan
-places-cut fs [] o = rw (append-nil fs, append-nil (scan (λ p m. placeByMark p m + 1) placeByMark 0 fs))
+unfolding groupPlaces
+places-cut fs [] o =
+    rw (append-nil fs, scan-none (λ p m. placeByMark p m + 1) placeByMark 0, append-nil (scan (λ p m. placeByMark p m + 1) placeByMark 0 fs))
 places-cut fs (m ∷ ms) (opens z) =
-    scan-append (λ p m. placeByMark p m + 1) placeByMark 0 fs (m ∷ ms)
-    ∙ rw (ne-eqb m 0 z)
+    let p : ℕ = endState (λ p m. placeByMark p m + 1) 0 fs in
+    rw (scan-append (λ p m. placeByMark p m + 1) placeByMark 0 fs (m ∷ ms)) (simp scan-first (rw (place-new p m z, place-new 0 m z)))

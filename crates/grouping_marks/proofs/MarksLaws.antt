@@ -2,7 +2,7 @@
 use mathlib.Core.Path.{_≡_, refl, _∙_, ap}
 use mathlib.Core.List.{List, [], _∷_}
 use mathlib.Core.Bool.{Bool, true, false, cond}
-use Prim.Native.Nat.{ℕ, zero, suc, _+_, _-_, _≤_, _<_}
+use Prim.Native.Nat.{ℕ, zero, suc, _+_, _≤_, _<_}
 use native.Mathlib.Nat.{le-of-suc-le-suc, not-suc-le-zero}
 use native.Mathlib.Omega.{arith}
 use lib.Dec.{eqb}
@@ -12,14 +12,11 @@ use Rattle.lent.specs.Scan.{scan, endState}
 use Rattle.grouping_marks.specs.Marks.{opened, numberByMark, placeByMark, groupCount, groupNumbers, groupPlaces}
 use Rattle.grouping_marks.specs.Marks.{sizesFrom, groupSizes, firstsFrom, groupFirsts}
 use Rattle.lent.proofs.ScanLaws.{length-scan}
+use Rattle.lent.proofs.WalkLaws.{after-none, after-first, scan-first}
 
 pub length-numbers : (marks : List ℕ) → length (groupNumbers marks) ≡ length marks
 unfolding groupNumbers
 length-numbers marks = length-scan opened numberByMark 0 marks
-
-pub numbers-of-none : groupNumbers [] ≡ []
-unfolding groupNumbers scan
-numbers-of-none = refl
 
 pub length-places : (marks : List ℕ) → length (groupPlaces marks) ≡ length marks
 unfolding groupPlaces
@@ -63,9 +60,8 @@ opened-later c m o e = go (eqb m 0) (eqb (c + 1) 0) refl e
     go false b z e = omega arith
 
 after-bounds : (c : ℕ) (marks : List ℕ) → (c ≤ endState opened c marks) × (endState opened c marks ≤ c + length marks)
-unfolding endState
-after-bounds c [] = omega arith
-after-bounds c (m ∷ ms) = omega (arith, opened-bounds c m, after-bounds (opened c m) ms)
+after-bounds c [] = omega (arith, after-none opened c)
+after-bounds c (m ∷ ms) = omega (arith, after-first opened c m ms, opened-bounds c m, after-bounds (opened c m) ms)
 
 -- there are at most as many groups as items
 pub count-le : (marks : List ℕ) → groupCount marks ≤ length marks
@@ -77,10 +73,9 @@ pub count-none : (marks : List ℕ) → length marks ≡ 0 → groupCount marks 
 count-none marks h = omega (arith, count-le marks)
 
 number-below : (c : ℕ) (marks : List ℕ) (i : ℕ) → i < length marks → getD (scan opened numberByMark c marks) i 0 < endState opened c marks
-unfolding scan endState
 number-below c [] i h = absurd (not-suc-le-zero h)
-number-below c (m ∷ ms) zero h = omega (arith, opened-bounds c m, after-bounds (opened c m) ms)
-number-below c (m ∷ ms) (suc i) h = number-below (opened c m) ms i (le-of-suc-le-suc h)
+number-below c (m ∷ ms) zero h = rw (scan-first, after-first) (omega (arith, opened-bounds c m, after-bounds (opened c m) ms))
+number-below c (m ∷ ms) (suc i) h = rw (scan-first, after-first) (number-below (opened c m) ms i (le-of-suc-le-suc h))
 
 -- each item's number is below the count
 pub numbers-below : (marks : List ℕ) (i : ℕ) → i < length marks → getD (groupNumbers marks) i 0 < groupCount marks
@@ -90,9 +85,9 @@ numbers-below marks i h = number-below 0 marks i h
 -- ---- the sizes and the firsts
 
 sizes-count : (c p : ℕ) (marks : List ℕ) → c + length (sizesFrom p marks) ≡ endState opened (c + 1) marks
-unfolding sizesFrom endState opened
-sizes-count c p [] = refl
-sizes-count c p (m ∷ ms) = go (eqb m 0) (eqb (c + 1) 0) refl (sizes-count c (p + 1) ms) (sizes-count (c + 1) 1 ms)
+unfolding sizesFrom opened
+sizes-count c p [] = rw after-none
+sizes-count c p (m ∷ ms) = rw after-first (go (eqb m 0) (eqb (c + 1) 0) refl (sizes-count c (p + 1) ms) (sizes-count (c + 1) 1 ms))
   where
     go : (a b : Bool) → eqb (c + 1) 0 ≡ b → c + length (sizesFrom (p + 1) ms) ≡ endState opened (c + 1) ms
         → c + 1 + length (sizesFrom 1 ms) ≡ endState opened (c + 1 + 1) ms
@@ -103,13 +98,9 @@ sizes-count c p (m ∷ ms) = go (eqb m 0) (eqb (c + 1) 0) refl (sizes-count c (p
 
 -- there are as many sizes as groups
 pub length-sizes : (marks : List ℕ) → length (groupSizes marks) ≡ groupCount marks
-unfolding groupSizes groupCount endState opened
-length-sizes [] = refl
-length-sizes (m ∷ ms) = go (eqb m 0)
-  where
-    go : (a : Bool) → length (sizesFrom 1 ms) ≡ endState opened (cond a 1 (0 + 1)) ms
-    go true = omega (arith, sizes-count 0 1 ms)
-    go false = omega (arith, sizes-count 0 1 ms)
+unfolding groupSizes groupCount
+length-sizes [] = rw after-none
+length-sizes (m ∷ ms) = rw (after-first, opened-first) (omega (arith, sizes-count 0 1 ms))
 
 firsts-count : (p : ℕ) (marks xs : List ℕ) → length marks ≤ length xs → suc (length (firstsFrom marks xs)) ≡ length (sizesFrom p marks)
 unfolding firstsFrom sizesFrom

@@ -14,7 +14,8 @@ use Rattle.grouping_marks.specs.Marks.{opened, groupCount, groupNumbers}
 use Rattle.lent.proofs.FillLaws.{getD-map, length-gathered, getD-gathered}
 use Rattle.grouping_marks.proofs.MarksLaws.{opened-bounds, opened-first, length-numbers, numbers-below}
 use Rattle.grouping_marks.proofs.CutLaws.{Opening, nothing-left, opens, opened-new, opened-same, numbers-cut}
-use Rattle.lent.proofs.TableLaws.{gathered-append, gathered-back, gathered-moved}
+use Rattle.lent.proofs.WalkLaws.{after-none, after-first}
+use Rattle.lent.proofs.TableLaws.{gathered-append, gathered-front, gathered-back, gathered-moved}
 
 -- every entry is below n
 abbrev pub Below : List ℕ → ℕ → Type 0
@@ -57,12 +58,6 @@ split-before {xs} {at} {c} {back} s i h =
     rw (s .whole, List·getD-append (s .front) (map (λ (j : ℕ). c + j) back) 0 i l) (s .below i l)
 
 -- ---- looked up in a table that is cut at the same group
-
-gathered-front : (front back idx : List ℕ) → Below idx (length front) → gathered (front ++ back) idx ≡ gathered front idx
-unfolding gathered
-gathered-front front back [] b = refl
-gathered-front front back (j ∷ idx) b =
-    λ i. List·getD-append front back 0 j (b 0 (omega arith)) i ∷ gathered-front front back idx (λ k l. b (suc k) (omega arith)) i
 
 -- a table of the next level's numbers
 pub split-gathered : {idx table : List ℕ} {at c d : ℕ} {back tail : List ℕ} → Split idx at c back → Split table c d tail → Below back (length tail)
@@ -136,22 +131,30 @@ record CutFrom (c : ℕ) (marks : List ℕ) (q : ℕ) : Type 0 where
   opening : Opening back
 
 cut-later : (c : ℕ) (m : ℕ) (ms : List ℕ) (q : ℕ) → CutFrom (opened c m) ms q → CutFrom c (m ∷ ms) q
-unfolding endState
-cut-later c m ms q x = record { front = m ∷ x .front; back = x .back; whole = ap (λ (l : List ℕ). m ∷ l) (x .whole); count = x .count; opening = x .opening }
+cut-later c m ms q x = record {
+  front = m ∷ x .front;
+  back = x .back;
+  whole = ap (λ (l : List ℕ). m ∷ l) (x .whole);
+  count = after-first opened c m (x .front) ∙ x .count;
+  opening = x .opening;
+}
 
 cut-from : (c : ℕ) (marks : List ℕ) (q : ℕ) → 1 ≤ c → c ≤ q → q ≤ endState opened c marks → CutFrom c marks q
-unfolding endState
-cut-from c [] q z l h = record { front = []; back = []; whole = refl; count = omega arith; opening = nothing-left }
-cut-from c (m ∷ ms) q z l h = by (eqb m 0) (eqb q c) refl refl (λ u. cut-later c m ms q (cut-from (opened c m) ms q (opened-bounds c m .1 .0) u h))
+cut-from c [] q z l h = record { front = []; back = []; whole = refl; count = omega (arith, after-none opened c); opening = nothing-left }
+cut-from c (m ∷ ms) q z l h =
+    let k : q ≤ endState opened (opened c m) ms = rw after-first at h in
+    by (eqb m 0) (eqb q c) refl refl (λ u. cut-later c m ms q (cut-from (opened c m) ms q (opened-bounds c m .1 .0) u k))
   where
     by : (a b : Bool) → eqb m 0 ≡ a → eqb q c ≡ b → (opened c m ≤ q → CutFrom c (m ∷ ms) q) → CutFrom c (m ∷ ms) q
     by true b e f go = go (omega (arith, opened-same c m z (eqb-true m 0 e)))
-    by false true e f go = record { front = []; back = m ∷ ms; whole = refl; count = sym (eqb-true q c f); opening = opens (eqb-false m 0 e) }
+    by false true e f go =
+        let n = after-none opened c ∙ sym (eqb-true q c f) in
+        record { front = []; back = m ∷ ms; whole = refl; count = n; opening = opens (eqb-false m 0 e) }
     by false false e f go = let n : q ≡ c → ⊥ = eqb-false q c f in go (omega (arith, opened-new c m (eqb-false m 0 e)))
 
 pub cut-at : (marks : List ℕ) (q : ℕ) → 0 < q → q ≤ groupCount marks → CutAt marks q
-unfolding groupCount endState
-cut-at [] q z h = absurd (omega arith)
+unfolding groupCount
+cut-at [] q z h = absurd (omega (arith, after-none opened 0))
 cut-at (m ∷ ms) q z h =
-    let x = cut-later 0 m ms q (cut-from (opened 0 m) ms q (opened-bounds 0 m .1 .0) (omega (arith, opened-first m)) h) in
+    let x = cut-later 0 m ms q (cut-from (opened 0 m) ms q (opened-bounds 0 m .1 .0) (omega (arith, opened-first m)) (rw after-first at h)) in
     record { front = x .front; back = x .back; whole = x .whole; count = x .count; opening = x .opening }

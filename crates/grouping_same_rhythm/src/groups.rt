@@ -1,29 +1,12 @@
-// Each group's first object, and its interval.
+// Each group's interval.
 ghost use mathlib.Core.Path.{_≡_};
 ghost use Prim.Native.Nat.{ℕ, _<_};
 ghost use lib.ListN.{length, getD};
 ghost use lib.Ieee.{nan};
 ghost use Rattle.lent.specs.Over.{over};
 ghost use Rattle.grouping_same_rhythm.specs.SameRhythm.{startsOf, between, intervalsOf};
-ghost use Rattle.grouping_same_rhythm.specs.passes.Groups.{FirstsRoom, FirstsListed, IntervalsRoom};
-use grouping_interval::walk::next_end;
+ghost use Rattle.grouping_same_rhythm.specs.passes.Groups.{IntervalsRoom};
 use numeric::near::near;
-
-// Lists, from place `to` on, the first object of each group. The notes' objects are in front. The result is how many
-// groups there are.
-pub fn list_firsts(deltas: &[f64], margin: f64, w: &mut [u16], to: usize) -> usize
-    requires { ⌜ FirstsRoom (now deltas) (now w) to ⌝ }
-    ensures { λ r. ⌜ FirstsListed margin (now (deltas .entry)) (now (w .entry)) (now (w .exit)) to r ⌝ }
-{
-    let mut k = 0;
-    let mut at = 0;
-    while at < deltas.len() {
-        w[to + k] = w[at];
-        at = next_end(deltas, margin, at);
-        k += 1;
-    }
-    k
-}
 
 // From one start to the next, 0.0 where they are near.
 fn start_between(previous: f64, start: f64, margin: f64) -> f64

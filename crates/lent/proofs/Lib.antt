@@ -6,4 +6,6 @@ pub mod ScanLaws
 pub mod PieceLaws
 pub mod WalkLaws
 pub mod AppendLaws
+pub mod WrittenLaws
+pub mod NeverLaws
 pub mod TableLaws

@@ -7,7 +7,7 @@ use native.Mathlib.Nat.{add-zero, add-suc}
 use native.Mathlib.Omega.{arith}
 use borrow.Author.Tests.{lt-ltb, le-ltb, ltb-true, ltb-false}
 use lib.Dec.{ltb}
-use lib.ListN.{length, getD, length-append}
+use lib.ListN.{length, getD, length-append, List·getD-append}
 use lib.Seq.{getD-append-add}
 use Rattle.lent.specs.Scan.{tabulate, gathered}
 use Rattle.lent.proofs.FillLaws.{tabulate-agree, getD-map}
@@ -53,6 +53,13 @@ pub gathered-append : (table idx idx′ : List ℕ) → gathered table (idx ++ i
 unfolding gathered
 gathered-append table [] idx′ = refl
 gathered-append table (j ∷ idx) idx′ = rw (gathered-append table idx idx′)
+
+-- numbers below the length of the table's front look up the front
+pub gathered-front : (front back idx : List ℕ) → ((i : ℕ) → i < length idx → getD idx i 0 < length front) → gathered (front ++ back) idx ≡ gathered front idx
+unfolding gathered
+gathered-front front back [] h = refl
+gathered-front front back (j ∷ idx) h =
+    λ i. List·getD-append front back 0 j (h 0 (omega arith)) i ∷ gathered-front front back idx (λ k l. h (suc k) (omega arith)) i
 
 -- numbers moved on by the length of the table's front look up the table's back
 pub gathered-back : (front back idx : List ℕ) (n : ℕ) → length front ≡ n → gathered (front ++ back) (map (λ (j : ℕ). n + j) idx) ≡ gathered back idx

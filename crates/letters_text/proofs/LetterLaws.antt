@@ -12,6 +12,7 @@ use lib.ListN.{length, take, drop, getD, length-map, drop-of-length-le}
 use lib.Seq.{drop-cons, take-length, length-take-le}
 use Rattle.lent.specs.Over.{over}
 use Rattle.lent.proofs.FillLaws.{getD-map}
+use Rattle.lent.proofs.NeverLaws.{never}
 use Rattle.letters_text.specs.declared.Reading.{Reading}
 use Rattle.letters_text.specs.declared.Reading.the-variants.{Long, Bad, Letters}
 use Rattle.letters_text.specs.Letters.{trimmed, isLetter, kindOf, letterOf, kindsOf, firstBad, reading}
@@ -83,7 +84,7 @@ letter-again b e = go (eqb b 100) (eqb b 107) (eqb b 110) refl refl refl e
     go true k n x y z e = sym (eqb-true b 100 x)
     go false true n x y z e = sym (eqb-true b 107 y)
     go false false true x y z e = sym (eqb-true b 110 z)
-    go false false false x y z e = absurd (let o : _≡_ {A = ℕ} 0 1 = cc in omega arith)
+    go false false false x y z e = never (cc)
 
 pub kind-again : (k : ℕ) → k ≤ 2 → kindOf (letterOf k) ≡ k
 unfolding kindOf letterOf
@@ -206,14 +207,14 @@ pub letters-told : (t : List ℕ) (n : ℕ) → reading t ≡ Letters n → AllL
 letters-told t n e = go (reading-of t) e
   where
     go : {r : Reading} → ReadingOf t r → r ≡ Letters n → AllLetters t n
-    go long e = absurd (let z : _≡_ {A = ℕ} 0 1 = cc in omega arith)
-    go (bad h k) e = absurd (let z : _≡_ {A = ℕ} 0 1 = cc in omega arith)
+    go long e = never (cc)
+    go (bad h k) e = never (cc)
     go (letters h k) e = let l : length t ≡ n = cc in record { count = sym l; few = omega arith; letters = omega (arith, bad-le t) }
 
 pub bad-told : (t : List ℕ) (p : ℕ) → reading t ≡ Bad p → BadAt t p
 bad-told t p e = go (reading-of t) e
   where
     go : {r : Reading} → ReadingOf t r → r ≡ Bad p → BadAt t p
-    go long e = absurd (let z : _≡_ {A = ℕ} 0 1 = cc in omega arith)
+    go long e = never (cc)
     go (bad h k) e = let l : firstBad t ≡ p = cc in record { first = sym l; within = omega arith; few = omega arith }
-    go (letters h k) e = absurd (let z : _≡_ {A = ℕ} 0 1 = cc in omega arith)
+    go (letters h k) e = never (cc)

@@ -8,14 +8,15 @@ use borrow.Author.Tests.{lt-ltb, le-ltb, eq-eqb, ne-eqb}
 use lib.Dec.{T}
 use lib.Ieee.{Float, nan, inf, fin, binary64, isNan, ofBits, nanBits}
 use lib.Ieee.Bits.{nanBits-is, nanBits-above}
+use Rattle.lent.proofs.NeverLaws.{never}
 use Rattle.vectors.specs.Case.{numberAt, wordAt, columnWord}
 use Rattle.vectors.specs.Table.{placeAt, entryAt}
 
 only-nan : (x : Float) → isNan x ≡ true → nan ≡ x
 unfolding isNan
 only-nan nan h = refl
-only-nan (inf s) h = absurd (let z : _≡_ {A = ℕ} 0 1 = cc in omega arith)
-only-nan (fin s m e) h = absurd (let z : _≡_ {A = ℕ} 0 1 = cc in omega arith)
+only-nan (inf s) h = never (cc)
+only-nan (fin s m e) h = never (cc)
 
 pub a-nan : (n : ℕ) → 0x7FF0_0000_0000_0000 < n % 0x8000_0000_0000_0000 → nan ≡ ofBits binary64 n
 a-nan n h = only-nan (ofBits binary64 n) (sym (nanBits-is binary64 n) ∙ nanBits-above binary64 n ∙ lt-ltb _ _ h)

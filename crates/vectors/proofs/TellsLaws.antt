@@ -2,21 +2,21 @@
 use mathlib.Core.Path.{_≡_, refl, sym, _∙_, subst}
 use mathlib.Core.Bool.{Bool, true, false, _&&_}
 use Prim.Native.Nat.{ℕ}
-use native.Mathlib.Omega.{arith}
 use borrow.Author.Tests.{eqb-true, eq-eqb}
 use lib.Dec.{eqb}
+use Rattle.lent.proofs.NeverLaws.{never}
 use Rattle.vectors.specs.Held.{Tells}
 
 pub denied : {P : Type 0} → (P → ⊥) → Tells false P
-denied f = (λ e. absurd (let z : _≡_ {A = ℕ} 0 1 = cc in omega arith), λ p. absurd (f p))
+denied f = (λ e. never (cc), λ p. absurd (f p))
 
 pub granted : {P : Type 0} → P → Tells true P
 granted p = (λ e. p, λ q. refl)
 
 pub tells-both : {P Q : Type 0} (a b : Bool) {r : Bool} → r ≡ (a && b) → Tells a P → Tells b Q → Tells r (P × Q)
 tells-both true true e t u = (λ h. (t .0 refl, u .0 refl), λ p. e)
-tells-both true false e t u = (λ h. absurd (let z : _≡_ {A = ℕ} 0 1 = cc in omega arith), λ p. e ∙ u .1 (p .1))
-tells-both false b e t u = (λ h. absurd (let z : _≡_ {A = ℕ} 0 1 = cc in omega arith), λ p. e ∙ t .1 (p .0))
+tells-both true false e t u = (λ h. never (cc), λ p. e ∙ u .1 (p .1))
+tells-both false b e t u = (λ h. never (cc), λ p. e ∙ t .1 (p .0))
 
 pub tells-four : {P Q R S : Type 0} {a b c d ab cd r : Bool} → ab ≡ (a && b) → cd ≡ (c && d) → r ≡ (ab && cd)
     → Tells a P → Tells b Q → Tells c R → Tells d S → Tells r ((P × Q) × (R × S))

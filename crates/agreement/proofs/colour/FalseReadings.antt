@@ -12,7 +12,8 @@ use Rattle.grouping_marks.specs.Marks.{opened, groupCount, groupNumbers, placeB
 use Rattle.grouping_chart.specs.Object.{isNote, notes, noteIdx, noteBefore, previousNote}
 use Rattle.grouping_chart.specs.Chart.{Chart}
 use Rattle.grouping_chart.specs.Settings.{baseSettings}
-use Rattle.grouping_hits.specs.RepeatingHitPatterns.{coupledRun, hitSize, hitMarksAfter, hitMarks, secondAt, secondLengths, matches, nearestMatch, intervalAt, intervals}
+use Rattle.grouping_hits.specs.RepeatingHitPatterns.{coupledRun, hitSize, hitMarksAfter, hitMarks, secondAt, secondLengths, matches}
+use Rattle.grouping_hits.specs.RepeatingHitPatterns.{nearestMatch, intervalAt, intervals}
 use Rattle.grouping_colour.specs.MonoStreak.{continues, opensStreak, streakMarks, streakOf, streakLengths, streakTypes}
 use Rattle.grouping_colour.specs.AlternatingMonoPattern.{opensPattern, patternMarks, coupledAt, coupled}
 use Rattle.grouping_preprocessor.specs.Preprocessor.{patternsOpen, firstLengths, streakCounts, patternTypes, coupledPatterns, hitsOpen, hitSizes, hitFirsts}

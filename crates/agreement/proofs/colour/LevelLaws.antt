@@ -156,7 +156,8 @@ module _ {kinds : List ℕ} {position : ℕ} {marks types : List ℕ} (c : Strea
   first-whole : firstLengths kinds ≡ groupFirsts front-marks before ++ backFirsts marks q
   unfolding front-marks backMarks backFirsts
   first-whole =
-      rw (firstLengths-made kinds, patternsOpen-made kinds, lengths-split) (listed-cut before (backLengths marks q) uneven before (backLengths marks q) refl refl)
+      rw (firstLengths-made kinds, patternsOpen-made kinds, lengths-split)
+      (listed-cut before (backLengths marks q) uneven before (backLengths marks q) refl refl)
 
   counts-whole : streakCounts kinds ≡ groupSizes front-marks ++ groupSizes (backMarks marks q)
   unfolding front-marks backMarks

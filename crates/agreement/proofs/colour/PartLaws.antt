@@ -18,10 +18,12 @@ use Rattle.grouping_hits.proofs.LengthLaws.{length-hitMarks, length-secondLengt
 use Rattle.grouping_hits.proofs.HitCutLaws.{secondLengths-cut}
 use Rattle.grouping_hits.proofs.IntervalCutLaws.{intervals-back}
 use Rattle.grouping_colour.specs.MonoStreak.{streakMarks, streakOf}
-use Rattle.grouping_preprocessor.specs.Preprocessor.{patternsOpen, firstLengths, streakCounts, patternTypes, coupledPatterns, hitsOpen, hitCount, hitSizes, hitFirsts}
+use Rattle.grouping_preprocessor.specs.Preprocessor.{patternsOpen, firstLengths, streakCounts, patternTypes, coupledPatterns}
+use Rattle.grouping_preprocessor.specs.Preprocessor.{hitsOpen, hitCount, hitSizes, hitFirsts}
 use Rattle.grouping_preprocessor.specs.Preprocessor.{hitSeconds, streakPlaceOf, alternatingOf, patternPlaceOf, hitOf, intervalOf}
 use Rattle.grouping_colour.proofs.LengthLaws.{length-streakMarks, length-coupled}
-use Rattle.grouping_preprocessor.proofs.BoundLaws.{length-patternsOpen, length-hitsOpen, streakPlaceOf-looked, alternatingOf-looked, patternPlaceOf-looked, hitOf-looked}
+use Rattle.grouping_preprocessor.proofs.BoundLaws.{length-patternsOpen, length-hitsOpen}
+use Rattle.grouping_preprocessor.proofs.BoundLaws.{streakPlaceOf-looked, alternatingOf-looked, patternPlaceOf-looked, hitOf-looked}
 use Rattle.grouping_preprocessor.proofs.BoundLaws.{intervalOf-looked}
 use Rattle.grouping_colour.proofs.StreakListLaws.{streakOf-made}
 use Rattle.grouping_preprocessor.proofs.MadeLaws.{coupledPatterns-made, hitsOpen-made, hitCount-made, hitSizes-made, hitFirsts-made, hitSeconds-made}

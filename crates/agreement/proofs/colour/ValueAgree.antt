@@ -32,8 +32,8 @@ module _ {limit : ℕ} {kinds : List ℕ} {a g : ℕ} {kinds′ : List ℕ} {b h
   looked-agree : (j : ℕ) → a + j < length kinds → g + limit ≤ getD (hitOf kinds) (a + j) 0 + 1 → StandingAlike limit kinds (a + j) kinds′ (b + j)
   looked-agree j l n = record {
     interval = r .interval j l n;
-    outer = r .pattern-place j l;
-    inner = r .streak-place j l;
+    patternPlace = r .pattern-place j l;
+    streakPlace = r .streak-place j l;
     streak = first-agree (streakOf kinds) (streakOf kinds′) a b j (r .cut .some) (r .cut′ .some) (r .streak-first j l);
     pattern = first-agree (alternatingOf kinds) (alternatingOf kinds′) a b j (r .cut .some) (r .cut′ .some) (r .pattern-first j l);
     hit = first-agree (hitOf kinds) (hitOf kinds′) a b j (r .cut .some) (r .cut′ .some) (r .hit-first j l);

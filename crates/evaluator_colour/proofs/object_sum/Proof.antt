@@ -9,7 +9,7 @@ use Rattle.evaluator_colour.proofs.object_sum.Statement.{statement}
 use Rattle.evaluator_colour.proofs.object_sum.Tie as tie
 
 summed : (o : Standing) {hit alt mono with-mono with-alt r : Float}
-    → hit ≡ hitValue (o .interval) → alt ≡ altValue (o .outer) hit → mono ≡ monoValue (o .inner) alt
+    → hit ≡ hitValue (o .interval) → alt ≡ altValue (o .«pattern_place») hit → mono ≡ monoValue (o .«streak_place») alt
     → with-mono ≡ addIf (o .streak) zero64 mono → with-alt ≡ addIf (o .pattern) with-mono alt → r ≡ addIf (o .hit) with-alt hit → r ≡ objectSum o
 unfolding objectSum
 summed o h a m s p t = cc

@@ -2,7 +2,7 @@
 use Prim.Native.Nat.{_+_, _*_}
 use native.Mathlib.Omega.{arith}
 use lib.ListN.{length}
-use Rattle.evaluator_values.proofs.TablesLaws.{interval-is, outer-is, inner-is}
+use Rattle.evaluator_values.proofs.TablesLaws.{interval-is, pattern-place-is, streak-place-is}
 use Rattle.evaluator_values.proofs.StandingLaws.{start-first, change-first}
 use borrow.Author.Needs.{needs}
 use Rattle.evaluator_values.proofs.standing_at.Statement.{statement}
@@ -22,31 +22,31 @@ cast-interval c =
     let start = c .before .before .before .before in
     omega (arith, c .shared-slice-known3 .given (7 * length (start .args .kind .now) + c .before .numbers-at .result .hit))
 
-add-outer : tie.Need-add-outer
-add-outer c = omega (arith, c .before .numbers-at .ensures, c .before .before .before .before .pre)
+add-pattern-place : tie.Need-add-pattern-place
+add-pattern-place c = omega (arith, c .before .numbers-at .ensures, c .before .before .before .before .pre)
 
-mul-outer-2 : tie.Need-mul-outer-2
-mul-outer-2 c = omega (arith, c .before .numbers-at .ensures, c .before .before .before .before .pre)
+mul-pattern-place-2 : tie.Need-mul-pattern-place-2
+mul-pattern-place-2 c = omega (arith, c .before .numbers-at .ensures, c .before .before .before .before .pre)
 
-shared-slice-read-outer : tie.Need-shared-slice-read-outer
-shared-slice-read-outer c = omega (arith, c .before .before .numbers-at .ensures, c .before .before .before .before .before .pre)
+shared-slice-read-pattern-place : tie.Need-shared-slice-read-pattern-place
+shared-slice-read-pattern-place c = omega (arith, c .before .before .numbers-at .ensures, c .before .before .before .before .before .pre)
 
-cast-outer : tie.Need-cast-outer
-cast-outer c =
+cast-pattern-place : tie.Need-cast-pattern-place
+cast-pattern-place c =
     let start = c .before .before .before .before .before in
     omega (arith, c .shared-slice-known4 .given (2 * length (start .args .kind .now) + c .before .before .numbers-at .result .pattern))
 
-add-inner : tie.Need-add-inner
-add-inner c = omega (arith, c .before .before .numbers-at .ensures, c .before .before .before .before .before .pre)
+add-streak-place : tie.Need-add-streak-place
+add-streak-place c = omega (arith, c .before .before .numbers-at .ensures, c .before .before .before .before .before .pre)
 
-mul-inner-2 : tie.Need-mul-inner-2
-mul-inner-2 c = omega (arith, c .before .before .numbers-at .ensures, c .before .before .before .before .before .pre)
+mul-streak-place-2 : tie.Need-mul-streak-place-2
+mul-streak-place-2 c = omega (arith, c .before .before .numbers-at .ensures, c .before .before .before .before .before .pre)
 
-shared-slice-read-inner : tie.Need-shared-slice-read-inner
-shared-slice-read-inner c = omega (arith, c .before .before .before .numbers-at .ensures, c .before .before .before .before .before .before .pre)
+shared-slice-read-streak-place : tie.Need-shared-slice-read-streak-place
+shared-slice-read-streak-place c = omega (arith, c .before .before .before .numbers-at .ensures, c .before .before .before .before .before .before .pre)
 
-cast-inner : tie.Need-cast-inner
-cast-inner c =
+cast-streak-place : tie.Need-cast-streak-place
+cast-streak-place c =
     let start = c .before .before .before .before .before .before in
     omega (arith, c .shared-slice-known5 .given (4 * length (start .args .kind .now) + c .before .before .before .numbers-at .result .streak))
 
@@ -57,8 +57,8 @@ returns c =
     let a = after-numbers .numbers-at .ensures in
     record {
       interval = interval-is (start .pre) a;
-      outer = outer-is (start .pre) a;
-      inner = inner-is (start .pre) a;
+      patternPlace = pattern-place-is (start .pre) a;
+      streakPlace = streak-place-is (start .pre) a;
       streak = start-first _ _ (c .if1 .taken);
       pattern = start-first _ _ (c .if1 .taken);
       hit = start-first _ _ (c .if1 .taken);
@@ -73,8 +73,8 @@ returns-2 c =
     let b = c .before .before .before .numbers-at2 .ensures in
     record {
       interval = interval-is (start .pre) a;
-      outer = outer-is (start .pre) a;
-      inner = inner-is (start .pre) a;
+      patternPlace = pattern-place-is (start .pre) a;
+      streakPlace = streak-place-is (start .pre) a;
       streak = change-first _ _ _ _ (later .if1 .left) (a .streaks) (b .streaks);
       pattern = change-first _ _ _ _ (later .if1 .left) (a .patterns) (b .patterns);
       hit = change-first _ _ _ _ (later .if1 .left) (a .hits) (b .hits);
@@ -91,15 +91,15 @@ standing-at-spec =
     shared-slice-read-interval
     cast-interval
     (λ c. search needs)
-    add-outer
-    mul-outer-2
-    shared-slice-read-outer
-    cast-outer
+    add-pattern-place
+    mul-pattern-place-2
+    shared-slice-read-pattern-place
+    cast-pattern-place
     (λ c. search needs)
-    add-inner
-    mul-inner-2
-    shared-slice-read-inner
-    cast-inner
+    add-streak-place
+    mul-streak-place-2
+    shared-slice-read-streak-place
+    cast-streak-place
     returns
     (λ c. search needs)
     (λ c κs. search needs)

@@ -35,8 +35,8 @@ pub record NumbersAt (kinds : List ℕ) (k : Levels) (i : ℕ) (r : Numbers) : T
 -- how the object stands in its groups is as the definition has it under the search limit
 pub record StandingIs (limit : ℕ) (kinds : List ℕ) (i : ℕ) (r : Standing) : Type 0 where
   pub interval : r .interval ≡ getD (intervalOf limit kinds) i 0
-  pub outer : r .outer ≡ getD (patternPlaceOf kinds) i 0
-  pub inner : r .inner ≡ getD (streakPlaceOf kinds) i 0
+  pub patternPlace : r .«pattern_place» ≡ getD (patternPlaceOf kinds) i 0
+  pub streakPlace : r .«streak_place» ≡ getD (streakPlaceOf kinds) i 0
   pub streak : r .streak ≡ isFirst (streakOf kinds) i
   pub pattern : r .pattern ≡ isFirst (alternatingOf kinds) i
   pub hit : r .hit ≡ isFirst (hitOf kinds) i

@@ -1,7 +1,7 @@
 -- What the walk over the groups' own intervals asks and leaves. The deltas are lent, and each group's are put in order
 -- when it is reached.
 use mathlib.Core.Path.{_≡_}
-use Prim.Native.Nat.{ℕ, zero, suc, _+_, _-_, _≤_, _<_}
+use Prim.Native.Nat.{ℕ, zero, suc, _-_, _≤_, _<_}
 use mathlib.Core.List.{List, [], _∷_, _++_}
 use lib.ListN.{length, getD}
 use lib.Ieee.{Float}

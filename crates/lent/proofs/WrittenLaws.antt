@@ -1,11 +1,11 @@
--- Lists written one after the other, all before one place: what lies from there on is as it was. For crates above this one too.
+-- Lists written one after the other, all before one place: what lies from there on is as it was.
 use mathlib.Core.Path.{_≡_, refl, _∙_}
 use mathlib.Core.List.{List, [], _∷_}
 use Prim.Native.Nat.{ℕ, _+_, _≤_}
 use native.Mathlib.Omega.{arith}
 use lib.ListN.{length, drop}
 use Rattle.lent.specs.Over.{put, Write, written}
 use Rattle.lent.proofs.OverLaws.{length-put, drop-put}
 
 -- every one of them ends at place b or before
 abbrev pub Ends : {A : Type 0} → ℕ → List (Write A) → Type 0
