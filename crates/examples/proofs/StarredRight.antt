@@ -18,11 +18,13 @@ use Rattle.grouping_chart.specs.Chart.{equallyLong}
 use Rattle.grouping_chart.specs.Room.{anyShort, shortRefusal}
 use Rattle.grouping_chart.specs.Outcome.{answered}
 use Rattle.grouping_chart.specs.Refusal.{timeGood, ratioGood, objectRefusal, firstRefused, verdict}
-use Rattle.grouping_hits.specs.RepeatingHitPatterns.{coupledRun, hitSize, hitMarksAfter, hitMarks, secondAt, secondLengths, matches, nearestMatch, intervalAt, intervals}
+use Rattle.grouping_hits.specs.RepeatingHitPatterns.{coupledRun, hitSize, hitMarksAfter, hitMarks, secondAt, secondLengths, matches, nearestMatch, intervalAt}
+use Rattle.grouping_hits.specs.RepeatingHitPatterns.{intervals}
 use Rattle.grouping_colour.specs.MonoStreak.{continues, opensStreak, streakMarks, streakOf, streakLengths, streakTypes}
 use Rattle.grouping_colour.specs.AlternatingMonoPattern.{opensPattern, patternMarks, coupledAt, coupled}
 use Rattle.grouping_preprocessor.specs.Preprocessor.{patternsOpen, firstLengths, streakCounts, patternTypes, coupledPatterns, hitsOpen, hitCount}
-use Rattle.grouping_preprocessor.specs.Preprocessor.{hitSizes, hitFirsts, hitSeconds, hitIntervals, streakPlaceOf, alternatingOf, patternPlaceOf, hitOf, intervalOf}
+use Rattle.grouping_preprocessor.specs.Preprocessor.{hitSizes, hitFirsts, hitSeconds, hitIntervals, streakPlaceOf, alternatingOf, patternPlaceOf, hitOf}
+use Rattle.grouping_preprocessor.specs.Preprocessor.{intervalOf}
 use Rattle.call_encode.specs.Encode as encode
 use Rattle.numeric_sort.specs.Ordered.{insert, ordered}
 use Rattle.grouping_normalizer.specs.Normalizer.{alike, unrepeated, distinct, setsAfter, sets, holds, middle, middleOf, normalOf, normalized}

@@ -1,4 +1,5 @@
--- Refusals 1 to 7 and the order of their tests (scope: "Refused by number"): 1, 2, what is refused beside the chart, then
+-- Refusals 1 to 7 and the order of their tests (scope: "Refused by number"): 1, 2, what is refused beside the chart,
+-- then
 -- 4 to 7 for one object after another. Room.antt alone says which number is refused beside the chart, and when. A
 -- refusal has a number and a place: the object's for 4 to 7, else 0.
 use Prim.Native.Nat.{ℕ, _+_}

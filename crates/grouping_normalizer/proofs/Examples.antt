@@ -43,7 +43,8 @@ examples =
 
 -- every list comes out as it says
 examples-right : map (λ (e : Example). bits (normalized margin (e .deltas))) examples ≡ map (λ (e : Example). e .normal) examples
-unfolding examples margin whole bits normalized normalOf middleOf middle holds sets setsAfter distinct unrepeated alike ordered insert totalOrder isNear absOf add sub div le lt eq ofInt toBits round
+unfolding examples margin whole bits normalized normalOf middleOf middle holds sets setsAfter distinct unrepeated alike ordered insert totalOrder isNear absOf
+    add sub div le lt eq ofInt toBits round
 examples-right = refl
 
 -- 102.5 is as near to 102 as to 103: the even one

@@ -13,7 +13,9 @@ use Rattle.grouping_marks.proofs.MarksLaws.{numbers-below, length-sizes, length
 use Rattle.grouping_hits.proofs.LengthLaws.{length-hitMarks}
 use Rattle.grouping_hits.proofs.RangeLaws.{interval-range, interval-byte}
 use Rattle.grouping_colour.specs.MonoStreak.{streakMarks, streakOf, streakLengths}
-use Rattle.grouping_preprocessor.specs.Preprocessor.{patternsOpen, firstLengths, streakCounts, patternTypes, coupledPatterns, hitsOpen, hitCount, hitSizes, hitFirsts, hitSeconds, hitIntervals, streakPlaceOf, alternatingOf, patternPlaceOf, hitOf, intervalOf}
+use Rattle.grouping_preprocessor.specs.Preprocessor.{patternsOpen, firstLengths, streakCounts, patternTypes, coupledPatterns, hitsOpen, hitCount}
+use Rattle.grouping_preprocessor.specs.Preprocessor.{hitSizes, hitFirsts, hitSeconds, hitIntervals, streakPlaceOf, alternatingOf, patternPlaceOf, hitOf}
+use Rattle.grouping_preprocessor.specs.Preprocessor.{intervalOf}
 use Rattle.grouping_colour.proofs.LengthLaws.{length-patternMarks, length-coupled}
 use Rattle.grouping_colour.proofs.StreakListLaws.{length-streakOf, length-streakLengths, streak-below}
 

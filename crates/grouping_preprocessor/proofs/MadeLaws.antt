@@ -6,7 +6,8 @@ use Rattle.grouping_marks.specs.Marks.{groupCount, groupSizes, groupFirsts}
 use Rattle.grouping_hits.specs.RepeatingHitPatterns.{hitMarks, secondLengths, intervals}
 use Rattle.grouping_colour.specs.MonoStreak.{streakLengths, streakTypes}
 use Rattle.grouping_colour.specs.AlternatingMonoPattern.{patternMarks, coupled}
-use Rattle.grouping_preprocessor.specs.Preprocessor.{patternsOpen, firstLengths, streakCounts, patternTypes, coupledPatterns, hitsOpen, hitCount, hitSizes, hitFirsts, hitSeconds, hitIntervals}
+use Rattle.grouping_preprocessor.specs.Preprocessor.{patternsOpen, firstLengths, streakCounts, patternTypes, coupledPatterns, hitsOpen, hitCount}
+use Rattle.grouping_preprocessor.specs.Preprocessor.{hitSizes, hitFirsts, hitSeconds, hitIntervals}
 
 module _ (kinds : List ℕ) where
   pub patternsOpen-made : patternsOpen kinds ≡ patternMarks (streakLengths kinds)
