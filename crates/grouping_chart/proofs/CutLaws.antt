@@ -1,11 +1,10 @@
 -- A chart cut in two: its notes are those of the front and those of the back, and a note's number counts the notes before it.
-use mathlib.Core.Path.{_≡_, refl, sym, ap, _∙_}
-use mathlib.Core.Bool.{Bool, true, false, cond}
-use mathlib.Core.List.{List, [], _∷_, _++_}
+use mathlib.Core.Path.{_≡_, sym, ap, _∙_}
+use mathlib.Core.Bool.{true}
+use mathlib.Core.List.{List}
 use Prim.Native.Nat.{ℕ, _+_}
 use native.Mathlib.Omega.{arith}
 use lib.ListN.{length, take, drop, getD, length-append, take-append-drop}
-use lib.Ieee.{Float}
 use Rattle.grouping_chart.specs.Object.{isNote, notes, noteIdx}
 use Rattle.grouping_chart.proofs.ObjectLaws.{notes-append}
 

@@ -4,7 +4,6 @@ use Prim.Native.Nat.{ℕ}
 use Rattle.grouping_chart.specs.declared.object.ObjectIndex.{ObjectIndex}
 use Rattle.grouping_chart.specs.declared.chart.Verdict.{Verdict}
 use Rattle.grouping_chart.specs.declared.chart.Verdict.the-variants.{Accepted, Refused}
-use Rattle.lent.specs.Slice.{lent}
 
 pub record Outcome (Answer Memory : Type 0) : Type 0 where
   pub answer : Answer

@@ -10,7 +10,7 @@ use native.Mathlib.Omega.{arith}
 use lib.IntN.{ℤ}
 use lib.Dec.{T, ltb, eqb, ltb→lt, lt→ltb, eqb→eq}
 use lib.Pow.{pow-pos}
-use lib.Ieee.{Float, fin, binary64, low, up, down, fits, le, below, level, round, sum, add}
+use lib.Ieee.{fin, binary64, low, up, down, fits, le, below, level, round, sum, add}
 use lib.Ieee.Fits.{and-l, and-r, down-pos}
 use lib.Ieee.Scale.{round-same}
 use Rattle.numeric.proofs.Tests.{or-split, same-test}
