@@ -9,6 +9,18 @@ pub fn root() -> PathBuf {
     Path::new(env!("CARGO_MANIFEST_DIR")).join("../..")
 }
 
+/// The files of a folder and of the folders in it.
+pub fn files_in(folder: &Path) -> Vec<PathBuf> {
+    let entries = fs::read_dir(folder).into_iter().flatten().flatten();
+    let paths = entries.map(|entry| entry.path());
+    paths
+        .flat_map(|path| match path.is_dir() {
+            true => files_in(&path),
+            false => vec![path],
+        })
+        .collect()
+}
+
 /// A path as documents write it: from the repository's root, from crates/, or a folder that crates have.
 pub fn found(path: &str) -> Option<PathBuf> {
     let folders = ["", "crates", "crates/numeric"].map(|folder| root().join(folder));

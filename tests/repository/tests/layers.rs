@@ -5,7 +5,7 @@ use std::collections::BTreeMap;
 use std::fs;
 use std::path::{Path, PathBuf};
 
-use repository_tests::root;
+use repository_tests::{files_in, root};
 
 /// Files of examples and counterexamples: there definitions compute, so they are opened.
 const COMPUTED: [&str; 5] = [
@@ -15,17 +15,6 @@ const COMPUTED: [&str; 5] = [
     "FalseReadings.antt",
     "WiderLandmarks.antt",
 ];
-
-fn files_in(folder: &Path) -> Vec<PathBuf> {
-    let entries = fs::read_dir(folder).into_iter().flatten().flatten();
-    let paths = entries.map(|entry| entry.path());
-    paths
-        .flat_map(|path| match path.is_dir() {
-            true => files_in(&path),
-            false => vec![path],
-        })
-        .collect()
-}
 
 /// What a file names of other crates' definitions: `use Rattle.CRATE.specs.FILE.{a, b}`, or a name for all of a file.
 fn named_of_others(text: &str) -> BTreeMap<String, String> {
