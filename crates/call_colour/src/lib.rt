@@ -40,7 +40,7 @@ fn fill_chart(
     ensures { λ r. ⌜ after value work scratch ≡ filled s (lent kind) (lent ratio) (before value work scratch) ⌝ }
 {
     let n = kind.len();
-    let k = grouping_preprocessor::encode_colors(kind, work, s.limit as u16);
+    let k = grouping_preprocessor::encode_levels(kind, work, s.limit as u16);
     let table = numeric::logistic::table();
     evaluator_values::fill_values(&table, kind, ratio, work, k, s.tolerance, value);
     fill::clear(work, 8 * n);

@@ -80,7 +80,7 @@ pub fn encode_kinds(
         (kindsMemory left streak «streak_place» pattern «pattern_place» hit interval work) ⌝ }
 {
     let n = kind.len();
-    let k = grouping_preprocessor::encode_colors(kind, work, limit);
+    let k = grouping_preprocessor::encode_levels(kind, work, limit);
     spread_patterns(n, k, work, streak, streak_place, pattern);
     spread_hits(n, k, work, pattern, pattern_place, hit, interval);
     fill::clear(work, 8 * n);

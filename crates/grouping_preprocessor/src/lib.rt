@@ -72,7 +72,7 @@ fn find_hits(w: &mut [u16], n: usize, p: usize, limit: u16) -> usize
 }
 
 // Finds all levels. Their tables are in the work slice, in eight regions of n places.
-pub fn encode_colors(kind: &[u8], w: &mut [u16], limit: u16) -> Levels
+pub fn encode_levels(kind: &[u8], w: &mut [u16], limit: u16) -> Levels
     requires { ⌜ Regions (length (now kind)) (now w) ⌝ ∗ ⌜ 1 ≤ limit ⌝ ∗ ⌜ limit < 65535 ⌝ }
     ensures { λ r. ⌜ Encodes limit (now (kind .entry)) (now (w .entry)) (now (w .exit)) r ⌝ }
 {

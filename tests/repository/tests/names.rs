@@ -5,12 +5,13 @@ use std::fs;
 
 use repository_tests::{declaration, found, has_name, named, root, tree_words, Named};
 
-const DOCUMENTS: [&str; 8] = [
+const DOCUMENTS: [&str; 9] = [
     "README.md",
     "CONTRIBUTING.md",
     "docs/GUIDE.md",
     "docs/PROOFS.md",
     "docs/SPEED.md",
+    "docs/CHECKS.md",
     "docs/SCOPE.md",
     "docs/DECISIONS.md",
     "docs/DIFFERENCES.md",

@@ -6,10 +6,10 @@ use Rattle.call_encode.proofs.encode_kinds.Statement.{statement}
 use Rattle.call_encode.proofs.encode_kinds.Tie as tie
 
 -- the three places that the needs go back to: the entry, the tables made, the first three answers given
-abbrev start : tie.After-encode-colors → tie.Start
+abbrev start : tie.After-encode-levels → tie.Start
 start c = c .before .before .before .before .before .before .before .before .before .before
 
-abbrev made : tie.After-spread-patterns → tie.After-encode-colors
+abbrev made : tie.After-spread-patterns → tie.After-encode-levels
 made c = c .before .before .before .before .before .before .before
 
 abbrev given : tie.After-spread-hits → tie.After-spread-patterns
@@ -18,13 +18,13 @@ given c = c .before .before .before .before .before .before .before .before .bef
 spread-patterns-requires : tie.Need-spread-patterns-requires
 spread-patterns-requires c κs =
     let t = c .before .before .before .before .before .before in
-    patterns-room (t .encode-colors .ensures .tables) (start t .pre)
+    patterns-room (t .encode-levels .ensures .tables) (start t .pre)
 
 spread-hits-requires : tie.Need-spread-hits-requires
 spread-hits-requires c κs =
     let g = c .before .before .before .before .before .before .before .before .before .before .before in
     let t = made g in
-    hits-room (t .encode-colors .ensures .tables) (start t .pre) (g .spread-patterns .ensures) (g .spread-patterns .kept .1 .1 .1 .1 .1 .0)
+    hits-room (t .encode-levels .ensures .tables) (start t .pre) (g .spread-patterns .ensures) (g .spread-patterns .kept .1 .1 .1 .1 .1 .0)
 
 mul-clear : tie.Need-mul-clear
 mul-clear c =
@@ -34,14 +34,14 @@ mul-clear c =
 clear-requires : tie.Need-clear-requires
 clear-requires c κs =
     let t = made (given (c .before .before .before .before .before .before .before)) in
-    omega (arith, start t .pre, t .encode-colors .ensures .tables .outside)
+    omega (arith, start t .pre, t .encode-levels .ensures .tables .outside)
 
 returns : tie.Need-returns
 returns c =
     let h = c .before .before .before .before .before .before .before .before .before .before in
     let g = given h in
     let t = made g in
-    encoded (t .encode-colors .ensures .tables) (start t .pre) (g .spread-patterns .ensures) (h .spread-hits .ensures) (c .before .before .clear .ensures)
+    encoded (t .encode-levels .ensures .tables) (start t .pre) (g .spread-patterns .ensures) (h .spread-hits .ensures) (c .before .before .clear .ensures)
 
 pub encode-kinds-spec : {M : Type 1} → statement M
 encode-kinds-spec =

@@ -1,9 +1,9 @@
--- `encode_colors` meets its contract, by what its calls ensure.
+-- `encode_levels` meets its contract, by what its calls ensure.
 use Rattle.grouping_preprocessor.proofs.ComposeLaws.{encoded}
 use native.Mathlib.Omega.{arith}
 use borrow.Author.Needs.{needs}
-use Rattle.grouping_preprocessor.proofs.encode_colors.Statement.{statement}
-use Rattle.grouping_preprocessor.proofs.encode_colors.Tie as tie
+use Rattle.grouping_preprocessor.proofs.encode_levels.Statement.{statement}
+use Rattle.grouping_preprocessor.proofs.encode_levels.Tie as tie
 
 returns : tie.Need-returns
 returns c =
@@ -12,7 +12,7 @@ returns c =
     let streaked = patterned .before .before .before .before in
     encoded _ _ _ _ _ _ _ _ _ (streaked .find-streaks .ensures) (patterned .find-patterns .ensures) (found .find-hits .ensures)
 
-pub encode-colors-spec : {M : Type 1} → statement M
-encode-colors-spec =
+pub encode-levels-spec : {M : Type 1} → statement M
+encode-levels-spec =
     tie.close
     (tie.spec (λ c κs. search needs) (λ c κs. search needs) (λ c κs. search needs) (λ c. omega arith) returns)
