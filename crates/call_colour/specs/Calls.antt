@@ -11,7 +11,7 @@ use denote.Ref.{now}
 use Rattle.lent.specs.Over.{over}
 use Rattle.grouping_chart.specs.Chart.{Chart, size}
 use Rattle.grouping_chart.specs.Refusal.{verdict, refused}
-use Rattle.grouping_chart.specs.Room.{beside}
+use Rattle.grouping_chart.specs.Room.{refusalBeside}
 use Rattle.grouping_chart.specs.Outcome.{Outcome, outcome, answered}
 use Rattle.lent.specs.Slice.{Held, Slice, lent, left}
 use Rattle.grouping_chart.specs.declared.chart.Verdict.{Verdict}
@@ -56,7 +56,7 @@ abbrev pub places : Memory → List ℕ
 places m = length (m .value) ∷ []
 
 abbrev pub judged : Chart → Memory → Verdict
-judged c m = verdict c (beside (size c) (places m) (length (m .work)) (length (m .scratch)))
+judged c m = verdict c (refusalBeside (size c) (places m) (length (m .work)) (length (m .scratch)))
 
 -- the memory after an accepted call, by the chart's kinds and ratios
 unfoldable pub filled : Settings → List ℕ → List Float → Memory → Memory

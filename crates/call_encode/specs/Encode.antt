@@ -8,7 +8,7 @@ use denote.Ref.{now}
 use Rattle.lent.specs.Over.{over}
 use Rattle.grouping_chart.specs.Chart.{Chart, size}
 use Rattle.grouping_chart.specs.Refusal.{verdict}
-use Rattle.grouping_chart.specs.Room.{beside}
+use Rattle.grouping_chart.specs.Room.{refusalBeside}
 use Rattle.grouping_chart.specs.Outcome.{Outcome, outcome, answered}
 use Rattle.lent.specs.Slice.{Held, Slice, lent, left}
 use Rattle.grouping_chart.specs.Settings.{Settings}
@@ -64,7 +64,7 @@ places m =
     ∷ length (m .interval) ∷ []
 
 abbrev pub judged : Chart → Memory → Verdict
-judged c m = verdict c (beside (size c) (places m) (length (m .work)) (length (m .scratch)))
+judged c m = verdict c (refusalBeside (size c) (places m) (length (m .work)) (length (m .scratch)))
 
 -- the memory after an accepted call: the answers in the first n places, 0 and +0.0 in the first 8 n and n places of the
 -- work slices, old contents elsewhere

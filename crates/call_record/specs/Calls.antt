@@ -12,7 +12,7 @@ use Rattle.numeric.specs.Range.{within}
 use Rattle.lent.specs.Over.{over}
 use Rattle.grouping_chart.specs.Chart.{Chart, size}
 use Rattle.grouping_chart.specs.Refusal.{verdict, refused}
-use Rattle.grouping_chart.specs.Room.{beside}
+use Rattle.grouping_chart.specs.Room.{refusalBeside}
 use Rattle.grouping_chart.specs.Outcome.{Outcome, outcome, answered}
 use Rattle.lent.specs.Slice.{Held, Slice, lent, left}
 use Rattle.grouping_chart.specs.Settings.{Settings}
@@ -51,7 +51,7 @@ abbrev pub places : Memory → List ℕ
 places m = []
 
 abbrev pub judged : Chart → Memory → Verdict
-judged c m = verdict c (beside (size c) (places m) (length (m .work)) (length (m .scratch)))
+judged c m = verdict c (refusalBeside (size c) (places m) (length (m .work)) (length (m .scratch)))
 
 -- the memory after an accepted call
 unfoldable pub cleared : ℕ → Memory → Memory

@@ -12,7 +12,7 @@ use Rattle.grouping_marks.specs.Marks.{groupCount, groupNumbers}
 use Rattle.grouping_chart.specs.Object.{isNote, notes, noteIdx}
 use Rattle.grouping_chart.specs.Chart.{Chart, size}
 use Rattle.grouping_chart.specs.Refusal.{verdict}
-use Rattle.grouping_chart.specs.Room.{beside}
+use Rattle.grouping_chart.specs.Room.{refusalBeside}
 use Rattle.grouping_chart.specs.Outcome.{Outcome, outcome, answered}
 use Rattle.lent.specs.Slice.{Held, Slice, lent, left}
 use Rattle.grouping_chart.specs.Settings.{Settings}
@@ -95,7 +95,7 @@ abbrev pub places : Memory → List ℕ
 places m = length (m .group) ∷ length (m .pattern) ∷ []
 
 abbrev pub judged : Chart → Memory → Verdict
-judged c m = verdict c (beside (size c) (places m) (length (m .work)) (length (m .scratch)))
+judged c m = verdict c (refusalBeside (size c) (places m) (length (m .work)) (length (m .scratch)))
 
 -- the memory after an accepted call, by the chart's kinds, starts and deltas
 unfoldable pub filled : Settings → List ℕ → List Float → List Float → Memory → Memory

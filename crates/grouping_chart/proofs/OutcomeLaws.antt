@@ -5,7 +5,7 @@ use mathlib.Core.List.{List}
 use Prim.Native.Nat.{ℕ, _*_, _≤_}
 use Rattle.grouping_chart.specs.Chart.{Chart, size}
 use Rattle.grouping_chart.specs.Refusal.{verdict}
-use Rattle.grouping_chart.specs.Room.{anyShort, shortRefusal, beside}
+use Rattle.grouping_chart.specs.Room.{anyShort, shortRefusal, refusalBeside}
 use Rattle.grouping_chart.specs.Outcome.{Outcome, outcome, answered}
 use Rattle.grouping_chart.specs.declared.object.ObjectIndex.{ObjectIndex}
 use Rattle.grouping_chart.specs.declared.chart.Verdict.{Verdict}
@@ -15,17 +15,17 @@ use Rattle.grouping_chart.proofs.RoomLaws.{AllLong, roomy, all-long}
 
 -- from whether an answer slice is short, and what `judge` answered
 pub verdict-judged : (c : Chart) (answers : List ℕ) (work scratch : ℕ) {short : Bool} {v u : Verdict} → short ≡ anyShort (size c) answers
-    → v ≡ verdict c (shortRefusal short (size c) work scratch) → v ≡ u → verdict c (beside (size c) answers work scratch) ≡ u
+    → v ≡ verdict c (shortRefusal short (size c) work scratch) → v ≡ u → verdict c (refusalBeside (size c) answers work scratch) ≡ u
 verdict-judged c answers work scratch e f g = sym (ap (λ (short : Bool). verdict c (shortRefusal short (size c) work scratch)) e) ∙ sym f ∙ g
 
 -- an accepted call: its chart is good, and every slice has room for its objects
 pub record Accommodated (c : Chart) (answers : List ℕ) (work scratch : ℕ) : Type 0 where
-  pub chart : GoodChart c (beside (size c) answers work scratch)
+  pub chart : GoodChart c (refusalBeside (size c) answers work scratch)
   pub long : AllLong (size c) answers
   pub regions : 8 * size c ≤ work
   pub floats : size c ≤ scratch
 
-pub accommodated : (c : Chart) (answers : List ℕ) (work scratch : ℕ) → verdict c (beside (size c) answers work scratch) ≡ Accepted
+pub accommodated : (c : Chart) (answers : List ℕ) (work scratch : ℕ) → verdict c (refusalBeside (size c) answers work scratch) ≡ Accepted
     → Accommodated c answers work scratch
 accommodated c answers work scratch h =
     let good = accepted-good c _ h in

@@ -18,5 +18,5 @@ shortRefusal answers n work scratch = cond (answers || (ltb work (8 * n) || ltb 
 
 -- the number of what is refused beside the chart, or 0, by how many places each answer slice, the work and the
 -- scratch slice have
-abbrev pub beside : ℕ → List ℕ → ℕ → ℕ → ℕ
-beside n answers work scratch = shortRefusal (anyShort n answers) n work scratch
+abbrev pub refusalBeside : ℕ → List ℕ → ℕ → ℕ → ℕ
+refusalBeside n answers work scratch = shortRefusal (anyShort n answers) n work scratch

@@ -19,7 +19,8 @@ use Rattle.grouping_colour.specs.AlternatingMonoPattern.{opensPattern, patternM
 use Rattle.grouping_preprocessor.specs.Preprocessor.{patternsOpen, firstLengths, streakCounts, patternTypes, coupledPatterns, hitsOpen, hitSizes, hitFirsts}
 use Rattle.grouping_preprocessor.specs.Preprocessor.{hitSeconds, hitIntervals, alternatingOf, hitOf, intervalOf}
 use Rattle.agreement.specs.Tests.{allTrue, anyBelow}
-use Rattle.agreement.specs.colour.LandmarkTest.{Levels, levelsOf, Conditions, tailNoteBefore, objectServes, streakServes, patternServes, plain, endsAt}
+use Rattle.agreement.specs.colour.LandmarkTest.{LevelLists, levelsOf, Conditions, tailNoteBefore, objectServes, streakServes, patternServes, plain}
+use Rattle.agreement.specs.colour.LandmarkTest.{endsAt}
 use Rattle.agreement.specs.colour.LandmarkTest.{patternFound, streakFound, landmarkFound, isLandmark}
 use Rattle.agreement.proofs.Readings.{ClaimFrom, opensThere, refutes, refuted}
 use Rattle.agreement.proofs.colour.LandmarkLaws.{test-landmark}
@@ -36,11 +37,11 @@ plain-holds xs ys t i i′ s c e = same-hits baseSettings (kinds-only xs) (kinds
 -- ---- weaker conditions
 
 -- (a) an object of the tail before the object, no note
-unfoldable objectBefore : Levels → ℕ → ℕ → Bool
+unfoldable objectBefore : LevelLists → ℕ → ℕ → Bool
 objectBefore l m object = allTrue (eqb (getD (l .marks) object 0) 1 ∷ anyBelow object (λ (other : ℕ). leb (length (l .kinds)) (other + m)) ∷ [])
 
 -- (a) an object of the tail, with a note before it that may stand before the tail
-unfoldable noteAnywhere : Levels → ℕ → ℕ → Bool
+unfoldable noteAnywhere : LevelLists → ℕ → ℕ → Bool
 noteAnywhere l m object =
     allTrue (eqb (getD (l .marks) object 0) 1
     ∷ leb (length (l .kinds)) (object + m)
@@ -48,7 +49,7 @@ noteAnywhere l m object =
     ∷ [])
 
 -- (b) only the second of the two streaks at or after the object
-unfoldable secondAfter : Levels → ℕ → ℕ → Bool
+unfoldable secondAfter : LevelLists → ℕ → ℕ → Bool
 secondAfter l object streak =
     allTrue (leb (getD (l .streaks) object 0) (streak + 1)
     ∷ ltb (streak + 1) (groupCount (l .marks))
@@ -57,11 +58,11 @@ secondAfter l object streak =
     ∷ [])
 
 -- (b) two streaks of any lengths, and so the second may open no pattern
-unfoldable anyLengths : Levels → ℕ → ℕ → Bool
+unfoldable anyLengths : LevelLists → ℕ → ℕ → Bool
 anyLengths l object streak = allTrue (leb (getD (l .streaks) object 0) streak ∷ ltb (streak + 1) (groupCount (l .marks)) ∷ [])
 
 -- (c) from the pattern before the opened one on
-unfoldable patternEarlier : Levels → ℕ → ℕ → Bool
+unfoldable patternEarlier : LevelLists → ℕ → ℕ → Bool
 patternEarlier l streak pattern =
     allTrue (leb (getD (l .patterns) (streak + 1) 0) (pattern + 1)
     ∷ ltb (pattern + 1) (groupCount (l .opens))
@@ -70,7 +71,7 @@ patternEarlier l streak pattern =
     ∷ [])
 
 -- (c) one uncoupled pattern, with the landmark just after it
-unfoldable oneUncoupled : Levels → ℕ → ℕ → Bool
+unfoldable oneUncoupled : LevelLists → ℕ → ℕ → Bool
 oneUncoupled l streak pattern =
     allTrue (leb (getD (l .patterns) (streak + 1) 0) (pattern + 1)
     ∷ ltb (pattern + 1) (groupCount (l .opens))
@@ -78,7 +79,7 @@ oneUncoupled l streak pattern =
     ∷ [])
 
 -- (c) one uncoupled pattern, with the landmark just after the next
-unfoldable oneThenNext : Levels → ℕ → ℕ → Bool
+unfoldable oneThenNext : LevelLists → ℕ → ℕ → Bool
 oneThenNext l streak pattern =
     allTrue (leb (getD (l .patterns) (streak + 1) 0) pattern
     ∷ ltb (pattern + 1) (groupCount (l .opens))
@@ -87,13 +88,13 @@ oneThenNext l streak pattern =
 
 -- ---- the scope's conditions with one of them weaker
 
-abbrev withObject : (Levels → ℕ → ℕ → Bool) → Conditions
+abbrev withObject : (LevelLists → ℕ → ℕ → Bool) → Conditions
 withObject condition = record { object = condition; streak = streakServes; pattern = patternServes }
 
-abbrev withStreak : (Levels → ℕ → ℕ → Bool) → Conditions
+abbrev withStreak : (LevelLists → ℕ → ℕ → Bool) → Conditions
 withStreak condition = record { object = objectServes; streak = condition; pattern = patternServes }
 
-abbrev withPattern : (Levels → ℕ → ℕ → Bool) → Conditions
+abbrev withPattern : (LevelLists → ℕ → ℕ → Bool) → Conditions
 withPattern condition = record { object = objectServes; streak = streakServes; pattern = condition }
 
 -- what stands before the one tail, what stands before the other, the tail, and the offset in it at which the weaker landmark is

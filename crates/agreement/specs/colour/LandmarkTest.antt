@@ -12,7 +12,7 @@ use Rattle.grouping_preprocessor.specs.Preprocessor.{patternsOpen, coupledPatte
 use Rattle.agreement.specs.Tests.{allTrue, anyBelow}
 
 -- the lists that a landmark is read from
-pub record Levels : Type 0 where
+pub record LevelLists : Type 0 where
   pub kinds : List ℕ
   -- which objects open a streak, each object's streak, each streak's length
   pub marks : List ℕ
@@ -24,7 +24,7 @@ pub record Levels : Type 0 where
   pub flags : List ℕ
   pub object-patterns : List ℕ
 
-unfoldable pub levelsOf : List ℕ → Levels
+unfoldable pub levelsOf : List ℕ → LevelLists
 levelsOf kinds = record {
   kinds = kinds;
   marks = streakMarks kinds;
@@ -39,19 +39,19 @@ levelsOf kinds = record {
 -- what makes an object serve for (a), where the last m objects are the tail; a streak for (b), by that object; a
 -- pattern for (c), by that streak
 pub record Conditions : Type 0 where
-  pub object : Levels → ℕ → ℕ → Bool
-  pub streak : Levels → ℕ → ℕ → Bool
-  pub pattern : Levels → ℕ → ℕ → Bool
+  pub object : LevelLists → ℕ → ℕ → Bool
+  pub streak : LevelLists → ℕ → ℕ → Bool
+  pub pattern : LevelLists → ℕ → ℕ → Bool
 
 -- a note of the tail before the object
-unfoldable pub tailNoteBefore : Levels → ℕ → ℕ → Bool
+unfoldable pub tailNoteBefore : LevelLists → ℕ → ℕ → Bool
 tailNoteBefore l m object =
     anyBelow object (λ note. allTrue (isNote (getD (l .kinds) note 0) ∷ leb (length (l .kinds)) (note + m) ∷ []))
 
-unfoldable pub objectServes : Levels → ℕ → ℕ → Bool
+unfoldable pub objectServes : LevelLists → ℕ → ℕ → Bool
 objectServes l m object = allTrue (eqb (getD (l .marks) object 0) 1 ∷ tailNoteBefore l m object ∷ [])
 
-unfoldable pub streakServes : Levels → ℕ → ℕ → Bool
+unfoldable pub streakServes : LevelLists → ℕ → ℕ → Bool
 streakServes l object streak =
     allTrue (leb (getD (l .streaks) object 0) streak
     ∷ ltb (streak + 1) (groupCount (l .marks))
@@ -59,7 +59,7 @@ streakServes l object streak =
     ∷ eqb (getD (l .opens) (streak + 1) 0) 1
     ∷ [])
 
-unfoldable pub patternServes : Levels → ℕ → ℕ → Bool
+unfoldable pub patternServes : LevelLists → ℕ → ℕ → Bool
 patternServes l streak pattern =
     allTrue (leb (getD (l .patterns) (streak + 1) 0) pattern
     ∷ ltb (pattern + 1) (groupCount (l .opens))
@@ -72,7 +72,7 @@ abbrev pub plain : Conditions
 plain = record { object = objectServes; streak = streakServes; pattern = patternServes }
 
 -- the position is just after the last object of the pattern
-unfoldable pub endsAt : Levels → ℕ → ℕ → Bool
+unfoldable pub endsAt : LevelLists → ℕ → ℕ → Bool
 endsAt l pattern position =
     allTrue (ltb 0 position
     ∷ leb position (length (l .kinds))
@@ -82,17 +82,17 @@ endsAt l pattern position =
     ∷ [])
 
 -- by a pattern, by a streak and by an object
-unfoldable pub patternFound : Conditions → Levels → ℕ → ℕ → Bool
+unfoldable pub patternFound : Conditions → LevelLists → ℕ → ℕ → Bool
 patternFound r l position streak =
     anyBelow (groupCount (l .opens)) (λ pattern.
     allTrue (r .pattern l streak pattern ∷ endsAt l (pattern + 1) position ∷ []))
 
-unfoldable pub streakFound : Conditions → Levels → ℕ → ℕ → Bool
+unfoldable pub streakFound : Conditions → LevelLists → ℕ → ℕ → Bool
 streakFound r l position object =
     anyBelow (groupCount (l .marks)) (λ streak.
     allTrue (r .streak l object streak ∷ patternFound r l position streak ∷ []))
 
-unfoldable pub landmarkFound : Conditions → Levels → ℕ → ℕ → Bool
+unfoldable pub landmarkFound : Conditions → LevelLists → ℕ → ℕ → Bool
 landmarkFound r l m position =
     anyBelow (length (l .kinds)) (λ object.
     allTrue (r .object l m object ∷ streakFound r l position object ∷ []))

@@ -23,7 +23,9 @@ later-child-requires c κs =
     record { room = l .room; child = c .before .loop-test .taken; finite = all-finite (l .numbers) }
 
 same-length : tie.Need-same-length Inv-loop μ-loop
-same-length c = c .before .before .before .before .before .before .before .loop .inv .long
+same-length c =
+    let at-loop = c .before .before .before .before .before .before .before in
+    at-loop .loop .inv .long
 
 returns : tie.Need-returns Inv-loop μ-loop
 returns c =
@@ -37,7 +39,9 @@ swap-requires c κs =
     record { first = omega (arith, k .later-child .ensures, l); second = omega (arith, k .later-child .ensures, l) }
 
 loop-less : tie.Need-loop-less Inv-loop μ-loop
-loop-less c = omega (arith, c .before .before .before .before .before .before .before .before .later-child .ensures)
+loop-less c =
+    let chosen = c .before .before .before .before .before .before .before .before in
+    omega (arith, chosen .later-child .ensures)
 
 loop-again : tie.Need-loop-again Inv-loop μ-loop
 loop-again c =
