@@ -14,8 +14,8 @@ use Rattle.evaluator_values.proofs.StandingLaws.{length-values}
 use Rattle.call_colour.specs.declared.Stretching.{Stretching}
 use Rattle.call_colour.specs.declared.Stretching.the-variants.{Done}
 use Rattle.call_colour.specs.Stretch.{GoodStretch}
-use Rattle.call_colour.specs.Calls.{Memory, judged, filled, chartMean, chartTenths, colourOutcome, stretchOutcome}
-use Rattle.call_colour.proofs.CallsLaws.{stretch-accepted, colour-done, stretch-done}
+use Rattle.call_colour.specs.Call.{Memory, judged, filled, chartMean, chartTenths, colourOutcome, stretchOutcome}
+use Rattle.call_colour.proofs.CallLaws.{stretch-accepted, colour-done, stretch-done}
 
 module _ (s : Settings) (c : Chart) (lent : Memory) (accepted : judged c lent ≡ Accepted) where
   pub value-written : (i : ℕ) → i < size c → getD (colourOutcome s c lent .memory .value) i nan ≡ getD (valuesOf s c) i nan

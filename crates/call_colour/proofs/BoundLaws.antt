@@ -23,7 +23,7 @@ use Rattle.grouping_chart.proofs.AcceptedLaws.{accepted-good}
 use Rattle.evaluator_values.proofs.StandingLaws.{value-of}
 use Rattle.evaluator_values.proofs.BoundLaws.{largestColour, value-bounded}
 use Rattle.call_colour.specs.Stretch.{GoodStretch, stretchValues, sumFrom, averageOf, meanOf}
-use Rattle.call_colour.specs.Calls.{chartMean}
+use Rattle.call_colour.specs.Call.{chartMean}
 use Rattle.call_colour.proofs.StretchCases.{good-lies}
 use Rattle.call_colour.proofs.StretchValues.{length-stretch, stretch-value}
 

@@ -26,7 +26,7 @@ use Rattle.grouping_colour.specs.MonoStreak.{continues, opensStreak, streakMark
 use Rattle.grouping_colour.specs.AlternatingMonoPattern.{opensPattern, patternMarks, coupledAt, coupled}
 use Rattle.grouping_preprocessor.specs.Preprocessor.{patternsOpen, firstLengths, streakCounts, patternTypes, coupledPatterns, hitsOpen, hitCount, hitSizes}
 use Rattle.grouping_preprocessor.specs.Preprocessor.{hitFirsts, hitSeconds, hitIntervals, streakPlaceOf, alternatingOf, patternPlaceOf, hitOf, intervalOf}
-use Rattle.evaluator_colour.specs.Color.{hitValue, altValue, monoValue, addIf, objectSum}
+use Rattle.evaluator_colour.specs.Formulas.{hitValue, altValue, monoValue, addIf, objectSum}
 use Rattle.evaluator_colour.specs.RatioPenalty.{lowered, ratioPenalty}
 use Rattle.evaluator_values.specs.Colour.{isFirst, standingAt, colourAt, colourValues}
 use Rattle.call_colour.specs.declared.Colouring.{Colouring}
@@ -34,7 +34,7 @@ use Rattle.call_colour.specs.declared.Colouring.the-variants as colourin
 use Rattle.call_colour.specs.declared.Stretching.{Stretching}
 use Rattle.call_colour.specs.declared.Stretching.the-variants as stretching
 use Rattle.call_colour.specs.Stretch.{stretchRefusal, stretchValues, sumFrom, averageOf, meanOf, meanTenths}
-use Rattle.call_colour.specs.Calls.{Memory, filled, colourOutcome, stretchVerdict, stretchOutcome}
+use Rattle.call_colour.specs.Call.{Memory, filled, colourOutcome, stretchVerdict, stretchOutcome}
 
 -- starts and deltas 0.0, ratios 1.0
 unfoldable pub chart : List ℕ → Chart

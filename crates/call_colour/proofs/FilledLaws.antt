@@ -10,7 +10,7 @@ use Rattle.grouping_chart.specs.Settings.{Settings}
 use Rattle.grouping_preprocessor.specs.passes.Steps.{Tables}
 use Rattle.grouping_preprocessor.specs.declared.Levels.{Levels}
 use Rattle.evaluator_values.specs.Colour.{colourValues}
-use Rattle.call_colour.specs.Calls.{Memory, memory, filled}
+use Rattle.call_colour.specs.Call.{Memory, memory, filled}
 
 abbrev pub ofLists : List Float → List ℕ → List Float → Memory
 ofLists = memory (λ A (xs : List A). xs)

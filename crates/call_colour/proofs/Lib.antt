@@ -1,6 +1,6 @@
 -- The laws of this crate. Those that are public are for the crates above, or are results of their own; the others serve the proofs of this crate alone.
 pub mod StretchValues
-pub mod CallsLaws
+pub mod CallLaws
 pub mod BoundLaws
 pub mod AlikeLaws
 pub mod AnswerLaws

@@ -15,9 +15,9 @@ use Rattle.grouping_chart.specs.Settings.{Settings, Permitted}
 use Rattle.evaluator_values.specs.Colour.{valuesOf}
 use Rattle.evaluator_values.proofs.StandingLaws.{length-values}
 use Rattle.call_colour.specs.Stretch.{stretchValues, averageOf, meanOf}
-use Rattle.call_colour.specs.Calls.{Memory, judged, filled, chartMean}
+use Rattle.call_colour.specs.Call.{Memory, judged, filled, chartMean}
 use Rattle.call_colour.specs.passes.Rooms.{StretchRoom}
-use Rattle.call_colour.proofs.CallsLaws.{Within, chart-room}
+use Rattle.call_colour.proofs.CallLaws.{Within, chart-room}
 use Rattle.call_colour.proofs.StretchCases.{StretchLies, good-lies}
 use Rattle.call_colour.proofs.BoundLaws.{mean-tenths}
 

@@ -1,4 +1,4 @@
 -- The definitions that this crate's promises and laws cite.
 pub mod Stretch
-pub mod Calls
+pub mod Call
 pub mod passes

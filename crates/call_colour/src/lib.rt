@@ -4,7 +4,7 @@ ghost use Rattle.grouping_chart.specs.Settings.{baseSettings};
 ghost use Rattle.grouping_chart.specs.Outcome.{outcome};
 ghost use Rattle.grouping_chart.specs.Chart.{chart};
 ghost use Rattle.lent.specs.Slice.{lent};
-ghost use Rattle.call_colour.specs.Calls.{before, after, held, filled, colourOutcome, stretchOutcome};
+ghost use Rattle.call_colour.specs.Call.{before, after, held, filled, colourOutcome, stretchOutcome};
 ghost use Rattle.call_colour.specs.passes.Rooms.{ChartRoom};
 use grouping_chart::chart::Verdict;
 use grouping_chart::object::ObjectIndex;

@@ -2,17 +2,18 @@
 ghost use mathlib.Core.Path.{_≡_};
 ghost use Prim.Native.Nat.{_-_, _≤_};
 ghost use lib.ListN.{length};
+ghost use Rattle.lent.specs.Slice.{lent};
 ghost use Rattle.numeric.specs.Constants.{zero64};
 ghost use Rattle.lent.specs.Over.{part};
 ghost use Rattle.call_colour.specs.Stretch.{stretchRefusal, sumFrom, averageOf};
-ghost use Rattle.call_colour.specs.Calls.{stretchVerdict};
+ghost use Rattle.call_colour.specs.Call.{stretchVerdict};
 ghost use Rattle.call_colour.specs.passes.Rooms.{StretchRoom};
 use grouping_chart::chart::Verdict;
 use grouping_chart::object::ObjectIndex;
 
 // The number of what is refused of a stretch, or 0: 9 where a is not below b or b is above n.
 fn stretch_refusal(kind: &[u8], a: usize, b: usize) -> u8
-    ensures { λ r. ⌜ r ≡ stretchRefusal (now (kind .entry)) a b ⌝ }
+    ensures { λ r. ⌜ r ≡ stretchRefusal (lent kind) a b ⌝ }
 {
     let n = kind.len();
     if b <= a {
@@ -26,7 +27,7 @@ fn stretch_refusal(kind: &[u8], a: usize, b: usize) -> u8
 
 // The verdict on a stretch: the chart's own refusal, else the stretch's.
 pub fn stretch_verdict(verdict: Verdict, kind: &[u8], a: usize, b: usize) -> Verdict
-    ensures { λ r. ⌜ r ≡ stretchVerdict verdict (now (kind .entry)) a b ⌝ }
+    ensures { λ r. ⌜ r ≡ stretchVerdict verdict (lent kind) a b ⌝ }
 {
     match verdict {
         Verdict::Refused(number, place) => Verdict::Refused(number, place),
@@ -42,7 +43,7 @@ pub fn stretch_verdict(verdict: Verdict, kind: &[u8], a: usize, b: usize) -> Ver
 
 // From left to right, from 0.0, each sum rounded.
 fn sum(values: &[f64]) -> f64
-    ensures { λ r. ⌜ r ≡ sumFrom zero64 (now (values .entry)) ⌝ }
+    ensures { λ r. ⌜ r ≡ sumFrom zero64 (lent values) ⌝ }
 {
     let mut sum: f64 = 0.0;
     let mut i = 0;
@@ -56,7 +57,7 @@ fn sum(values: &[f64]) -> f64
 // The sum divided by how many there are.
 fn average(values: &[f64]) -> f64
     requires { ⌜ length (now values) ≤ 16384 ⌝ }
-    ensures { λ r. ⌜ r ≡ averageOf (now (values .entry)) ⌝ }
+    ensures { λ r. ⌜ r ≡ averageOf (lent values) ⌝ }
 {
     let n = values.len();
     sum(values) / (n as f64)
@@ -65,7 +66,7 @@ fn average(values: &[f64]) -> f64
 // The average of the values from a to b, b not included.
 pub fn mean(value: &[f64], a: usize, b: usize) -> f64
     requires { ⌜ StretchRoom (now value) a b ⌝ }
-    ensures { λ r. ⌜ r ≡ averageOf (part a (b - a) (now (value .entry))) ⌝ }
+    ensures { λ r. ⌜ r ≡ averageOf (part a (b - a) (lent value)) ⌝ }
 {
     average(&value[a..b])
 }

@@ -14,7 +14,7 @@ use Rattle.grouping_preprocessor.proofs.BoundLaws.{length-alternatingOf, hit-be
 use Rattle.grouping_colour.proofs.StreakListLaws.{streak-below}
 use Rattle.grouping_preprocessor.specs.passes.Steps.{Tables}
 use Rattle.grouping_preprocessor.specs.declared.Levels.{Levels}
-use Rattle.call_encode.specs.Encode.{Memory}
+use Rattle.call_encode.specs.Call.{Memory}
 use Rattle.call_encode.specs.passes.LookUps.{Below, PatternsRoom, PatternsSpread, HitsRoom, HitsSpread, kindsMemory, KindsRoom, Encoded}
 use Rattle.call_encode.proofs.SpreadLaws.{written-front}
 

@@ -1,3 +1,3 @@
 -- The definitions that this crate's promises and laws cite.
-pub mod Encode
+pub mod Call
 pub mod passes

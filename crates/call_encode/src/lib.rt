@@ -5,7 +5,7 @@ ghost use Rattle.grouping_chart.specs.Settings.{baseSettings};
 ghost use Rattle.grouping_chart.specs.Outcome.{outcome};
 ghost use Rattle.lent.specs.Slice.{lent, left};
 ghost use Rattle.grouping_chart.specs.Chart.{chart};
-ghost use Rattle.call_encode.specs.Encode.{before, after, encodeOutcome};
+ghost use Rattle.call_encode.specs.Call.{before, after, encodeOutcome};
 ghost use Rattle.call_encode.specs.passes.LookUps.{PatternsRoom, PatternsSpread, HitsRoom, HitsSpread};
 ghost use Rattle.call_encode.specs.passes.LookUps.{kindsMemory, KindsRoom, Encoded};
 use grouping_chart::chart::Verdict;

@@ -27,7 +27,7 @@ use Rattle.call_rhythm.specs.Rhythm.{groupsIn}
 use Rattle.call_rhythm.proofs.TablesLaws.{length-first-objects}
 use Rattle.evaluator_rhythm.proofs.PenaltyLaws as penalty
 use Rattle.call_record.specs.Record.{objectsIn, ownsAt, durationOf, recordAt}
-use Rattle.call_record.specs.Calls.{windowGood}
+use Rattle.call_record.specs.Call.{windowGood}
 
 module _ (s : Settings) (c : Chart) (beside g : ℕ) (accepted : verdict c beside ≡ Accepted) (there : g < groupsIn (s .margin) (c .kinds) (c .deltas)) where
   good : GoodChart c beside

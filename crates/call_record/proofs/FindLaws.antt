@@ -22,7 +22,7 @@ use Rattle.call_rhythm.specs.passes.Tables.{TablesRoom, notesWrites}
 use Rattle.call_rhythm.proofs.TablesLaws.{groups-few, length-first-objects, length-group-intervals, first-object-below, notes-left}
 use Rattle.evaluator_rhythm.specs.RepeatedInterval.{repeatedIntervalPenalty}
 use Rattle.call_record.specs.Record.{recordAt}
-use Rattle.call_record.specs.Calls.{Memory, memory, cleared}
+use Rattle.call_record.specs.Call.{Memory, memory, cleared}
 use Rattle.call_record.specs.passes.Found.{GroupRoom, locatedAt, locateWrites, foundAt, findWrites}
 use Rattle.call_record.specs.declared.GroupRecord.{GroupRecord}
 use Rattle.call_record.specs.declared.found.LocatedGroup.{LocatedGroup}

@@ -2,4 +2,4 @@
 pub mod BoundLaws
 mod LocateLaws
 mod FindLaws
-mod CallsLaws
+mod CallLaws

@@ -6,7 +6,7 @@ ghost use Rattle.grouping_chart.specs.Outcome.{outcome};
 ghost use Rattle.grouping_chart.specs.Chart.{chart};
 ghost use Rattle.lent.specs.Slice.{lent};
 ghost use Rattle.call_record.specs.Record.{recordAt};
-ghost use Rattle.call_record.specs.Calls.{before, after, windowGood, cleared, recordOutcome};
+ghost use Rattle.call_record.specs.Call.{before, after, windowGood, cleared, recordOutcome};
 ghost use Rattle.call_record.specs.passes.Found.{GroupRoom};
 use evaluator_rhythm::repeated_interval_penalty;
 use grouping_chart::chart::Verdict;

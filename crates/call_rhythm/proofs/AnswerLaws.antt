@@ -19,7 +19,8 @@ use Rattle.grouping_interval.specs.IntervalGrouping.{intervalMarks}
 use Rattle.grouping_same_rhythm.specs.SameRhythm.{rhythmMarks, groupIntervals}
 use Rattle.grouping_same_rhythm.proofs.MadeLaws.{patternNumber-made}
 use Rattle.call_rhythm.specs.declared.tables.GroupCounts.{GroupCounts}
-use Rattle.call_rhythm.specs.Rhythm.{Memory, memory, byObject, noteGroup, groupOf, patternGroupOf, groupsIn, countsOf, filled}
+use Rattle.call_rhythm.specs.Rhythm.{byObject, noteGroup, groupOf, patternGroupOf, groupsIn, countsOf}
+use Rattle.call_rhythm.specs.Call.{Memory, memory, filled}
 use Rattle.call_rhythm.specs.passes.Tables.{workWrites, scratchWrites, GroupsRoom, LookRoom, noteGroups, notePatterns, TablesThere}
 use Rattle.call_rhythm.proofs.PerNoteLaws.{per-note-ext}
 use Rattle.call_rhythm.proofs.TablesLaws.{length-rhythm-marks, groups-few, TablesLeft, tables-left}

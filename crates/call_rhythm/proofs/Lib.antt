@@ -1,6 +1,6 @@
 -- The laws of this crate. Those that are public are for the crates above, or are results of their own; the others serve the proofs of this crate alone.
 pub mod TablesLaws
-pub mod RhythmLaws
+pub mod CallLaws
 mod PerNoteLaws
 mod SpreadLaws
 mod RegionLaws

@@ -14,7 +14,7 @@ use Rattle.grouping_chart.specs.Chart.{Chart}
 use Rattle.grouping_chart.specs.Outcome.{Outcome}
 use Rattle.grouping_chart.specs.Settings.{baseSettings}
 use Rattle.grouping_chart.specs.declared.object.ObjectIndex.{ObjectIndex}
-use Rattle.call_colour.specs.Calls.{Memory, colourOutcome, stretchOutcome}
+use Rattle.call_colour.specs.Call.{Memory, colourOutcome, stretchOutcome}
 use Rattle.call_colour.specs.declared.Colouring.{Colouring}
 use Rattle.call_colour.specs.declared.Colouring.the-variants as colouring
 use Rattle.call_colour.specs.declared.Stretching.{Stretching}

@@ -11,7 +11,7 @@ use lib.Ieee.{binary64, toBits}
 use Rattle.lent.specs.Over.{part}
 use Rattle.grouping_chart.specs.Chart.{Chart}
 use Rattle.grouping_chart.specs.Settings.{baseSettings}
-use Rattle.call_colour.specs.Calls.{Memory, colourOutcome, stretchOutcome}
+use Rattle.call_colour.specs.Call.{Memory, colourOutcome, stretchOutcome}
 use Rattle.call_colour.specs.declared.Colouring.the-variants as colouring
 use Rattle.call_colour.specs.declared.Stretching.{Stretching}
 use Rattle.call_colour.specs.declared.Stretching.the-variants as stretching

@@ -1,9 +1,9 @@
 // A stored case of colour, and of a stretch of its chart.
 ghost use mathlib.Core.Path.{_≡_};
 ghost use Prim.Native.Nat.{_+_, _*_, _≤_};
-ghost use Rattle.grouping_chart.specs.Chart.{chart};
 ghost use Rattle.lent.specs.Slice.{lent};
-ghost use Rattle.call_colour.specs.Calls.{before, after};
+ghost use Rattle.grouping_chart.specs.Chart.{chart};
+ghost use Rattle.call_colour.specs.Call.{before, after};
 ghost use Rattle.call_colour.specs.declared.Colouring.the-variants as colouring;
 ghost use Rattle.vectors.specs.Held.{Tells};
 ghost use Rattle.cases_colour.specs.Colour.{colourChart, colourLent, signedOf, stretchOf, MeanIs, Answered};
@@ -49,7 +49,7 @@ fn signed(x: u32) -> i64
 }
 
 fn read_stretch(part: &[u8]) -> StoredStretch
-    ensures { λ r. ⌜ r ≡ stretchOf (now (part .entry)) ⌝ }
+    ensures { λ r. ⌜ r ≡ stretchOf (lent part) ⌝ }
 {
     StoredStretch {
         a: case::pair_at(part, 0) as usize,
@@ -170,7 +170,7 @@ fn call_holds(asked: Asked, size: usize, width: u8, n: usize, body: &[u8], spare
 // Whether the bytes have the form of a colour case with a column of this size.
 fn colour_formed(size: usize, h: Head, body: &[u8]) -> bool
     requires { ⌜ (h .objects ≤ 16384) × (size ≤ 2 * h .objects) ⌝ }
-    ensures { λ r. ⌜ Tells r (ColourForm size h (now (body .entry))) ⌝ }
+    ensures { λ r. ⌜ Tells r (ColourForm size h (lent body)) ⌝ }
 {
     let table = 8 * (case::pair_at(body, 0) as usize);
     formed(
@@ -186,7 +186,7 @@ fn colour_formed(size: usize, h: Head, body: &[u8]) -> bool
 // Whether colour answers as the case has it, in slices with so many places to spare.
 pub fn holds(h: Head, body: &[u8], spare: usize) -> bool
     requires { ⌜ spare ≤ 7 ⌝ }
-    ensures { λ r. ⌜ Tells r (ColourHolds h (now (body .entry)) spare) ⌝ }
+    ensures { λ r. ⌜ Tells r (ColourHolds h (lent body) spare) ⌝ }
 {
     let n = h.objects;
     if n > 16384 {
@@ -202,7 +202,7 @@ pub fn holds(h: Head, body: &[u8], spare: usize) -> bool
 // Whether the stretch with this head and these bytes, of the chart of a colour case, is answered as they have it.
 pub fn stretch_holds(chart: Head, body: &[u8], h: Head, part: &[u8], spare: usize) -> bool
     requires { ⌜ spare ≤ 7 ⌝ }
-    ensures { λ r. ⌜ Tells r (StretchHolds chart (now (body .entry)) h (now (part .entry)) spare) ⌝ }
+    ensures { λ r. ⌜ Tells r (StretchHolds chart (lent body) h (lent part) spare) ⌝ }
 {
     let n = chart.objects;
     if n > 16384 {

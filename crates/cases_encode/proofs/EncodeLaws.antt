@@ -13,7 +13,7 @@ use Rattle.grouping_chart.specs.Chart.{Chart}
 use Rattle.grouping_chart.specs.Outcome.{Outcome}
 use Rattle.grouping_chart.specs.Settings.{baseSettings}
 use Rattle.grouping_chart.specs.declared.object.ObjectIndex.{ObjectIndex}
-use Rattle.call_encode.specs.Encode.{Memory, encodeOutcome}
+use Rattle.call_encode.specs.Call.{Memory, encodeOutcome}
 use Rattle.call_encode.specs.declared.Encoding.{Encoding}
 use Rattle.call_encode.specs.declared.Encoding.the-variants.{Done, Refused}
 use Rattle.vectors.specs.Case.{pairAt, columnSize, column}

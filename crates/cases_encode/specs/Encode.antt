@@ -9,7 +9,7 @@ use Rattle.lent.specs.Over.{part}
 use Rattle.grouping_chart.specs.Chart.{Chart}
 use Rattle.grouping_chart.specs.Outcome.{Outcome}
 use Rattle.grouping_chart.specs.Settings.{baseSettings}
-use Rattle.call_encode.specs.Encode.{Memory, encodeOutcome}
+use Rattle.call_encode.specs.Call.{Memory, encodeOutcome}
 use Rattle.call_encode.specs.declared.Encoding.{Encoding}
 use Rattle.call_encode.specs.declared.Encoding.the-variants.{Done}
 use Rattle.vectors.specs.Case.{pairAt, columnSize, column}

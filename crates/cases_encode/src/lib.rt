@@ -1,11 +1,11 @@
 // A stored case of encode.
 ghost use mathlib.Core.Path.{_≡_};
 ghost use Prim.Native.Nat.{_≤_};
+ghost use Rattle.lent.specs.Slice.{lent};
 ghost use Rattle.grouping_chart.specs.Settings.{baseSettings};
 ghost use Rattle.grouping_chart.specs.Outcome.{outcome};
 ghost use Rattle.grouping_chart.specs.Chart.{chart};
-ghost use Rattle.lent.specs.Slice.{lent};
-ghost use Rattle.call_encode.specs.Encode.{before, encodeOutcome};
+ghost use Rattle.call_encode.specs.Call.{before, encodeOutcome};
 ghost use Rattle.call_encode.specs.declared.Encoding.the-variants as encoding;
 ghost use Rattle.vectors.specs.Case.{pairAt};
 ghost use Rattle.vectors.specs.Held.{Tells};
@@ -24,7 +24,7 @@ use vectors::sentinel::NUMBER_SENTINEL;
 
 // Whether the chart is accepted, with as many hit patterns as the body's first number says.
 fn count_holds(body: &[u8], answer: Encoding) -> bool
-    ensures { λ r. ⌜ Tells r (answer ≡ encoding.Done (pairAt (now (body .entry)) 0)) ⌝ }
+    ensures { λ r. ⌜ Tells r (answer ≡ encoding.Done (pairAt (lent body) 0)) ⌝ }
 {
     match answer {
         Encoding::Done(count) => count == vectors::case::pair_at(body, 0) as usize,
@@ -151,7 +151,7 @@ fn call_holds(h: Head, size: usize, body: &[u8], spare: usize) -> bool
 // Whether encode answers as the case has it, in slices with so many places to spare.
 pub fn holds(h: Head, body: &[u8], spare: usize) -> bool
     requires { ⌜ spare ≤ 7 ⌝ }
-    ensures { λ r. ⌜ Tells r (EncodeHolds h (now (body .entry)) spare) ⌝ }
+    ensures { λ r. ⌜ Tells r (EncodeHolds h (lent body) spare) ⌝ }
 {
     let n = h.objects;
     if n > 16384 {

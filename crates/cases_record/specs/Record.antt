@@ -10,7 +10,7 @@ use Rattle.grouping_chart.specs.Outcome.{Outcome}
 use Rattle.grouping_chart.specs.Settings.{baseSettings}
 use Rattle.grouping_same_rhythm.specs.declared.own.Own.{Own}
 use Rattle.grouping_same_rhythm.specs.declared.own.Own.the-variants.{Absent, Millis}
-use Rattle.call_record.specs.Calls.{Memory, recordOutcome}
+use Rattle.call_record.specs.Call.{Memory, recordOutcome}
 use Rattle.call_record.specs.declared.GroupRecord.{GroupRecord}
 use Rattle.call_record.specs.declared.Recording.{Recording}
 use Rattle.call_record.specs.declared.Recording.the-variants.{Done, Refused}

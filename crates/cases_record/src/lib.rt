@@ -7,7 +7,7 @@ ghost use Rattle.vectors.specs.Case.{pairAt, wordAt};
 ghost use Rattle.vectors.specs.Held.{Tells};
 ghost use Rattle.grouping_chart.specs.Chart.{chart};
 ghost use Rattle.lent.specs.Slice.{lent};
-ghost use Rattle.call_record.specs.Calls.{before};
+ghost use Rattle.call_record.specs.Call.{before};
 ghost use Rattle.cases_rhythm.specs.Rhythm.{rhythmChart, RhythmRoom};
 ghost use Rattle.cases_record.specs.Record.{recordLent, askedOutcome, OwnIs, PlacesAre, ScoresAre};
 ghost use Rattle.cases_record.specs.Record.{RecordIs, RecordStored, RecordHolds};

@@ -13,7 +13,7 @@ use Rattle.grouping_chart.specs.Chart.{Chart}
 use Rattle.grouping_chart.specs.Outcome.{Outcome}
 use Rattle.grouping_chart.specs.Settings.{baseSettings}
 use Rattle.grouping_chart.specs.declared.object.ObjectIndex.{ObjectIndex}
-use Rattle.call_rhythm.specs.Rhythm.{Memory, rhythmOutcome}
+use Rattle.call_rhythm.specs.Call.{Memory, rhythmOutcome}
 use Rattle.call_rhythm.specs.declared.Grouping.{Grouping}
 use Rattle.call_rhythm.specs.declared.Grouping.the-variants.{Done, Refused}
 use Rattle.vectors.specs.Case.{pairAt}

@@ -1,11 +1,11 @@
 // A stored case of rhythm.
 ghost use mathlib.Core.Path.{_≡_};
 ghost use Prim.Native.Nat.{_≤_};
+ghost use Rattle.lent.specs.Slice.{lent, left};
 ghost use Rattle.grouping_chart.specs.Settings.{baseSettings};
 ghost use Rattle.grouping_chart.specs.Outcome.{outcome};
 ghost use Rattle.grouping_chart.specs.Chart.{chart};
-ghost use Rattle.lent.specs.Slice.{lent, left};
-ghost use Rattle.call_rhythm.specs.Rhythm.{before, rhythmOutcome};
+ghost use Rattle.call_rhythm.specs.Call.{before, rhythmOutcome};
 ghost use Rattle.call_rhythm.specs.declared.Grouping.the-variants as grouping;
 ghost use Rattle.vectors.specs.Case.{pairAt};
 ghost use Rattle.vectors.specs.Held.{Tells};
@@ -111,7 +111,7 @@ fn call_holds(n: usize, body: &[u8], spare: usize) -> bool
 // Whether the bytes have the form of a rhythm case.
 pub fn rhythm_formed(h: Head, body: &[u8]) -> bool
     requires { ⌜ h .objects ≤ 16384 ⌝ }
-    ensures { λ r. ⌜ Tells r (RhythmForm h (now (body .entry))) ⌝ }
+    ensures { λ r. ⌜ Tells r (RhythmForm h (lent body)) ⌝ }
 {
     formed(h, RHYTHM, 2, 2, 4 + 21 * h.objects, body.len())
 }
@@ -119,7 +119,7 @@ pub fn rhythm_formed(h: Head, body: &[u8]) -> bool
 // Whether rhythm answers as the case has it, in slices with so many places to spare.
 pub fn holds(h: Head, body: &[u8], spare: usize) -> bool
     requires { ⌜ spare ≤ 7 ⌝ }
-    ensures { λ r. ⌜ Tells r (RhythmHolds h (now (body .entry)) spare) ⌝ }
+    ensures { λ r. ⌜ Tells r (RhythmHolds h (lent body) spare) ⌝ }
 {
     let n = h.objects;
     if n > 16384 {

@@ -16,7 +16,7 @@ use Rattle.numeric.proofs.ConstantLaws.{eight-tenths-bounded}
 use Rattle.numeric.proofs.Bounded.{Bounded, bounded-more, round-bounded, add-bounded, sub-bounded, mul-bounded, div-bounded}
 use Rattle.numeric.proofs.logistic.Bounds.{logistic-bounded, rest-bounded}
 use Rattle.evaluator_colour.specs.declared.Standing.{Standing}
-use Rattle.evaluator_colour.specs.Color.{hitValue, altValue, monoValue, addIf, objectSum}
+use Rattle.evaluator_colour.specs.Formulas.{hitValue, altValue, monoValue, addIf, objectSum}
 use Rattle.evaluator_colour.specs.RatioPenalty.{lowered, ratioPenalty}
 
 -- ---- an object's sum

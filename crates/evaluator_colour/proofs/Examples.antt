@@ -9,7 +9,7 @@ use Rattle.numeric.specs.Constants.{half64, one64, two64, eightTenths}
 use Rattle.numeric.specs.Logistic.{tableBits, logisticAt}
 use Rattle.numeric.specs.Near.{isNear}
 use Rattle.evaluator_colour.specs.declared.Standing.{Standing}
-use Rattle.evaluator_colour.specs.Color.{hitValue, altValue, monoValue, addIf, objectSum}
+use Rattle.evaluator_colour.specs.Formulas.{hitValue, altValue, monoValue, addIf, objectSum}
 use Rattle.evaluator_colour.specs.RatioPenalty.{lowered, ratioPenalty}
 
 abbrev standing : ℕ → ℕ → ℕ → Bool → Bool → Bool → Standing

@@ -1,3 +1,3 @@
 -- The definitions that this crate's promises and laws cite.
-pub mod Color
+pub mod Formulas
 pub mod RatioPenalty

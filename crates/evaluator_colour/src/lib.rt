@@ -1,7 +1,7 @@
 // The colour evaluator's formulas, one function each: the same rounded operations as the source's, in its order.
 ghost use mathlib.Core.Path.{_≡_};
 ghost use Rattle.numeric.specs.Logistic.{logisticTable};
-ghost use Rattle.evaluator_colour.specs.Color.{hitValue, altValue, monoValue, addIf, objectSum};
+ghost use Rattle.evaluator_colour.specs.Formulas.{hitValue, altValue, monoValue, addIf, objectSum};
 ghost use Rattle.evaluator_colour.specs.RatioPenalty.{lowered, ratioPenalty};
 use grouping_chart::object::ObjectIndex;
 use numeric::logistic::logistic;

@@ -9,7 +9,7 @@ use lib.ListN.{getD}
 use lib.Ieee.{Float, nan, binary64, mul}
 use Rattle.grouping_colour.specs.MonoStreak.{streakOf}
 use Rattle.grouping_preprocessor.specs.Preprocessor.{streakPlaceOf, alternatingOf, patternPlaceOf, hitOf, intervalOf}
-use Rattle.evaluator_colour.specs.Color.{objectSum}
+use Rattle.evaluator_colour.specs.Formulas.{objectSum}
 use Rattle.evaluator_colour.specs.RatioPenalty.{ratioPenalty}
 use Rattle.evaluator_colour.proofs.PenaltyCases.{tested}
 use Rattle.evaluator_values.specs.Colour.{isFirst, standingAt, colourAt}

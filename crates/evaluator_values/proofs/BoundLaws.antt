@@ -16,7 +16,7 @@ use Rattle.grouping_chart.specs.declared.chart.Verdict.the-variants.{Accepted}
 use Rattle.grouping_chart.specs.Settings.{Settings}
 use Rattle.grouping_chart.proofs.AcceptedLaws.{GoodChart, accepted-good}
 use Rattle.grouping_chart.proofs.RangeLaws.{ratio-range}
-use Rattle.evaluator_colour.specs.Color.{objectSum}
+use Rattle.evaluator_colour.specs.Formulas.{objectSum}
 use Rattle.evaluator_colour.specs.RatioPenalty.{ratioPenalty}
 use Rattle.evaluator_colour.proofs.BoundLaws as formulas
 use Rattle.evaluator_values.specs.Colour.{standingAt, colourAt, valuesOf}

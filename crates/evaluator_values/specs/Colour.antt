@@ -11,7 +11,7 @@ use Rattle.grouping_chart.specs.Settings.{Settings}
 use Rattle.grouping_colour.specs.MonoStreak.{streakOf}
 use Rattle.grouping_preprocessor.specs.Preprocessor.{streakPlaceOf, alternatingOf, patternPlaceOf, hitOf, intervalOf}
 use Rattle.evaluator_colour.specs.declared.Standing.{Standing}
-use Rattle.evaluator_colour.specs.Color.{objectSum}
+use Rattle.evaluator_colour.specs.Formulas.{objectSum}
 use Rattle.evaluator_colour.specs.RatioPenalty.{ratioPenalty}
 
 -- whether object i is the first of its group, by each object's group number

@@ -3,6 +3,7 @@ ghost use mathlib.Core.Path.{_≡_};
 ghost use Prim.Native.Nat.{_-_, _<_, _≤_};
 ghost use lib.ListN.{length, getD};
 ghost use lib.Ieee.{nan};
+ghost use Rattle.lent.specs.Slice.{lent, left};
 ghost use Rattle.lent.specs.Over.{over};
 ghost use Rattle.evaluator_values.specs.Colour.{colourAt, colourValues};
 ghost use Rattle.evaluator_values.specs.passes.Tables.{ObjectIn, NumbersAt, StandingIs, Lent};
@@ -19,7 +20,7 @@ pub struct Numbers {
 
 fn numbers_at(kind: &[u8], w: &[u16], k: Levels, idx: ObjectIndex) -> Numbers
     requires { ⌜ ObjectIn (now kind) (now w) k (idx .0) ⌝ }
-    ensures { λ r. ⌜ NumbersAt (now (kind .entry)) k (idx .0) r ⌝ }
+    ensures { λ r. ⌜ NumbersAt (lent kind) k (idx .0) r ⌝ }
 {
     let n = kind.len();
     let i = idx.0;
@@ -35,7 +36,7 @@ fn numbers_at(kind: &[u8], w: &[u16], k: Levels, idx: ObjectIndex) -> Numbers
 
 fn standing_at(kind: &[u8], w: &[u16], k: Levels, idx: ObjectIndex) -> Standing
     requires { ⌜ ObjectIn (now kind) (now w) k (idx .0) ⌝ }
-    ensures { λ r. ⌜ StandingIs (k .limit) (now (kind .entry)) (idx .0) r ⌝ }
+    ensures { λ r. ⌜ StandingIs (k .limit) (lent kind) (idx .0) r ⌝ }
 {
     let n = kind.len();
     let i = idx.0;
@@ -70,7 +71,7 @@ fn standing_at(kind: &[u8], w: &[u16], k: Levels, idx: ObjectIndex) -> Standing
 // The ratio of the object two before. Below object 2 there is none, and the first stands in: the penalty reads none.
 fn earlier_ratio(ratio: &[f64], idx: ObjectIndex) -> f64
     requires { ⌜ idx .0 < length (now ratio) ⌝ }
-    ensures { λ r. ⌜ r ≡ getD (now (ratio .entry)) (idx .0 - 2) nan ⌝ }
+    ensures { λ r. ⌜ r ≡ getD (lent ratio) (idx .0 - 2) nan ⌝ }
 {
     let i = idx.0;
     if i < 2 {
@@ -89,7 +90,7 @@ fn value_at(
     idx: ObjectIndex,
 ) -> f64
     requires { ⌜ Lent (now table) (now kind) (now ratio) (now w) k ⌝ ∗ ⌜ idx .0 < length (now kind) ⌝ }
-    ensures { λ r. ⌜ r ≡ colourAt (k .limit) tolerance (now (kind .entry)) (now (ratio .entry)) (idx .0) ⌝ }
+    ensures { λ r. ⌜ r ≡ colourAt (k .limit) tolerance (lent kind) (lent ratio) (idx .0) ⌝ }
 {
     let sum = evaluator_colour::object_sum(table, standing_at(kind, w, k, idx));
     let i = idx.0;
@@ -109,8 +110,8 @@ pub fn fill_values(
     value: &mut [f64],
 )
     requires { ⌜ Lent (now table) (now kind) (now ratio) (now w) k ⌝ ∗ ⌜ length (now kind) ≤ length (now value) ⌝ }
-    ensures { λ r. ⌜ now (value .exit)
-        ≡ over (colourValues (k .limit) tolerance (now (kind .entry)) (now (ratio .entry))) (now (value .entry)) ⌝ }
+    ensures { λ r. ⌜ left value
+        ≡ over (colourValues (k .limit) tolerance (lent kind) (lent ratio)) (lent value) ⌝ }
 {
     let mut i = 0;
     while i < kind.len() {

@@ -25,18 +25,19 @@ use Rattle.grouping_colour.specs.AlternatingMonoPattern.{opensPattern, patternM
 use Rattle.grouping_preprocessor.specs.Preprocessor.{patternsOpen, firstLengths, streakCounts, patternTypes, coupledPatterns, hitsOpen, hitCount}
 use Rattle.grouping_preprocessor.specs.Preprocessor.{hitSizes, hitFirsts, hitSeconds, hitIntervals, streakPlaceOf, alternatingOf, patternPlaceOf, hitOf}
 use Rattle.grouping_preprocessor.specs.Preprocessor.{intervalOf}
-use Rattle.call_encode.specs.Encode as encode
+use Rattle.call_encode.specs.Call as encode
 use Rattle.numeric_sort.specs.Ordered.{insert, ordered}
 use Rattle.grouping_normalizer.specs.Normalizer.{alike, unrepeated, distinct, setsAfter, sets, holds, middle, middleOf, normalOf, normalized}
 use Rattle.grouping_interval.specs.IntervalGrouping.{isRise, marksAfter, intervalMarks}
 use Rattle.grouping_same_rhythm.specs.SameRhythm.{rhythmMarks, groupObjects, firstsOf, startsOf, intervalsOf, groupIntervals}
 use Rattle.grouping_same_rhythm.specs.SamePatterns.{patternNumber}
-use Rattle.call_rhythm.specs.Rhythm as rhythm
-use Rattle.evaluator_colour.specs.Color.{hitValue, altValue, monoValue, addIf, objectSum}
+use Rattle.call_rhythm.specs.Rhythm.{perNote, noteGroup, groupOf, patternGroupOf, groupsIn, patternGroupsIn}
+use Rattle.call_rhythm.specs.Call as rhythm
+use Rattle.evaluator_colour.specs.Formulas.{hitValue, altValue, monoValue, addIf, objectSum}
 use Rattle.evaluator_colour.specs.RatioPenalty as ratio
 use Rattle.evaluator_rhythm.specs.RepeatedInterval.{present, similar, similarTo, somePair, walkPenalty}
 use Rattle.evaluator_values.specs.Colour.{isFirst, standingAt, colourAt, colourValues}
-use Rattle.call_colour.specs.Calls as calls
+use Rattle.call_colour.specs.Call as calls
 use Rattle.examples.specs.Question.{whole, bitsOf, chart, encodeMemory, colourMemory, rhythmMemory, encodeAnswer, colourAnswer, rhythmAnswer}
 use Rattle.examples.specs.Question.{encodeShown, colourShown, rhythmShown, millis, answer}
 use Rattle.examples.specs.Starred.{Example, encoding, starred}
@@ -44,7 +45,7 @@ use Rattle.examples.specs.Starred.{Example, encoding, starred}
 pub starred-right : map (λ (e : Example). answer (e .question)) starred ≡ map (λ (e : Example). e .outcome) starred
 unfolding starred encoding answer whole bitsOf chart encodeMemory colourMemory rhythmMemory encodeAnswer colourAnswer rhythmAnswer encodeShown colourShown
     rhythmShown millis answered encode.encodeOutcome encode.filled calls.colourOutcome anyShort shortRefusal calls.filled rhythm.rhythmOutcome
-    rhythm.filled rhythm.groupOf rhythm.patternGroupOf rhythm.perNote rhythm.noteGroup rhythm.groupsIn rhythm.patternGroupsIn rhythmMarks groupObjects
+    rhythm.filled groupOf patternGroupOf perNote noteGroup groupsIn patternGroupsIn rhythmMarks groupObjects
     firstsOf startsOf intervalsOf groupIntervals patternNumber parted notesFrom noteObjects ofNotes verdict equallyLong firstRefused objectRefusal
     timeGood ratioGood within colourValues colourAt standingAt isFirst over tabulate scan endState gathered opened groupCount groupNumbers placeByMark
     groupPlaces sizesFrom groupSizes firstsFrom groupFirsts isNote notes noteIdx noteBefore previousNote continues opensStreak streakMarks streakOf

@@ -10,17 +10,17 @@ use Rattle.grouping_marks.specs.Marks.{groupNumbers}
 use Rattle.grouping_chart.specs.Chart.{Chart}
 use Rattle.grouping_chart.specs.Outcome.{Outcome}
 use Rattle.grouping_chart.specs.Settings.{baseSettings}
-use Rattle.call_encode.specs.Encode as encode
+use Rattle.call_encode.specs.Call as encode
 use Rattle.call_encode.specs.declared.Encoding.{Encoding}
 use Rattle.call_encode.specs.declared.Encoding.the-variants as encoding
 use Rattle.grouping_interval.specs.IntervalGrouping.{intervalMarks}
 use Rattle.grouping_normalizer.specs.Normalizer.{normalized}
-use Rattle.call_rhythm.specs.Rhythm as rhythm
+use Rattle.call_rhythm.specs.Call as rhythm
 use Rattle.call_rhythm.specs.declared.Grouping.{Grouping}
 use Rattle.call_rhythm.specs.declared.Grouping.the-variants as grouping
 use Rattle.grouping_same_rhythm.specs.declared.own.Own.{Own}
 use Rattle.grouping_same_rhythm.specs.declared.own.Own.the-variants.{Millis}
-use Rattle.call_colour.specs.Calls as calls
+use Rattle.call_colour.specs.Call as calls
 use Rattle.call_colour.specs.declared.Colouring.{Colouring}
 use Rattle.call_colour.specs.declared.Colouring.the-variants as colouring
 use Rattle.evaluator_rhythm.specs.RepeatedInterval.{walkPenalty}

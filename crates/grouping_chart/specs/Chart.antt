@@ -7,7 +7,8 @@ use mathlib.Core.List.{List}
 use lib.Dec.{eqb}
 use lib.ListN.{length}
 use lib.Ieee.{Float}
-use Rattle.lent.specs.Slice.{Slice, lent}
+use denote.Ref.{now}
+use Rattle.lent.specs.Slice.{SliceAt, Slice, lent}
 
 pub record Chart : Type 0 where
   pub kinds : List ℕ
@@ -35,6 +36,13 @@ pub record SameLengths (n : ℕ) (starts deltas ratios : List Float) : Type 0 wh
   pub delta : length deltas ≡ n
   pub ratio : length ratios ≡ n
 
+-- the chart that is made of the four slices, by how one of them is read: as lent, and where a pass begins
+abbrev charted : {S : Type 0 → Type 0} → ((A : Type 0) → S A → List A) → S ℕ → S Float → S Float → S Float → Chart
+charted read kind start delta ratio =
+    record { kinds = read ℕ kind; starts = read Float start; deltas = read Float delta; ratios = read Float ratio }
+
 abbrev pub chart : Slice ℕ → Slice Float → Slice Float → Slice Float → Chart
-chart kind start delta ratio =
-    record { kinds = lent kind; starts = lent start; deltas = lent delta; ratios = lent ratio }
+chart = charted (λ A. lent)
+
+abbrev pub chartHeld : SliceAt ℕ → SliceAt Float → SliceAt Float → SliceAt Float → Chart
+chartHeld = charted (λ A. now)

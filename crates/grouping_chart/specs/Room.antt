@@ -5,6 +5,9 @@ use Prim.Native.Nat.{ℕ, _*_}
 use mathlib.Core.Bool.{Bool, false, _||_, cond}
 use mathlib.Core.List.{List, [], _∷_}
 use lib.Dec.{ltb}
+use lib.ListN.{replicate}
+use lib.Ieee.{Float, binary64, ofBits}
+use Rattle.lent.specs.Over.{over}
 
 -- whether one of some slices has too few places for n objects, by how many places each has
 unfoldable pub anyShort : ℕ → List ℕ → Bool
@@ -20,3 +23,10 @@ shortRefusal answers n work scratch = cond (answers || (ltb work (8 * n) || ltb 
 -- scratch slice have
 abbrev pub refusalBeside : ℕ → List ℕ → ℕ → ℕ → ℕ
 refusalBeside n answers work scratch = shortRefusal (anyShort n answers) n work scratch
+
+-- the work slices after an accepted call on n objects: 0 and +0.0 in the places that it may use, old contents elsewhere
+abbrev pub clearedWork : ℕ → List ℕ → List ℕ
+clearedWork n work = over (replicate (8 * n) 0) work
+
+abbrev pub clearedScratch : ℕ → List Float → List Float
+clearedScratch n scratch = over (replicate n (ofBits binary64 0)) scratch

@@ -2,6 +2,7 @@
 ghost use mathlib.Core.Path.{_≡_};
 ghost use Prim.Native.Nat.{_+_, _≤_, _<_};
 ghost use lib.ListN.{length};
+ghost use Rattle.lent.specs.Slice.{lent, left};
 ghost use Rattle.lent.specs.Over.{put, part};
 ghost use Rattle.lent.specs.passes.Regions.{Apart, Triple, TripleApart};
 ghost use Rattle.grouping_colour.specs.AlternatingMonoPattern.{opensPattern, patternMarks};
@@ -9,7 +10,7 @@ ghost use Rattle.grouping_colour.specs.passes.Coupled.{coupledAtIn, coup
 
 fn opens_pattern(w: &[u16], from: usize, m: usize, i: usize) -> u16
     requires { ⌜ from + m ≤ length (now w) ⌝ ∗ ⌜ i < m ⌝ }
-    ensures { λ r. ⌜ r ≡ opensPattern (part from m (now (w .entry))) i ⌝ }
+    ensures { λ r. ⌜ r ≡ opensPattern (part from m (lent w)) i ⌝ }
 {
     if i == 0 {
         return 1;
@@ -20,7 +21,7 @@ fn opens_pattern(w: &[u16], from: usize, m: usize, i: usize) -> u16
 // Marks the streaks that open an alternating pattern, by the m lengths at `from`.
 pub fn mark_patterns(w: &mut [u16], from: usize, m: usize, to: usize)
     requires { ⌜ Apart (now w) from m to ⌝ }
-    ensures { λ r. ⌜ now (w .exit) ≡ put to (patternMarks (part from m (now (w .entry)))) (now (w .entry)) ⌝ }
+    ensures { λ r. ⌜ left w ≡ put to (patternMarks (part from m (lent w))) (lent w) ⌝ }
 {
     let mut i = 0;
     while i < m {
@@ -32,7 +33,7 @@ pub fn mark_patterns(w: &mut [u16], from: usize, m: usize, to: usize)
 
 fn is_coupled(w: &[u16], lengths: usize, counts: usize, types: usize, m: usize, i: usize) -> u16
     requires { ⌜ Triple (now w) lengths counts types m ⌝ ∗ ⌜ i < m ⌝ }
-    ensures { λ r. ⌜ r ≡ coupledAtIn lengths counts types m (now (w .entry)) i ⌝ }
+    ensures { λ r. ⌜ r ≡ coupledAtIn lengths counts types m (lent w) i ⌝ }
 {
     if m - i <= 2 {
         return 0;
@@ -50,7 +51,7 @@ fn is_coupled(w: &[u16], lengths: usize, counts: usize, types: usize, m: usize, 
 // Marks the coupled patterns.
 pub fn mark_coupled(w: &mut [u16], lengths: usize, counts: usize, types: usize, m: usize, to: usize)
     requires { ⌜ TripleApart (now w) lengths counts types m to ⌝ }
-    ensures { λ r. ⌜ now (w .exit) ≡ put to (coupledIn lengths counts types m (now (w .entry))) (now (w .entry)) ⌝ }
+    ensures { λ r. ⌜ left w ≡ put to (coupledIn lengths counts types m (lent w)) (lent w) ⌝ }
 {
     let mut i = 0;
     while i < m {

@@ -4,6 +4,7 @@ ghost use mathlib.Core.Bool.{cond};
 ghost use Prim.Native.Nat.{_+_, _≤_};
 ghost use lib.Dec.{eqb};
 ghost use lib.ListN.{length};
+ghost use Rattle.lent.specs.Slice.{lent, left};
 ghost use Rattle.lent.specs.Over.{put};
 ghost use Rattle.grouping_chart.specs.Object.{isNote};
 ghost use Rattle.grouping_colour.specs.MonoStreak.{streakMarks};
@@ -34,7 +35,7 @@ fn last_after(last: u8, k: u8) -> u8
 // Marks the objects that open a streak.
 pub fn mark_streaks(kind: &[u8], w: &mut [u16], to: usize)
     requires { ⌜ to + length (now kind) ≤ length (now w) ⌝ }
-    ensures { λ r. ⌜ now (w .exit) ≡ put to (streakMarks (now (kind .entry))) (now (w .entry)) ⌝ }
+    ensures { λ r. ⌜ left w ≡ put to (streakMarks (lent kind)) (lent w) ⌝ }
 {
     let mut at = ObjectIndex(0);
     let mut next = NoteIndex(0);

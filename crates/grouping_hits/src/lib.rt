@@ -3,6 +3,7 @@ ghost use mathlib.Core.Path.{_≡_};
 ghost use mathlib.Core.Bool.{cond};
 ghost use Prim.Native.Nat.{_≤_, _<_};
 ghost use lib.Dec.{eqb};
+ghost use Rattle.lent.specs.Slice.{lent, left};
 ghost use Rattle.lent.specs.Over.{put, part};
 ghost use Rattle.lent.specs.passes.Regions.{Room, Pair, PairApart, Triple, TripleApart};
 ghost use Rattle.grouping_hits.specs.RepeatingHitPatterns.{hitMarks, secondAt, secondLengths};
@@ -28,7 +29,7 @@ fn opens_hit(stage: u16, coupled: u16) -> u16
 // Turns the flags of m coupled patterns into the marks of those that open a hit pattern, in place.
 pub fn mark_hits(w: &mut [u16], at: usize, m: usize)
     requires { ⌜ Room (now w) at m at ⌝ }
-    ensures { λ r. ⌜ now (w .exit) ≡ put at (hitMarks (part at m (now (w .entry)))) (now (w .entry)) ⌝ }
+    ensures { λ r. ⌜ left w ≡ put at (hitMarks (part at m (lent w))) (lent w) ⌝ }
 {
     let mut stage: u16 = 0;
     let mut i = 0;
@@ -49,7 +50,7 @@ fn second_by(mark: u16, length: u16) -> u16
 
 fn second_at(w: &[u16], lengths: usize, marks: usize, m: usize, i: usize) -> u16
     requires { ⌜ Pair (now w) lengths marks m ⌝ ∗ ⌜ i < m ⌝ }
-    ensures { λ r. ⌜ r ≡ secondAt (part lengths m (now (w .entry))) (part marks m (now (w .entry))) i ⌝ }
+    ensures { λ r. ⌜ r ≡ secondAt (part lengths m (lent w)) (part marks m (lent w)) i ⌝ }
 {
     let j = i + 1;
     if j < m {
@@ -63,8 +64,8 @@ fn second_at(w: &[u16], lengths: usize, marks: usize, m: usize, i: usize) -> u16
 // For each pattern the first-streak length of the next one in its hit pattern.
 pub fn second_lengths(w: &mut [u16], lengths: usize, marks: usize, m: usize, to: usize)
     requires { ⌜ PairApart (now w) lengths marks m to ⌝ }
-    ensures { λ r. ⌜ now (w .exit)
-        ≡ put to (secondLengths (part lengths m (now (w .entry))) (part marks m (now (w .entry)))) (now (w .entry)) ⌝ }
+    ensures { λ r. ⌜ left w
+        ≡ put to (secondLengths (part lengths m (lent w)) (part marks m (lent w))) (lent w) ⌝ }
 {
     if m == 0 {
         return;
@@ -90,7 +91,7 @@ fn hits_match(
     b: usize,
 ) -> bool
     requires { ⌜ Triple (now w) sizes firsts seconds m ⌝ ∗ ⌜ a < m ⌝ ∗ ⌜ b < m ⌝ }
-    ensures { λ r. ⌜ r ≡ matchesIn sizes firsts seconds m (now (w .entry)) a b ⌝ }
+    ensures { λ r. ⌜ r ≡ matchesIn sizes firsts seconds m (lent w) a b ⌝ }
 {
     let same_size = w[sizes + a] == w[sizes + b];
     let same_first = w[firsts + a] == w[firsts + b];
@@ -115,7 +116,7 @@ fn take_matches(
     to: usize,
 )
     requires { ⌜ TripleApart (now w) sizes firsts seconds m to ⌝ }
-    ensures { λ r. ⌜ now (w .exit) ≡ put to (takenIn k sizes firsts seconds m to (now (w .entry))) (now (w .entry)) ⌝ }
+    ensures { λ r. ⌜ left w ≡ put to (takenIn k sizes firsts seconds m to (lent w)) (lent w) ⌝ }
 {
     let back = k as usize;
     if m <= back {
@@ -141,8 +142,8 @@ pub fn repetition_intervals(
     to: usize,
 )
     requires { ⌜ TripleApart (now w) sizes firsts seconds m to ⌝ ∗ ⌜ 1 ≤ limit ⌝ ∗ ⌜ limit < 65535 ⌝ }
-    ensures { λ r. ⌜ now (w .exit)
-        ≡ put to (intervalsIn limit sizes firsts seconds m (now (w .entry))) (now (w .entry)) ⌝ }
+    ensures { λ r. ⌜ left w
+        ≡ put to (intervalsIn limit sizes firsts seconds m (lent w)) (lent w) ⌝ }
 {
     fill::store_all(w, to, m, limit + 1);
     let mut k = limit;

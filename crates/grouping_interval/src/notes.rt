@@ -1,6 +1,7 @@
 // A chart's notes: their objects and deltas in lent slices, and how many rhythm groups they make.
 ghost use mathlib.Core.Path.{_≡_};
 ghost use lib.ListN.{length};
+ghost use Rattle.lent.specs.Slice.{lent, left};
 ghost use Rattle.grouping_marks.specs.Marks.{groupCount};
 ghost use Rattle.grouping_interval.specs.Notes.{ofNotes};
 ghost use Rattle.grouping_interval.specs.IntervalGrouping.{intervalMarks};
@@ -14,8 +15,8 @@ use numeric::near::near;
 // Puts each note's object number and delta in front. The result is how many notes there are.
 pub fn list_notes(kind: &[u8], delta: &[f64], objects: &mut [u16], values: &mut [f64]) -> usize
     requires { ⌜ NotesRoom (now kind) (now delta) (now objects) (now values) ⌝ }
-    ensures { λ r. ⌜ NotesListed (now (kind .entry)) (now (delta .entry))
-        (now (objects .entry)) (now (objects .exit)) (now (values .entry)) (now (values .exit)) r ⌝ }
+    ensures { λ r. ⌜ NotesListed (lent kind) (lent delta)
+        (lent objects) (left objects) (lent values) (left values) r ⌝ }
 {
     let mut note = NoteIndex(0);
     let mut object = ObjectIndex(0);
@@ -123,7 +124,7 @@ fn groups_counted(c: Counting, margin: f64) -> usize
 // How many rhythm groups a chart's notes make. Nothing is written.
 pub fn count_groups(kind: &[u8], delta: &[f64], margin: f64) -> usize
     requires { ⌜ length (now delta) ≡ length (now kind) ⌝ }
-    ensures { λ r. ⌜ r ≡ groupCount (intervalMarks margin (ofNotes (now (kind .entry)) (now (delta .entry)))) ⌝ }
+    ensures { λ r. ⌜ r ≡ groupCount (intervalMarks margin (ofNotes (lent kind) (lent delta))) ⌝ }
 {
     let mut c = Counting {
         notes: 0,

@@ -2,6 +2,7 @@
 ghost use mathlib.Core.Path.{_≡_};
 ghost use Prim.Native.Nat.{_<_};
 ghost use lib.ListN.{length};
+ghost use Rattle.lent.specs.Slice.{lent, left};
 ghost use Rattle.numeric_sort.specs.Ordered.{AllFinite};
 ghost use Rattle.grouping_normalizer.specs.Normalizer.{alike, holds, middle, middleOf, sets, Distinct, NormalOf};
 ghost use Rattle.grouping_normalizer.specs.passes.Sets.{SetEnd};
@@ -21,7 +22,7 @@ fn is_alike(a: f64, b: f64) -> bool
 // Puts the distinct values, in total order, in front. The result is how many there are.
 pub fn distinct_values(values: &mut [f64]) -> usize
     requires { ⌜ AllFinite (now values) ⌝ }
-    ensures { λ r. ⌜ Distinct (now (values .entry)) (now (values .exit)) r ⌝ }
+    ensures { λ r. ⌜ Distinct (lent values) (left values) r ⌝ }
 {
     numeric_sort::sort(values);
     let n = values.len();
@@ -45,7 +46,7 @@ pub fn distinct_values(values: &mut [f64]) -> usize
 // The position after the set that starts at `at`: it runs while within the margin of its first value.
 fn set_end(values: &[f64], margin: f64, at: usize) -> usize
     requires { ⌜ at < length (now values) ⌝ }
-    ensures { λ r. ⌜ SetEnd margin (now (values .entry)) at r ⌝ }
+    ensures { λ r. ⌜ SetEnd margin (lent values) at r ⌝ }
 {
     let mut last = at;
     while last + 1 < values.len() {
@@ -58,7 +59,7 @@ fn set_end(values: &[f64], margin: f64, at: usize) -> usize
 }
 
 fn is_held(values: &[f64], x: f64) -> bool
-    ensures { λ r. ⌜ r ≡ holds x (now (values .entry)) ⌝ }
+    ensures { λ r. ⌜ r ≡ holds x (lent values) ⌝ }
 {
     let mut i = 0;
     while i < values.len() {
@@ -73,7 +74,7 @@ fn is_held(values: &[f64], x: f64) -> bool
 // The middle value of a set, or half the sum of the two.
 fn middle_value(set: &[f64]) -> f64
     requires { ⌜ 0 < length (now set) ⌝ }
-    ensures { λ r. ⌜ r ≡ middle (now (set .entry)) ⌝ }
+    ensures { λ r. ⌜ r ≡ middle (lent set) ⌝ }
 {
     let half = set.len() / 2;
     if set.len() % 2 == 1 {
@@ -86,7 +87,7 @@ fn middle_value(set: &[f64]) -> f64
 
 // The middle of the set that holds x, of distinct values in order; x itself where none holds it.
 fn middle_of(values: &[f64], margin: f64, x: f64) -> f64
-    ensures { λ r. ⌜ r ≡ middleOf x (sets margin (now (values .entry))) ⌝ }
+    ensures { λ r. ⌜ r ≡ middleOf x (sets margin (lent values)) ⌝ }
 {
     let mut at = 0;
     while at < values.len() {
@@ -102,7 +103,7 @@ fn middle_of(values: &[f64], margin: f64, x: f64) -> f64
 // What x counts as among the deltas of a group. They are lent to be put in order, the distinct ones in front.
 pub fn normal_of(deltas: &mut [f64], margin: f64, x: f64) -> f64
     requires { ⌜ AllFinite (now deltas) ⌝ }
-    ensures { λ r. ⌜ NormalOf margin (now (deltas .entry)) (now (deltas .exit)) x r ⌝ }
+    ensures { λ r. ⌜ NormalOf margin (lent deltas) (left deltas) x r ⌝ }
 {
     let k = distinct_values(deltas);
     middle_of(&deltas[..k], margin, x)

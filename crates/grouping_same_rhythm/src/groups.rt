@@ -3,6 +3,7 @@ ghost use mathlib.Core.Path.{_≡_};
 ghost use Prim.Native.Nat.{ℕ, _<_};
 ghost use lib.ListN.{length, getD};
 ghost use lib.Ieee.{nan};
+ghost use Rattle.lent.specs.Slice.{lent, left};
 ghost use Rattle.lent.specs.Over.{over};
 ghost use Rattle.grouping_same_rhythm.specs.SameRhythm.{startsOf, between, intervalsOf};
 ghost use Rattle.grouping_same_rhythm.specs.passes.Groups.{IntervalsRoom};
@@ -23,7 +24,7 @@ fn start_between(previous: f64, start: f64, margin: f64) -> f64
 fn interval_at(start: &[f64], firsts: &[u16], margin: f64, k: usize) -> f64
     requires { ⌜ (k < length (now firsts))
         × ((i : ℕ) → i < length (now firsts) → getD (now firsts) i 0 < length (now start)) ⌝ }
-    ensures { λ r. ⌜ r ≡ getD (intervalsOf margin (startsOf (now (start .entry)) (now (firsts .entry)))) k nan ⌝ }
+    ensures { λ r. ⌜ r ≡ getD (intervalsOf margin (startsOf (lent start) (lent firsts))) k nan ⌝ }
 {
     if k == 0 {
         return 1.0 / 0.0;
@@ -36,8 +37,8 @@ fn interval_at(start: &[f64], firsts: &[u16], margin: f64, k: usize) -> f64
 // Fills the interval of each group.
 pub fn fill_intervals(start: &[f64], firsts: &[u16], margin: f64, intervals: &mut [f64])
     requires { ⌜ IntervalsRoom (now start) (now firsts) (now intervals) ⌝ }
-    ensures { λ r. ⌜ now (intervals .exit)
-        ≡ over (intervalsOf margin (startsOf (now (start .entry)) (now (firsts .entry)))) (now (intervals .entry)) ⌝ }
+    ensures { λ r. ⌜ left intervals
+        ≡ over (intervalsOf margin (startsOf (lent start) (lent firsts))) (lent intervals) ⌝ }
 {
     let mut k = 0;
     while k < firsts.len() {

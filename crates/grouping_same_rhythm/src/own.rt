@@ -1,5 +1,6 @@
 // A group's own interval: found, snapped to the one before, and set against it.
 ghost use mathlib.Core.Path.{_≡_};
+ghost use Rattle.lent.specs.Slice.{lent, left};
 ghost use Rattle.numeric_sort.specs.Ordered.{AllFinite};
 ghost use Rattle.grouping_same_rhythm.specs.Own.{snapped, ratioOf};
 ghost use Rattle.grouping_same_rhythm.specs.passes.Owns.{Modal};
@@ -16,7 +17,7 @@ pub enum Own {
 // The second note's normalised delta, to whole. The group's deltas are lent to be put in order.
 pub fn modal_delta(deltas: &mut [f64], margin: f64) -> Own
     requires { ⌜ AllFinite (now deltas) ⌝ }
-    ensures { λ r. ⌜ Modal margin (now (deltas .entry)) (now (deltas .exit)) r ⌝ }
+    ensures { λ r. ⌜ Modal margin (lent deltas) (left deltas) r ⌝ }
 {
     if deltas.len() < 2 {
         return Own::Absent;

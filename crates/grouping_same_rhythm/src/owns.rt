@@ -1,5 +1,6 @@
 // The own intervals up to one group: of them only the last four are needed at a time.
 ghost use mathlib.Core.Path.{_≡_};
+ghost use Rattle.lent.specs.Slice.{lent, left};
 ghost use Rattle.grouping_same_rhythm.specs.Own.{snapped};
 ghost use Rattle.grouping_same_rhythm.specs.passes.Owns.{recentWith, GroupThere, ReachedIs};
 use crate::own::Own;
@@ -39,7 +40,7 @@ fn further(r: Recent, own: Own, margin: f64) -> Recent
 // Group g. The notes' deltas are lent to be put in order, group by group.
 pub fn reach(deltas: &mut [f64], margin: f64, g: usize) -> Reached
     requires { ⌜ GroupThere margin (now deltas) g ⌝ }
-    ensures { λ r. ⌜ ReachedIs margin (now (deltas .entry)) (now (deltas .exit)) g r ⌝ }
+    ensures { λ r. ⌜ ReachedIs margin (lent deltas) (left deltas) g r ⌝ }
 {
     let mut owns = Recent {
         newest: Own::Absent,

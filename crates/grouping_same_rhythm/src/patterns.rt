@@ -2,6 +2,7 @@
 ghost use mathlib.Core.Path.{_≡_};
 ghost use Prim.Native.Nat.{_-_, _≤_, _<_};
 ghost use lib.ListN.{length};
+ghost use Rattle.lent.specs.Slice.{lent};
 ghost use Rattle.lent.specs.Over.{part};
 ghost use Rattle.grouping_same_rhythm.specs.SamePatterns.{patternInterval, patternOf};
 use grouping_interval::walk::next_end;
@@ -15,7 +16,7 @@ pub struct Pattern {
 // The interval of the pattern of the groups from `at` to `end`.
 fn pattern_interval(intervals: &[f64], at: usize, end: usize) -> f64
     requires { ⌜ (at < end) × (end ≤ length (now intervals)) ⌝ }
-    ensures { λ r. ⌜ r ≡ patternInterval (part at (end - at) (now (intervals .entry))) ⌝ }
+    ensures { λ r. ⌜ r ≡ patternInterval (part at (end - at) (lent intervals)) ⌝ }
 {
     if at + 1 < end {
         return intervals[at + 1];
@@ -26,7 +27,7 @@ fn pattern_interval(intervals: &[f64], at: usize, end: usize) -> f64
 // The pattern of group g.
 pub fn pattern_at(intervals: &[f64], margin: f64, g: usize) -> Pattern
     requires { ⌜ g < length (now intervals) ⌝ }
-    ensures { λ r. ⌜ r ≡ patternOf margin (now (intervals .entry)) g ⌝ }
+    ensures { λ r. ⌜ r ≡ patternOf margin (lent intervals) g ⌝ }
 {
     let mut number = 0;
     let mut before = 0;

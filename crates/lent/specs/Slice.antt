@@ -3,12 +3,12 @@ use mathlib.Core.List.{List}
 use denote.Ref.{RefT, now}
 use denote.Triple.Both.{Both}
 
--- a slice of a call, and the same at entry and at exit
-abbrev pub Held : Type 0 → Type 0
-Held A = RefT (List A)
+-- a slice at one moment of a call, and at the two of which a promise speaks, entry and exit
+abbrev pub SliceAt : Type 0 → Type 0
+SliceAt A = RefT (List A)
 
 abbrev pub Slice : Type 0 → Type 0
-Slice A = Both (Held A) (Held A)
+Slice A = Both (SliceAt A) (SliceAt A)
 
 -- what it holds as lent, and as left
 abbrev pub lent : {A : Type 0} → Slice A → List A

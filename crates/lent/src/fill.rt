@@ -4,12 +4,13 @@ ghost use Prim.Native.Nat.{ℕ, _+_, _≤_, _<_};
 ghost use lib.ListN.{length, getD, replicate};
 ghost use lib.Ieee as Ieee;
 ghost use lib.Ieee.{binary64};
+ghost use Rattle.lent.specs.Slice.{lent, left};
 ghost use Rattle.lent.specs.Over.{over, put};
 ghost use Rattle.lent.specs.Scan.{gathered};
 
 pub fn copy(src: &[u16], out: &mut [u16])
     requires { ⌜ length (now src) ≤ length (now out) ⌝ }
-    ensures { λ r. ⌜ now (out .exit) ≡ over (now (src .entry)) (now (out .entry)) ⌝ }
+    ensures { λ r. ⌜ left out ≡ over (lent src) (lent out) ⌝ }
 {
     let mut i = 0;
     while i < src.len() {
@@ -22,7 +23,7 @@ pub fn copy(src: &[u16], out: &mut [u16])
 pub fn gather(table: &[u16], idx: &[u16], out: &mut [u16])
     requires { ⌜ (length (now idx) ≤ length (now out))
         × ((i : ℕ) → i < length (now idx) → getD (now idx) i 0 < length (now table)) ⌝ }
-    ensures { λ r. ⌜ now (out .exit) ≡ over (gathered (now (table .entry)) (now (idx .entry))) (now (out .entry)) ⌝ }
+    ensures { λ r. ⌜ left out ≡ over (gathered (lent table) (lent idx)) (lent out) ⌝ }
 {
     let mut i = 0;
     while i < idx.len() {
@@ -37,7 +38,7 @@ pub fn gather_bytes(table: &[u16], idx: &[u16], out: &mut [u8])
     requires { ⌜ (length (now idx) ≤ length (now out))
         × (((i : ℕ) → i < length (now idx) → getD (now idx) i 0 < length (now table))
         × ((j : ℕ) → getD (now table) j 0 < 256)) ⌝ }
-    ensures { λ r. ⌜ now (out .exit) ≡ over (gathered (now (table .entry)) (now (idx .entry))) (now (out .entry)) ⌝ }
+    ensures { λ r. ⌜ left out ≡ over (gathered (lent table) (lent idx)) (lent out) ⌝ }
 {
     let mut i = 0;
     while i < idx.len() {
@@ -50,7 +51,7 @@ pub fn gather_bytes(table: &[u16], idx: &[u16], out: &mut [u8])
 // Stores v in m places from `to` on.
 pub fn store_all(s: &mut [u16], to: usize, m: usize, v: u16)
     requires { ⌜ to + m ≤ length (now s) ⌝ }
-    ensures { λ r. ⌜ now (s .exit) ≡ put to (replicate m v) (now (s .entry)) ⌝ }
+    ensures { λ r. ⌜ left s ≡ put to (replicate m v) (lent s) ⌝ }
 {
     let mut i = 0;
     while i < m {
@@ -62,7 +63,7 @@ pub fn store_all(s: &mut [u16], to: usize, m: usize, v: u16)
 // Sets the first n places to 0.
 pub fn clear(s: &mut [u16], n: usize)
     requires { ⌜ n ≤ length (now s) ⌝ }
-    ensures { λ r. ⌜ now (s .exit) ≡ over (replicate n 0) (now (s .entry)) ⌝ }
+    ensures { λ r. ⌜ left s ≡ over (replicate n 0) (lent s) ⌝ }
 {
     store_all(s, 0, n, 0);
 }
@@ -70,7 +71,7 @@ pub fn clear(s: &mut [u16], n: usize)
 // Sets the first n places to +0.0.
 pub fn clear_floats(s: &mut [f64], n: usize)
     requires { ⌜ n ≤ length (now s) ⌝ }
-    ensures { λ r. ⌜ now (s .exit) ≡ over (replicate n (Ieee.ofBits binary64 0)) (now (s .entry)) ⌝ }
+    ensures { λ r. ⌜ left s ≡ over (replicate n (Ieee.ofBits binary64 0)) (lent s) ⌝ }
 {
     let mut i = 0;
     while i < n {

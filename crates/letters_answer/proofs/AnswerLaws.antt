@@ -12,7 +12,7 @@ use Rattle.grouping_preprocessor.specs.Preprocessor.{alternatingOf, hitOf, inte
 use Rattle.grouping_colour.proofs.StreakListLaws.{length-streakOf}
 use Rattle.grouping_preprocessor.proofs.BoundLaws.{length-alternatingOf, length-hitOf, length-intervalOf}
 use Rattle.grouping_chart.specs.Settings.{baseSettings}
-use Rattle.call_encode.specs.Encode.{Memory}
+use Rattle.call_encode.specs.Call.{Memory}
 use Rattle.call_encode.specs.passes.LookUps.{Encoded}
 use Rattle.letters_text.specs.declared.Reading.{Reading}
 use Rattle.letters_text.specs.declared.Reading.the-variants.{Long, Bad, Letters}

@@ -3,6 +3,7 @@ ghost use mathlib.Core.Path.{_≡_};
 ghost use mathlib.Core.List.{[], _∷_};
 ghost use Prim.Native.Nat.{_+_, _≤_, _<_};
 ghost use lib.ListN.{length};
+ghost use Rattle.lent.specs.Slice.{lent, left};
 ghost use Rattle.lent.specs.Over.{over};
 ghost use Rattle.letters_text.specs.Letters.{trimmed, isLetter, kindOf, letterOf, kindsOf, firstBad};
 ghost use Rattle.letters_text.specs.Decimal.{digitAt, decimal};
@@ -28,7 +29,7 @@ pub struct Object {
 
 // The text's length without one line feed at its end.
 fn trimmed_length(s: &[u8]) -> usize
-    ensures { λ r. ⌜ Front (now (s .entry)) (trimmed (now (s .entry))) r ⌝ }
+    ensures { λ r. ⌜ Front (lent s) (trimmed (lent s)) r ⌝ }
 {
     let n = s.len();
     if n == 0 {
@@ -72,7 +73,7 @@ fn letter_of(kind: u8) -> u8
 
 // The place of the first byte that is no letter, or the length.
 fn first_bad(t: &[u8]) -> usize
-    ensures { λ r. ⌜ r ≡ firstBad (now (t .entry)) ⌝ }
+    ensures { λ r. ⌜ r ≡ firstBad (lent t) ⌝ }
 {
     let mut place = 0;
     while place < t.len() {
@@ -88,7 +89,7 @@ fn first_bad(t: &[u8]) -> usize
 
 fn fill_kinds(t: &[u8], kinds: &mut [u8])
     requires { ⌜ length (now t) ≤ length (now kinds) ⌝ }
-    ensures { λ r. ⌜ now (kinds .exit) ≡ over (kindsOf (now (t .entry))) (now (kinds .entry)) ⌝ }
+    ensures { λ r. ⌜ left kinds ≡ over (kindsOf (lent t)) (lent kinds) ⌝ }
 {
     let mut i = 0;
     while i < t.len() {
@@ -100,7 +101,7 @@ fn fill_kinds(t: &[u8], kinds: &mut [u8])
 
 fn read_text(t: &[u8], kinds: &mut [u8]) -> Reading
     requires { ⌜ 1024 ≤ length (now kinds) ⌝ }
-    ensures { λ r. ⌜ ReadText (now (t .entry)) (now (kinds .entry)) (now (kinds .exit)) r ⌝ }
+    ensures { λ r. ⌜ ReadText (lent t) (lent kinds) (left kinds) r ⌝ }
 {
     let n = t.len();
     if 1024 < n {
@@ -117,7 +118,7 @@ fn read_text(t: &[u8], kinds: &mut [u8]) -> Reading
 // What was read: the kinds are filled where it is letters, else left as they are.
 pub fn read_letters(s: &[u8], kinds: &mut [u8]) -> Reading
     requires { ⌜ 1024 ≤ length (now kinds) ⌝ }
-    ensures { λ r. ⌜ ReadText (trimmed (now (s .entry))) (now (kinds .entry)) (now (kinds .exit)) r ⌝ }
+    ensures { λ r. ⌜ ReadText (trimmed (lent s)) (lent kinds) (left kinds) r ⌝ }
 {
     let n = trimmed_length(s);
     read_text(&s[..n], kinds)
@@ -126,7 +127,7 @@ pub fn read_letters(s: &[u8], kinds: &mut [u8]) -> Reading
 // Each `put_` function writes a text from place `at` on and returns the place after it.
 fn put_byte(out: &mut [u8], at: usize, b: u8) -> usize
     requires { ⌜ at < length (now out) ⌝ }
-    ensures { λ r. ⌜ Wrote (b ∷ []) at (now (out .entry)) (now (out .exit)) r ⌝ }
+    ensures { λ r. ⌜ Wrote (b ∷ []) at (lent out) (left out) r ⌝ }
 {
     out[at] = b;
     at + 1
@@ -134,7 +135,7 @@ fn put_byte(out: &mut [u8], at: usize, b: u8) -> usize
 
 fn put_word(out: &mut [u8], at: usize, word: &[u8]) -> usize
     requires { ⌜ at + length (now word) ≤ length (now out) ⌝ }
-    ensures { λ r. ⌜ Wrote (now (word .entry)) at (now (out .entry)) (now (out .exit)) r ⌝ }
+    ensures { λ r. ⌜ Wrote (lent word) at (lent out) (left out) r ⌝ }
 {
     let n = word.len();
     let mut i = 0;
@@ -148,7 +149,7 @@ fn put_word(out: &mut [u8], at: usize, word: &[u8]) -> usize
 // The digit at the place worth `worth`, where n reaches it.
 fn put_digit(out: &mut [u8], at: usize, n: usize, worth: usize) -> usize
     requires { ⌜ (0 < worth) × (at + length (digitAt n worth) ≤ length (now out)) ⌝ }
-    ensures { λ r. ⌜ Wrote (digitAt n worth) at (now (out .entry)) (now (out .exit)) r ⌝ }
+    ensures { λ r. ⌜ Wrote (digitAt n worth) at (lent out) (left out) r ⌝ }
 {
     if n < worth {
         return at;
@@ -159,7 +160,7 @@ fn put_digit(out: &mut [u8], at: usize, n: usize, worth: usize) -> usize
 // In decimal.
 fn put_number(out: &mut [u8], at: usize, n: usize) -> usize
     requires { ⌜ at + length (decimal n) ≤ length (now out) ⌝ }
-    ensures { λ r. ⌜ Wrote (decimal n) at (now (out .entry)) (now (out .exit)) r ⌝ }
+    ensures { λ r. ⌜ Wrote (decimal n) at (lent out) (left out) r ⌝ }
 {
     let a = put_digit(out, at, n, 1000);
     let b = put_digit(out, a, n, 100);
@@ -170,7 +171,7 @@ fn put_number(out: &mut [u8], at: usize, n: usize) -> usize
 // The head of the line that o opens.
 fn put_head(out: &mut [u8], at: usize, o: Object) -> usize
     requires { ⌜ at + length (lineHead o) ≤ length (now out) ⌝ }
-    ensures { λ r. ⌜ Wrote (lineHead o) at (now (out .entry)) (now (out .exit)) r ⌝ }
+    ensures { λ r. ⌜ Wrote (lineHead o) at (lent out) (left out) r ⌝ }
 {
     let to = put_number(out, at, o.interval as usize);
     put_byte(out, to, b' ')
@@ -179,7 +180,7 @@ fn put_head(out: &mut [u8], at: usize, o: Object) -> usize
 // What stands between the letters of two neighbours.
 fn put_parting(out: &mut [u8], at: usize, p: Object, o: Object) -> usize
     requires { ⌜ at + length (parting p o) ≤ length (now out) ⌝ }
-    ensures { λ r. ⌜ Wrote (parting p o) at (now (out .entry)) (now (out .exit)) r ⌝ }
+    ensures { λ r. ⌜ Wrote (parting p o) at (lent out) (left out) r ⌝ }
 {
     if o.hit != p.hit {
         let to = put_byte(out, at, b'\n');
@@ -197,7 +198,7 @@ fn put_parting(out: &mut [u8], at: usize, p: Object, o: Object) -> usize
 // The first object's letter, with the head of its line.
 fn put_first(out: &mut [u8], o: Object) -> usize
     requires { ⌜ length (firstLetter o) ≤ length (now out) ⌝ }
-    ensures { λ r. ⌜ Wrote (firstLetter o) 0 (now (out .entry)) (now (out .exit)) r ⌝ }
+    ensures { λ r. ⌜ Wrote (firstLetter o) 0 (lent out) (left out) r ⌝ }
 {
     let to = put_head(out, 0, o);
     put_byte(out, to, letter_of(o.kind))
@@ -206,7 +207,7 @@ fn put_first(out: &mut [u8], o: Object) -> usize
 // The letter of o, with what parts it from p's.
 fn put_next(out: &mut [u8], at: usize, p: Object, o: Object) -> usize
     requires { ⌜ at + length (nextLetter p o) ≤ length (now out) ⌝ }
-    ensures { λ r. ⌜ Wrote (nextLetter p o) at (now (out .entry)) (now (out .exit)) r ⌝ }
+    ensures { λ r. ⌜ Wrote (nextLetter p o) at (lent out) (left out) r ⌝ }
 {
     let to = put_parting(out, at, p, o);
     put_byte(out, to, letter_of(o.kind))
@@ -222,8 +223,8 @@ fn object_at(
 ) -> Object
     requires { ⌜ (i < length (now kinds))
         × OneLength (columnsOf (now kinds) (now streak) (now pattern) (now hit) (now interval)) ⌝ }
-    ensures { λ r. ⌜ r ≡ objectAt (columnsOf (now (kinds .entry)) (now (streak .entry)) (now (pattern .entry))
-        (now (hit .entry)) (now (interval .entry))) i ⌝ }
+    ensures { λ r. ⌜ r ≡ objectAt (columnsOf (lent kinds) (lent streak) (lent pattern)
+        (lent hit) (lent interval)) i ⌝ }
 {
     Object {
         kind: kinds[i],
@@ -245,8 +246,8 @@ pub fn write_lines(
 ) -> usize
     requires { ⌜ LinesFit (columnsOf (now kinds) (now streak) (now pattern) (now hit) (now interval))
         (length (now out)) ⌝ }
-    ensures { λ r. ⌜ Written (lines (columnsOf (now (kinds .entry)) (now (streak .entry)) (now (pattern .entry))
-        (now (hit .entry)) (now (interval .entry)))) (now (out .entry)) (now (out .exit)) r ⌝ }
+    ensures { λ r. ⌜ Written (lines (columnsOf (lent kinds) (lent streak) (lent pattern)
+        (lent hit) (lent interval))) (lent out) (left out) r ⌝ }
 {
     let n = kinds.len();
     if n == 0 {
@@ -267,7 +268,7 @@ pub fn write_lines(
 // `bad P`, where P is the place of the first byte that is no letter.
 pub fn write_bad(place: usize, out: &mut [u8]) -> usize
     requires { ⌜ (place < 10000) × (9 ≤ length (now out)) ⌝ }
-    ensures { λ r. ⌜ Written (badLine place) (now (out .entry)) (now (out .exit)) r ⌝ }
+    ensures { λ r. ⌜ Written (badLine place) (lent out) (left out) r ⌝ }
 {
     let to = put_word(out, 0, b"bad ");
     let end = put_number(out, to, place);
@@ -277,7 +278,7 @@ pub fn write_bad(place: usize, out: &mut [u8]) -> usize
 // `long`, for a text of over 1,024 bytes.
 pub fn write_long(out: &mut [u8]) -> usize
     requires { ⌜ 5 ≤ length (now out) ⌝ }
-    ensures { λ r. ⌜ Written longLine (now (out .entry)) (now (out .exit)) r ⌝ }
+    ensures { λ r. ⌜ Written longLine (lent out) (left out) r ⌝ }
 {
     put_word(out, 0, b"long\n")
 }

@@ -1,6 +1,7 @@
 // The stored cases of all calls: what follows a head in a file, and whether a case holds, whichever call it is of.
 ghost use mathlib.Core.Path.{_≡_};
 ghost use Prim.Native.Nat.{_≤_};
+ghost use Rattle.lent.specs.Slice.{lent};
 ghost use Rattle.vectors.specs.Held.{Tells};
 ghost use Rattle.replay_cases.specs.Cases.{followsIn, ChartHolds, PartHolds};
 use vectors::case::Head;
@@ -40,7 +41,7 @@ pub fn follows(call: u8, h: Head) -> Next
 // Whether a case with a chart of its own holds, in slices with so many places to spare.
 pub fn chart_holds(h: Head, body: &[u8], spare: usize) -> bool
     requires { ⌜ spare ≤ 7 ⌝ }
-    ensures { λ r. ⌜ Tells r (ChartHolds h (now (body .entry)) spare) ⌝ }
+    ensures { λ r. ⌜ Tells r (ChartHolds h (lent body) spare) ⌝ }
 {
     if h.call == ENCODE {
         return cases_encode::holds(h, body, spare);
@@ -54,7 +55,7 @@ pub fn chart_holds(h: Head, body: &[u8], spare: usize) -> bool
 // Whether a case on the chart of another one holds.
 pub fn part_holds(chart: Head, body: &[u8], h: Head, part: &[u8], spare: usize) -> bool
     requires { ⌜ spare ≤ 7 ⌝ }
-    ensures { λ r. ⌜ Tells r (PartHolds chart (now (body .entry)) h (now (part .entry)) spare) ⌝ }
+    ensures { λ r. ⌜ Tells r (PartHolds chart (lent body) h (lent part) spare) ⌝ }
 {
     if h.call == STRETCH {
         return cases_colour::stretch_holds(chart, body, h, part, spare);

@@ -3,6 +3,7 @@
 // what is counted is what the definitions say of these bytes. Nor can it say that there were bytes to read: `End`, and
 // `Broken`, which counts as a difference, are allowed at any time. How many cases were read, the program prints.
 ghost use Prim.Native.Nat.{_≤_};
+ghost use Rattle.lent.specs.Slice.{lent, left};
 ghost use Rattle.replay_read.specs.Read.{ChartRead, PartRead, CaseRead, FileRead};
 use replay_cases::Next;
 use replay_cases::count;
@@ -13,7 +14,7 @@ use vectors::case::Head;
 // Reads the body of a case with a chart of its own, and replays it.
 fn chart_case(fd: i32, spare: usize, h: Head, body: &mut [u8]) -> Replayed
     requires { ⌜ spare ≤ 7 ⌝ }
-    ensures { λ r. ⌜ ChartRead h spare (now (body .exit)) r ⌝ }
+    ensures { λ r. ⌜ ChartRead h spare (left body) r ⌝ }
 {
     let size = h.size;
     if body.len() < size {
@@ -29,7 +30,7 @@ fn chart_case(fd: i32, spare: usize, h: Head, body: &mut [u8]) -> Replayed
 // Reads a case on the chart whose body is at hand, and replays it.
 fn part_case(fd: i32, spare: usize, chart: Head, body: &[u8], h: Head, part: &mut [u8]) -> Replayed
     requires { ⌜ spare ≤ 7 ⌝ }
-    ensures { λ r. ⌜ PartRead chart (now (body .entry)) h spare (now (part .exit)) r ⌝ }
+    ensures { λ r. ⌜ PartRead chart (lent body) h spare (left part) r ⌝ }
 {
     let size = h.size;
     let whole = chart.size;
@@ -55,7 +56,7 @@ fn next_case(
     body: &mut [u8],
     part: &mut [u8],
 ) -> Replayed
-    ensures { λ c. ⌜ CaseRead call r (now (head .exit)) (now (body .entry)) (now (body .exit)) (now (part .exit)) c ⌝ }
+    ensures { λ c. ⌜ CaseRead call r (left head) (lent body) (left body) (left part) c ⌝ }
 {
     let got = io::read_full(fd, head);
     if got == 0 {

@@ -2,6 +2,7 @@
 ghost use mathlib.Core.Path.{_≡_};
 ghost use lib.Ieee as Ieee;
 ghost use lib.Ieee.{binary64};
+ghost use Rattle.lent.specs.Slice.{lent, left};
 ghost use Rattle.numeric.specs.Near.{isNear};
 ghost use Rattle.numeric.specs.TotalOrder.{totalOrder};
 ghost use Rattle.numeric.specs.RoundTiesEven.{roundTiesEven};
@@ -69,7 +70,7 @@ pub extern "C" fn grouping_group_by_interval(
     group: &mut [u16],
 ) -> usize
     requires { ⌜ Places (now values) (now group) ⌝ }
-    ensures { λ r. ⌜ GroupedByInterval margin (now (values .entry)) (now (group .entry)) (now (group .exit)) r ⌝ }
+    ensures { λ r. ⌜ GroupedByInterval margin (lent values) (lent group) (left group) r ⌝ }
 {
     grouping_interval::group_by_interval(values, margin, group)
 }
@@ -77,7 +78,7 @@ pub extern "C" fn grouping_group_by_interval(
 #[no_mangle]
 pub extern "C" fn grouping_normal_of(deltas: &mut [f64], margin: f64, x: f64) -> f64
     requires { ⌜ AllFinite (now deltas) ⌝ }
-    ensures { λ r. ⌜ NormalOf margin (now (deltas .entry)) (now (deltas .exit)) x r ⌝ }
+    ensures { λ r. ⌜ NormalOf margin (lent deltas) (left deltas) x r ⌝ }
 {
     grouping_normalizer::normal_of(deltas, margin, x)
 }

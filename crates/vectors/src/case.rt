@@ -4,6 +4,7 @@ ghost use Prim.Native.Nat.{_+_, _*_, _^_, _<_, _≤_};
 ghost use lib.ListN.{getD};
 ghost use lib.Ieee as Ieee;
 ghost use lib.Ieee.{binary64};
+ghost use Rattle.lent.specs.Slice.{lent};
 ghost use Rattle.vectors.specs.Case.{pair, pairAt, columnSize, numberAt, quadAt, wordAt, headOf};
 
 // Which call, how many bytes a number of its columns has, how many objects, and how many bytes the body.
@@ -16,7 +17,7 @@ pub struct Head {
 
 // The byte at a place, 0 past the end.
 pub fn byte_at(s: &[u8], at: usize) -> u8
-    ensures { λ r. ⌜ r ≡ getD (now (s .entry)) at 0 ⌝ }
+    ensures { λ r. ⌜ r ≡ getD (lent s) at 0 ⌝ }
 {
     if at < s.len() { s[at] } else { 0 }
 }
@@ -31,7 +32,7 @@ fn number(low: u8, high: u8) -> u16
 // The number of two bytes at a place.
 pub fn pair_at(s: &[u8], at: usize) -> u16
     requires { ⌜ at < 2 ^ 32 ⌝ }
-    ensures { λ r. ⌜ r ≡ pairAt (now (s .entry)) at ⌝ }
+    ensures { λ r. ⌜ r ≡ pairAt (lent s) at ⌝ }
 {
     number(byte_at(s, at), byte_at(s, at + 1))
 }
@@ -39,7 +40,7 @@ pub fn pair_at(s: &[u8], at: usize) -> u16
 // The number of four bytes at a place.
 pub fn quad_at(s: &[u8], at: usize) -> u64
     requires { ⌜ at + 4 < 2 ^ 32 ⌝ }
-    ensures { λ r. ⌜ (r ≡ quadAt (now (s .entry)) at) × (r < 2 ^ 32) ⌝ }
+    ensures { λ r. ⌜ (r ≡ quadAt (lent s) at) × (r < 2 ^ 32) ⌝ }
 {
     pair_at(s, at) as u64 + 65536 * (pair_at(s, at + 2) as u64)
 }
@@ -47,13 +48,13 @@ pub fn quad_at(s: &[u8], at: usize) -> u64
 // The number of eight bytes at a place.
 pub fn word_at(s: &[u8], at: usize) -> u64
     requires { ⌜ at + 8 < 2 ^ 32 ⌝ }
-    ensures { λ r. ⌜ r ≡ wordAt (now (s .entry)) at ⌝ }
+    ensures { λ r. ⌜ r ≡ wordAt (lent s) at ⌝ }
 {
     quad_at(s, at) + 4294967296 * quad_at(s, at + 4)
 }
 
 pub fn read_head(s: &[u8]) -> Head
-    ensures { λ r. ⌜ r ≡ headOf (now (s .entry)) ⌝ }
+    ensures { λ r. ⌜ r ≡ headOf (lent s) ⌝ }
 {
     Head {
         call: byte_at(s, 0),
@@ -74,7 +75,7 @@ pub fn column_size(n: usize, width: u8) -> usize
 // Number i of a column that begins at a place.
 pub fn number_at(s: &[u8], at: usize, width: u8, i: usize) -> u16
     requires { ⌜ at + 2 * i < 2 ^ 32 ⌝ }
-    ensures { λ r. ⌜ r ≡ numberAt (now (s .entry)) at width i ⌝ }
+    ensures { λ r. ⌜ r ≡ numberAt (lent s) at width i ⌝ }
 {
     if width == 1 {
         return byte_at(s, at + i) as u16;

@@ -7,6 +7,7 @@ ghost use Prim.Native.Nat.{_+_, _*_, _^_, _<_};
 ghost use lib.ListN.{replicate};
 ghost use lib.Ieee as Ieee;
 ghost use lib.Ieee.{binary64};
+ghost use Rattle.lent.specs.Slice.{lent};
 ghost use Rattle.lent.specs.Over.{part};
 ghost use Rattle.vectors.specs.Case.{numberAt, column, columnWord, words};
 ghost use Rattle.vectors.specs.Held.{Tells, Held, BytesThere, expected};
@@ -22,7 +23,7 @@ pub fn both(a: bool, b: bool) -> bool
 // What place i is to hold: number i of the column, or past n the sentinel.
 fn number_expected(s: &[u8], at: usize, width: u8, n: usize, sentinel: u16, i: usize) -> u16
     requires { ⌜ at + 2 * n < 2 ^ 32 ⌝ }
-    ensures { λ r. ⌜ r ≡ expected n (numberAt (now (s .entry)) at width) sentinel i ⌝ }
+    ensures { λ r. ⌜ r ≡ expected n (numberAt (lent s) at width) sentinel i ⌝ }
 {
     if i < n {
         case::number_at(s, at, width, i)
@@ -34,7 +35,7 @@ fn number_expected(s: &[u8], at: usize, width: u8, n: usize, sentinel: u16, i: u
 // Whether `got` holds the n numbers of the column that begins at a place, and then the sentinel.
 pub fn column_held(s: &[u8], at: usize, width: u8, n: usize, sentinel: u16, got: &[u16]) -> bool
     requires { ⌜ at + 2 * n < 2 ^ 32 ⌝ }
-    ensures { λ r. ⌜ Tells r (Held (column (now (s .entry)) at width n) sentinel (now (got .entry))) ⌝ }
+    ensures { λ r. ⌜ Tells r (Held (column (lent s) at width n) sentinel (lent got)) ⌝ }
 {
     if got.len() < n {
         return false;
@@ -52,7 +53,7 @@ pub fn column_held(s: &[u8], at: usize, width: u8, n: usize, sentinel: u16, got:
 // Whether `got` holds n zeros, and then the sentinel.
 pub fn zeros_held(n: usize, sentinel: u16, got: &[u16]) -> bool
     requires { ⌜ 2 * n < 2 ^ 32 ⌝ }
-    ensures { λ r. ⌜ Tells r (Held (replicate n 0) sentinel (now (got .entry))) ⌝ }
+    ensures { λ r. ⌜ Tells r (Held (replicate n 0) sentinel (lent got)) ⌝ }
 {
     column_held(b"", 0, 1, n, sentinel, got)
 }
@@ -60,7 +61,7 @@ pub fn zeros_held(n: usize, sentinel: u16, got: &[u16]) -> bool
 // Whether `got` holds the n bytes from a place on, and then the sentinel.
 pub fn bytes_held(s: &[u8], at: usize, n: usize, sentinel: u8, got: &[u8]) -> bool
     requires { ⌜ BytesThere at n (now s) (now got) ⌝ }
-    ensures { λ r. ⌜ Tells r (Held (part at n (now (s .entry))) sentinel (now (got .entry))) ⌝ }
+    ensures { λ r. ⌜ Tells r (Held (part at n (lent s)) sentinel (lent got)) ⌝ }
 {
     let room = got.len();
     if room < n {
@@ -73,7 +74,7 @@ pub fn bytes_held(s: &[u8], at: usize, n: usize, sentinel: u8, got: &[u8]) -> bo
 
 fn bits_expected(s: &[u8], at: usize, n: usize, sentinel: f64, i: usize) -> u64
     requires { ⌜ at + 8 * n < 2 ^ 32 ⌝ }
-    ensures { λ r. ⌜ r ≡ expected n (columnWord (now (s .entry)) at) (Ieee.toBits binary64 sentinel) i ⌝ }
+    ensures { λ r. ⌜ r ≡ expected n (columnWord (lent s) at) (Ieee.toBits binary64 sentinel) i ⌝ }
 {
     if i < n {
         case::word_at(s, at + 8 * i)
@@ -85,8 +86,8 @@ fn bits_expected(s: &[u8], at: usize, n: usize, sentinel: f64, i: usize) -> u64
 // Whether `got` holds the n floats from a place on, and then the sentinel, by their bits.
 pub fn floats_held(s: &[u8], at: usize, n: usize, sentinel: f64, got: &[f64]) -> bool
     requires { ⌜ at + 8 * n < 2 ^ 32 ⌝ }
-    ensures { λ r. ⌜ Tells r (Held (words (now (s .entry)) at n) (Ieee.toBits binary64 sentinel)
-        (map (Ieee.toBits binary64) (now (got .entry)))) ⌝ }
+    ensures { λ r. ⌜ Tells r (Held (words (lent s) at n) (Ieee.toBits binary64 sentinel)
+        (map (Ieee.toBits binary64) (lent got))) ⌝ }
 {
     let room = got.len();
     if room < n {
@@ -106,7 +107,7 @@ pub fn floats_held(s: &[u8], at: usize, n: usize, sentinel: f64, got: &[f64]) ->
 pub fn zero_floats_held(n: usize, sentinel: f64, got: &[f64]) -> bool
     requires { ⌜ 8 * n < 2 ^ 32 ⌝ }
     ensures { λ r. ⌜ Tells r (Held (replicate n 0) (Ieee.toBits binary64 sentinel)
-        (map (Ieee.toBits binary64) (now (got .entry)))) ⌝ }
+        (map (Ieee.toBits binary64) (lent got))) ⌝ }
 {
     floats_held(b"", 0, n, sentinel, got)
 }

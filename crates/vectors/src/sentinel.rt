@@ -1,5 +1,6 @@
 // What slices are lent with, and whether a call left in them what it must.
 ghost use Prim.Native.Nat.{_≤_, _<_, _+_, _*_, _^_};
+ghost use Rattle.lent.specs.Slice.{lent};
 ghost use Rattle.vectors.specs.Held.{Tells};
 ghost use Rattle.vectors.specs.Sentinel.{Columns, Cleared};
 use crate::held;
@@ -24,7 +25,7 @@ pub fn columns_held(
     b: &[u16],
 ) -> bool
     requires { ⌜ at + size + 2 * n < 2 ^ 32 ⌝ }
-    ensures { λ r. ⌜ Tells r (Columns (now (s .entry)) at size width n (now (a .entry)) (now (b .entry))) ⌝ }
+    ensures { λ r. ⌜ Tells r (Columns (lent s) at size width n (lent a) (lent b)) ⌝ }
 {
     let first = held::column_held(s, at, width, n, NUMBER_SENTINEL, a);
     let second = held::column_held(s, at + size, width, n, NUMBER_SENTINEL, b);
@@ -34,7 +35,7 @@ pub fn columns_held(
 // Whether a call on n objects left 8n zeros and n times +0.0, and every place past them as it was lent.
 pub fn work_cleared(n: usize, work: &[u16], scratch: &[f64]) -> bool
     requires { ⌜ n ≤ 16384 ⌝ }
-    ensures { λ r. ⌜ Tells r (Cleared n (now (work .entry)) (now (scratch .entry))) ⌝ }
+    ensures { λ r. ⌜ Tells r (Cleared n (lent work) (lent scratch)) ⌝ }
 {
     let numbers = held::zeros_held(8 * n, NUMBER_SENTINEL, work);
     let floats = held::zero_floats_held(n, FLOAT_SENTINEL, scratch);

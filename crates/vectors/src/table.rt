@@ -1,6 +1,7 @@
 // A column of places in a table of floats: reading the floats that it names into a slice.
 ghost use mathlib.Core.Path.{_≡_};
 ghost use Prim.Native.Nat.{_^_, _≤_, _<_};
+ghost use Rattle.lent.specs.Slice.{lent, left};
 ghost use Rattle.lent.specs.Over.{over};
 ghost use Rattle.vectors.specs.Table.{placeAt, entryAt, entries, EntryThere, EntriesRoom};
 use crate::case;
@@ -8,7 +9,7 @@ use crate::case;
 // Which float of the table is meant at i: the one that number i of the column names, or the next where the width is 0.
 fn place_at(s: &[u8], column: usize, width: u8, i: usize) -> usize
     requires { ⌜ (column < 2 ^ 31) × (i ≤ 16384) ⌝ }
-    ensures { λ r. ⌜ (r ≡ placeAt (now (s .entry)) column width i) × (r < 65536) ⌝ }
+    ensures { λ r. ⌜ (r ≡ placeAt (lent s) column width i) × (r < 65536) ⌝ }
 {
     if width == 0 {
         return i;
@@ -19,7 +20,7 @@ fn place_at(s: &[u8], column: usize, width: u8, i: usize) -> usize
 // The float that is meant at i.
 fn entry_at(s: &[u8], table: usize, column: usize, width: u8, i: usize) -> f64
     requires { ⌜ EntryThere table column i ⌝ }
-    ensures { λ r. ⌜ r ≡ entryAt (now (s .entry)) table column width i ⌝ }
+    ensures { λ r. ⌜ r ≡ entryAt (lent s) table column width i ⌝ }
 {
     case::float_of(case::word_at(s, table + 8 * place_at(s, column, width, i)))
 }
@@ -28,7 +29,7 @@ fn entry_at(s: &[u8], table: usize, column: usize, width: u8, i: usize) -> f64
 // where the column's numbers have no bytes, the first n.
 pub fn read(s: &[u8], table: usize, column: usize, width: u8, n: usize, out: &mut [f64])
     requires { ⌜ EntriesRoom table column n (now out) ⌝ }
-    ensures { λ r. ⌜ now (out .exit) ≡ over (entries (now (s .entry)) table column width n) (now (out .entry)) ⌝ }
+    ensures { λ r. ⌜ left out ≡ over (entries (lent s) table column width n) (lent out) ⌝ }
 {
     let mut i = 0;
     while i < n {

@@ -10,9 +10,9 @@ use Rattle.grouping_chart.specs.Refusal.{verdict}
 use Rattle.grouping_chart.specs.declared.chart.Verdict.the-variants.{Accepted}
 use Rattle.grouping_chart.specs.Settings.{Settings}
 use Rattle.grouping_chart.proofs.AcceptedLaws.{accepted-good}
-use Rattle.call_encode.specs.Encode as encode
-use Rattle.call_encode.proofs.EncodeLaws.{hit-written, interval-written}
-use Rattle.call_colour.specs.Calls.{Memory, judged}
+use Rattle.call_encode.specs.Call as encode
+use Rattle.call_encode.proofs.CallLaws.{hit-written, interval-written}
+use Rattle.call_colour.specs.Call.{Memory, judged}
 use Rattle.call_colour.specs.declared.Stretching.the-variants.{Done}
 use Rattle.call_colour.proofs.AnswerLaws.{value-written, stretch-answered}
 use Rattle.agreement.specs.CommonTail.{Counterparts, SameLast}

@@ -17,8 +17,8 @@ use Rattle.grouping_chart.proofs.AcceptedLaws.{accepted-good}
 use Rattle.grouping_chart.proofs.ObjectLaws.{seen₀, seenAfter, seenAfter-take, seenNext-notes, seen-count, notes-few}
 use Rattle.grouping_interval.proofs.NoteLaws.{length-note-objects, length-of-notes, objects-all, objects-step, objects-over}
 use Rattle.grouping_chart.proofs.CutLaws.{note-number}
-use Rattle.call_rhythm.specs.Rhythm.{Memory, judged, rhythmOutcome}
-use Rattle.call_rhythm.proofs.RhythmLaws.{group-written}
+use Rattle.call_rhythm.specs.Call.{Memory, judged, rhythmOutcome}
+use Rattle.call_rhythm.proofs.CallLaws.{group-written}
 use Rattle.agreement.specs.CommonTail.{Counterparts, SameLast}
 use Rattle.agreement.specs.SameGroups.{groupAt}
 use Rattle.agreement.specs.rhythm.Claim.{noteCount, rhythmGroups, LandmarkNote}

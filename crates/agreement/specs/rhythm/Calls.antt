@@ -4,7 +4,7 @@ use Rattle.lent.specs.Scan.{gathered}
 use Rattle.grouping_chart.specs.Chart.{Chart}
 use Rattle.grouping_interval.specs.Notes.{noteObjects}
 use Rattle.grouping_chart.specs.Settings.{Settings}
-use Rattle.call_rhythm.specs.Rhythm.{Memory, rhythmOutcome}
+use Rattle.call_rhythm.specs.Call.{Memory, rhythmOutcome}
 use Rattle.agreement.specs.SameGroups.{Groups, groups, SameGroups}
 use Rattle.agreement.specs.rhythm.Claim.{noteCount}
 

@@ -1,6 +1,6 @@
 -- `colour` meets its contract: the verdict of the definition is the one that the tests gave, and each case leaves its outcome.
 use mathlib.Core.Path.{_≡_, ap, _∙_}
-use Rattle.grouping_chart.specs.Chart.{Chart, size}
+use Rattle.grouping_chart.specs.Chart.{Chart, size, chartHeld}
 use Rattle.grouping_chart.specs.Settings.{Settings}
 use Rattle.grouping_chart.specs.declared.chart.Verdict.{Verdict}
 use Rattle.grouping_chart.specs.declared.chart.Verdict.the-variants.{Accepted}
@@ -8,15 +8,15 @@ use Rattle.grouping_chart.proofs.BaseLaws.{is-permitted}
 use Rattle.grouping_chart.proofs.OutcomeLaws.{verdict-judged, answered-refused}
 use Rattle.grouping_chart.proofs.RoomLaws.{short-joined}
 use Rattle.call_colour.specs.declared.Colouring.the-variants as answer
-use Rattle.call_colour.specs.Calls.{Memory, held, places, judged, colourOutcome}
-use Rattle.call_colour.proofs.CallsLaws.{chart-room, colour-done}
+use Rattle.call_colour.specs.Call.{Memory, held, answerLengths, judged, colourOutcome}
+use Rattle.call_colour.proofs.CallLaws.{chart-room, colour-done}
 use borrow.Author.Needs.{needs}
 use Rattle.call_colour.proofs.colour.Statement.{statement}
 use Rattle.call_colour.proofs.colour.Tie as tie
 
 -- the chart and the memory as lent
 abbrev chartOf : tie.Start → Chart
-chartOf c = record { kinds = c .args .kind .now; starts = c .args .start .now; deltas = c .args .delta .now; ratios = c .args .ratio .now }
+chartOf c = chartHeld (c .args .kind) (c .args .start) (c .args .delta) (c .args .ratio)
 
 abbrev memoryOf : tie.Start → Memory
 memoryOf c = held (c .args .value) (c .args .work) (c .args .scratch)
@@ -28,7 +28,7 @@ start c = c .before .before .before .before .before .before .before .before
 verdict-told : (c : tie.After-judge) {v : Verdict} → c .judge .result ≡ v → judged (chartOf (start c)) (memoryOf (start c)) ≡ v
 verdict-told c =
     let s = start c in
-    verdict-judged (chartOf s) (places (memoryOf s)) _ _ (short-joined (size (chartOf s)) _ _) (c .judge .ensures)
+    verdict-judged (chartOf s) (answerLengths (memoryOf s)) _ _ (short-joined (size (chartOf s)) _ _) (c .judge .ensures)
 
 -- ---- once it is accepted
 accepted : (c : tie.After-enum-told) → judged (chartOf (start (c .before .before))) (memoryOf (start (c .before .before))) ≡ Accepted

@@ -2,7 +2,7 @@
 use borrow.Author.Needs.{needs}
 use native.Mathlib.Omega.{arith}
 use Rattle.evaluator_values.proofs.TablesLaws.{tabled}
-use Rattle.call_colour.specs.Calls.{held}
+use Rattle.call_colour.specs.Call.{held}
 use Rattle.call_colour.proofs.FilledLaws.{filled-is}
 use Rattle.call_colour.proofs.fill_chart.Statement.{statement}
 use Rattle.call_colour.proofs.fill_chart.Tie as tie

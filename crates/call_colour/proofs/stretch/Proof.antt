@@ -3,7 +3,7 @@
 use mathlib.Core.Path.{_≡_, refl, sym, ap, _∙_}
 use mir.Facts.{toZ-ofZ}
 use Rattle.numeric.specs.Tenths.{tenthsOf}
-use Rattle.grouping_chart.specs.Chart.{Chart, size}
+use Rattle.grouping_chart.specs.Chart.{Chart, size, chartHeld}
 use Rattle.grouping_chart.specs.Settings.{Settings}
 use Rattle.grouping_chart.specs.declared.chart.Verdict.{Verdict}
 use Rattle.grouping_chart.specs.declared.chart.Verdict.the-variants.{Accepted}
@@ -12,8 +12,8 @@ use Rattle.grouping_chart.proofs.OutcomeLaws.{verdict-judged, answered-refused}
 use Rattle.grouping_chart.proofs.RoomLaws.{short-joined}
 use Rattle.call_colour.specs.declared.Stretching.the-variants as answer
 use Rattle.call_colour.specs.Stretch.{meanTenths}
-use Rattle.call_colour.specs.Calls.{Memory, held, places, judged, stretchVerdict, stretchOutcome}
-use Rattle.call_colour.proofs.CallsLaws.{within-bounds, chart-room, stretch-done}
+use Rattle.call_colour.specs.Call.{Memory, held, answerLengths, judged, stretchVerdict, stretchOutcome}
+use Rattle.call_colour.proofs.CallLaws.{within-bounds, chart-room, stretch-done}
 use Rattle.call_colour.proofs.StretchLaws.{stretch-room, mean-is, mean-in-range}
 use borrow.Author.Needs.{needs}
 use Rattle.call_colour.proofs.stretch.Statement.{statement}
@@ -21,7 +21,7 @@ use Rattle.call_colour.proofs.stretch.Tie as tie
 
 -- the chart and the memory as lent
 abbrev chartOf : tie.Start → Chart
-chartOf c = record { kinds = c .args .kind .now; starts = c .args .start .now; deltas = c .args .delta .now; ratios = c .args .ratio .now }
+chartOf c = chartHeld (c .args .kind) (c .args .start) (c .args .delta) (c .args .ratio)
 
 abbrev memoryOf : tie.Start → Memory
 memoryOf c = held (c .args .value) (c .args .work) (c .args .scratch)
@@ -37,7 +37,7 @@ start c = c .before .before .before .before .before .before .before .before .bef
 verdict-told : (c : tie.After-stretch-verdict) {v : Verdict} → c .stretch-verdict .result ≡ v → verdictOf (start c) ≡ v
 verdict-told c e =
     let s = start c in
-    let j = verdict-judged (chartOf s) (places (memoryOf s)) _ _ (short-joined (size (chartOf s)) _ _) (c .before .judge .ensures) refl in
+    let j = verdict-judged (chartOf s) (answerLengths (memoryOf s)) _ _ (short-joined (size (chartOf s)) _ _) (c .before .judge .ensures) refl in
     ap (λ (v : Verdict). stretchVerdict v (s .args .kind .now) (s .args .a) (s .args .b)) j ∙ sym (c .stretch-verdict .ensures) ∙ e
 
 -- ---- once they are accepted

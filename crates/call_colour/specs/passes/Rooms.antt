@@ -6,7 +6,7 @@ use lib.ListN.{length}
 use lib.Ieee.{Float}
 use Rattle.grouping_chart.specs.Settings.{Settings, Permitted}
 use Rattle.grouping_preprocessor.specs.passes.Steps.{Regions}
-use Rattle.call_colour.specs.Calls.{Memory}
+use Rattle.call_colour.specs.Call.{Memory}
 
 -- a permitted search limit, a ratio for each object, and room for them in every slice that is written
 pub record ChartRoom (s : Settings) (kinds : List ℕ) (ratios : List Float) (m : Memory) : Type 0 where

@@ -1,7 +1,7 @@
 -- The verdict of the definition is the one that the tests gave, and each case leaves its outcome.
 use mathlib.Core.Path.{_≡_, ap, _∙_}
 use native.Mathlib.Omega.{arith}
-use Rattle.grouping_chart.specs.Chart.{Chart, size}
+use Rattle.grouping_chart.specs.Chart.{Chart, size, chartHeld}
 use Rattle.grouping_chart.specs.Settings.{Settings}
 use Rattle.grouping_chart.specs.declared.chart.Verdict.{Verdict}
 use Rattle.grouping_chart.specs.declared.chart.Verdict.the-variants.{Accepted}
@@ -9,8 +9,8 @@ use Rattle.grouping_chart.proofs.BaseLaws.{is-permitted}
 use Rattle.grouping_chart.proofs.OutcomeLaws.{verdict-judged, answered-refused}
 use Rattle.grouping_chart.proofs.RoomLaws.{short-joined}
 use Rattle.call_encode.specs.declared.Encoding.the-variants as answer
-use Rattle.call_encode.specs.Encode.{Memory, held, places, judged, encodeOutcome}
-use Rattle.call_encode.proofs.EncodeLaws.{done-outcome, kinds-room, scratch-room, filled-is}
+use Rattle.call_encode.specs.Call.{Memory, held, answerLengths, judged, encodeOutcome}
+use Rattle.call_encode.proofs.CallLaws.{done-outcome, kinds-room, scratch-room, filled-is}
 use borrow.Author.Needs.{needs}
 use Rattle.call_encode.proofs.encode.Statement.{statement}
 use Rattle.call_encode.proofs.encode.Tie as tie
@@ -29,7 +29,7 @@ given c = c .before .before .before .before .before .before .before .before .bef
 -- ---- the chart and the memory as lent, and the verdict on them
 
 abbrev chartOf : tie.Start → Chart
-chartOf c = record { kinds = c .args .kind .now; starts = c .args .start .now; deltas = c .args .delta .now; ratios = c .args .ratio .now }
+chartOf c = chartHeld (c .args .kind) (c .args .start) (c .args .delta) (c .args .ratio)
 
 abbrev memoryOf : tie.Start → Memory
 memoryOf c =
@@ -39,7 +39,7 @@ memoryOf c =
 verdict-told : (c : tie.After-judge) {v : Verdict} → c .judge .result ≡ v → judged (chartOf (start c)) (memoryOf (start c)) ≡ v
 verdict-told c =
     let s = start c in
-    verdict-judged (chartOf s) (places (memoryOf s)) _ _ (short-joined (size (chartOf s)) _ _) (c .judge .ensures)
+    verdict-judged (chartOf s) (answerLengths (memoryOf s)) _ _ (short-joined (size (chartOf s)) _ _) (c .judge .ensures)
 
 accepted : (c : tie.After-enum-told) → judged (chartOf (start (c .before .before))) (memoryOf (start (c .before .before))) ≡ Accepted
 accepted c = verdict-told (c .before .before) (c .enum-told .given .1)

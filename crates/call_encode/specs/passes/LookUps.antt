@@ -9,7 +9,7 @@ use Rattle.grouping_colour.specs.MonoStreak.{streakOf}
 use Rattle.grouping_preprocessor.specs.Preprocessor.{streakPlaceOf, alternatingOf, patternPlaceOf}
 use Rattle.grouping_preprocessor.specs.Preprocessor.{hitOf, intervalOf, hitCount}
 use Rattle.grouping_preprocessor.specs.declared.Levels.{Levels}
-use Rattle.call_encode.specs.Encode.{Memory, memory}
+use Rattle.call_encode.specs.Call.{Memory, memory}
 
 -- every one of the first n numbers is below k
 pub record Below (n : ℕ) (numbers : List ℕ) (k : ℕ) : Type 0 where

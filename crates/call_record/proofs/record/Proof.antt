@@ -2,7 +2,7 @@
 use mathlib.Core.Path.{_≡_, refl, sym, ap, _∙_}
 use mathlib.Core.Bool.{Bool, true, false, not}
 use native.Mathlib.Omega.{arith}
-use Rattle.grouping_chart.specs.Chart.{Chart, size}
+use Rattle.grouping_chart.specs.Chart.{Chart, size, chartHeld}
 use Rattle.grouping_chart.specs.Settings.{Settings, baseSettings}
 use Rattle.grouping_chart.specs.Outcome.{Outcome}
 use Rattle.grouping_chart.specs.declared.chart.Verdict.{Verdict}
@@ -11,8 +11,8 @@ use Rattle.grouping_chart.proofs.OutcomeLaws.{verdict-judged}
 use Rattle.grouping_chart.proofs.RoomLaws.{none-asked}
 use Rattle.call_rhythm.proofs.TablesLaws.{groups-counted}
 use Rattle.call_record.specs.declared.Recording.{Recording}
-use Rattle.call_record.specs.Calls.{Memory, held, places, judged, windowGood, groupsOf, recordOutcome}
-use Rattle.call_record.proofs.CallsLaws.{lengths-same, group-room, chart-refused, window-refused, group-refused, record-done}
+use Rattle.call_record.specs.Call.{Memory, held, answerLengths, judged, windowGood, groupsOf, recordOutcome}
+use Rattle.call_record.proofs.CallLaws.{lengths-same, group-room, chart-refused, window-refused, group-refused, record-done}
 use borrow.Author.Needs.{needs}
 use Rattle.call_record.proofs.record.Statement.{statement}
 use Rattle.call_record.proofs.record.Tie as tie
@@ -27,7 +27,7 @@ not-false false h = sym h
 
 -- the chart and the memory as lent
 abbrev chartOf : tie.Start → Chart
-chartOf c = record { kinds = c .args .kind .now; starts = c .args .start .now; deltas = c .args .delta .now; ratios = c .args .ratio .now }
+chartOf c = chartHeld (c .args .kind) (c .args .start) (c .args .delta) (c .args .ratio)
 
 abbrev memoryOf : tie.Start → Memory
 memoryOf c = held (c .args .work) (c .args .scratch)
@@ -39,7 +39,7 @@ start c = c .before .before .before .before .before .before .before
 verdict-told : (c : tie.After-judge) {v : Verdict} → c .judge .result ≡ v → judged (chartOf (start c)) (memoryOf (start c)) ≡ v
 verdict-told c =
     let s = start c in
-    verdict-judged (chartOf s) (places (memoryOf s)) _ _ (none-asked (size (chartOf s))) (c .judge .ensures)
+    verdict-judged (chartOf s) (answerLengths (memoryOf s)) _ _ (none-asked (size (chartOf s))) (c .judge .ensures)
 
 -- ---- once it is accepted
 abbrev entered : tie.After-enum-told → tie.Start

@@ -1,7 +1,7 @@
 -- The literals are 1 and 1000 by computation.
 use borrow.Author.Needs.{needs}
 use lib.Ieee.{ofBits}
-use Rattle.call_record.specs.Calls.{windowGood}
+use Rattle.call_record.specs.Call.{windowGood}
 use Rattle.call_record.proofs.window_good.Statement.{statement}
 use Rattle.call_record.proofs.window_good.Tie as tie
 

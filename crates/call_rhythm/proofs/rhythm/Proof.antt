@@ -1,21 +1,21 @@
 -- The verdict of the definition is the one that the tests gave, and each case leaves its outcome.
 use mathlib.Core.Path.{_≡_, ap, _∙_}
-use Rattle.grouping_chart.specs.Chart.{Chart, size}
+use Rattle.grouping_chart.specs.Chart.{Chart, size, chartHeld}
 use Rattle.grouping_chart.specs.Settings.{Settings}
 use Rattle.grouping_chart.specs.declared.chart.Verdict.{Verdict}
 use Rattle.grouping_chart.specs.declared.chart.Verdict.the-variants.{Accepted}
 use Rattle.grouping_chart.proofs.OutcomeLaws.{verdict-judged, answered-refused}
 use Rattle.grouping_chart.proofs.RoomLaws.{short-joined}
 use Rattle.call_rhythm.specs.declared.Grouping.the-variants as answer
-use Rattle.call_rhythm.specs.Rhythm.{Memory, held, places, judged, rhythmOutcome}
-use Rattle.call_rhythm.proofs.RhythmLaws.{rhythm-room, rhythm-done}
+use Rattle.call_rhythm.specs.Call.{Memory, held, answerLengths, judged, rhythmOutcome}
+use Rattle.call_rhythm.proofs.CallLaws.{rhythm-room, rhythm-done}
 use borrow.Author.Needs.{needs}
 use Rattle.call_rhythm.proofs.rhythm.Statement.{statement}
 use Rattle.call_rhythm.proofs.rhythm.Tie as tie
 
 -- the chart and the memory as lent
 abbrev chartOf : tie.Start → Chart
-chartOf c = record { kinds = c .args .kind .now; starts = c .args .start .now; deltas = c .args .delta .now; ratios = c .args .ratio .now }
+chartOf c = chartHeld (c .args .kind) (c .args .start) (c .args .delta) (c .args .ratio)
 
 abbrev memoryOf : tie.Start → Memory
 memoryOf c = held (c .args .group) (c .args .pattern) (c .args .work) (c .args .scratch)
@@ -27,7 +27,7 @@ start c = c .before .before .before .before .before .before .before .before .bef
 verdict-told : (c : tie.After-judge) {v : Verdict} → c .judge .result ≡ v → judged (chartOf (start c)) (memoryOf (start c)) ≡ v
 verdict-told c =
     let s = start c in
-    verdict-judged (chartOf s) (places (memoryOf s)) _ _ (short-joined (size (chartOf s)) _ _) (c .judge .ensures)
+    verdict-judged (chartOf s) (answerLengths (memoryOf s)) _ _ (short-joined (size (chartOf s)) _ _) (c .judge .ensures)
 
 -- ---- once it is accepted
 accepted : (c : tie.After-enum-told) → judged (chartOf (start (c .before .before))) (memoryOf (start (c .before .before))) ≡ Accepted

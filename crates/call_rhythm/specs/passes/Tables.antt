@@ -13,7 +13,7 @@ use Rattle.grouping_chart.specs.Object.{notes}
 use Rattle.grouping_interval.specs.Notes.{noteObjects, ofNotes}
 use Rattle.grouping_interval.specs.IntervalGrouping.{intervalMarks}
 use Rattle.grouping_same_rhythm.specs.SameRhythm.{firstsOf, rhythmMarks, groupObjects, groupIntervals}
-use Rattle.call_rhythm.specs.Rhythm.{Memory}
+use Rattle.call_rhythm.specs.Call.{Memory}
 use Rattle.call_rhythm.specs.declared.tables.GroupCounts.{GroupCounts}
 
 -- ---- the tables, each in a region of n places of the work slice

@@ -1,5 +1,5 @@
 -- `add_if` meets its contract, arm by arm.
-use Rattle.evaluator_colour.specs.Color.{addIf}
+use Rattle.evaluator_colour.specs.Formulas.{addIf}
 use Rattle.evaluator_colour.proofs.add_if.Statement.{statement}
 use Rattle.evaluator_colour.proofs.add_if.Tie as tie
 

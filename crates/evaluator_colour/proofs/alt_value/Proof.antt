@@ -2,7 +2,7 @@
 use mathlib.Core.Path.{ap}
 use borrow.Author.Needs.{needs}
 use lib.Ieee.{Float, binary64, mul}
-use Rattle.evaluator_colour.specs.Color.{altValue}
+use Rattle.evaluator_colour.specs.Formulas.{altValue}
 use Rattle.evaluator_colour.proofs.alt_value.Statement.{statement}
 use Rattle.evaluator_colour.proofs.alt_value.Tie as tie
 

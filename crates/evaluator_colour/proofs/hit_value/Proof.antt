@@ -3,7 +3,7 @@ use mathlib.Core.Path.{ap}
 use borrow.Author.Needs.{needs}
 use lib.Ieee.{Float, binary64, ofBits, sub, mul}
 use Rattle.numeric.specs.Constants.{one64, two64}
-use Rattle.evaluator_colour.specs.Color.{hitValue}
+use Rattle.evaluator_colour.specs.Formulas.{hitValue}
 use Rattle.evaluator_colour.proofs.hit_value.Statement.{statement}
 use Rattle.evaluator_colour.proofs.hit_value.Tie as tie
 

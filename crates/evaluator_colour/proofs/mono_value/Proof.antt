@@ -3,7 +3,7 @@ use mathlib.Core.Path.{ap}
 use borrow.Author.Needs.{needs}
 use lib.Ieee.{Float, binary64, ofBits, mul}
 use Rattle.numeric.specs.Constants.{half64}
-use Rattle.evaluator_colour.specs.Color.{monoValue}
+use Rattle.evaluator_colour.specs.Formulas.{monoValue}
 use Rattle.evaluator_colour.proofs.mono_value.Statement.{statement}
 use Rattle.evaluator_colour.proofs.mono_value.Tie as tie
 

@@ -4,7 +4,7 @@ use borrow.Author.Needs.{needs}
 use lib.Ieee.{Float, ofBits}
 use Rattle.numeric.specs.Constants.{zero64}
 use Rattle.evaluator_colour.specs.declared.Standing.{Standing}
-use Rattle.evaluator_colour.specs.Color.{hitValue, altValue, monoValue, addIf, objectSum}
+use Rattle.evaluator_colour.specs.Formulas.{hitValue, altValue, monoValue, addIf, objectSum}
 use Rattle.evaluator_colour.proofs.object_sum.Statement.{statement}
 use Rattle.evaluator_colour.proofs.object_sum.Tie as tie
 

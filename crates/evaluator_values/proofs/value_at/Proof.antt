@@ -1,7 +1,7 @@
 -- `value_at` meets its contract: the object's sum and its penalty, multiplied.
 use mathlib.Core.Path.{ap, _∙_}
 use lib.Ieee.{binary64, mul}
-use Rattle.evaluator_colour.specs.Color.{objectSum}
+use Rattle.evaluator_colour.specs.Formulas.{objectSum}
 use Rattle.evaluator_colour.specs.RatioPenalty.{ratioPenalty}
 use Rattle.evaluator_values.specs.Colour.{colourAt}
 use Rattle.evaluator_values.proofs.StandingLaws.{standing-is}

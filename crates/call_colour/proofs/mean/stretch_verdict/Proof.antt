@@ -8,8 +8,8 @@ use Rattle.grouping_chart.specs.declared.object.ObjectIndex.{ObjectIndex}
 use Rattle.grouping_chart.specs.declared.chart.Verdict.{Verdict}
 use Rattle.grouping_chart.specs.declared.chart.Verdict.the-variants.{Accepted, Refused}
 use Rattle.call_colour.specs.Stretch.{stretchRefusal}
-use Rattle.call_colour.specs.Calls.{stretchVerdict}
-use Rattle.call_colour.proofs.CallsLaws.{stretch-refusal}
+use Rattle.call_colour.specs.Call.{stretchVerdict}
+use Rattle.call_colour.proofs.CallLaws.{stretch-refusal}
 use borrow.Author.Needs.{needs}
 use Rattle.call_colour.proofs.mean.stretch_verdict.Statement.{statement}
 use Rattle.call_colour.proofs.mean.stretch_verdict.Tie as tie

@@ -18,7 +18,7 @@ use Rattle.grouping_chart.specs.Settings.{Settings, Permitted}
 use Rattle.call_colour.specs.declared.Colouring.the-variants as colouring
 use Rattle.call_colour.specs.declared.Stretching.the-variants as stretching
 use Rattle.call_colour.specs.Stretch.{stretchRefusal, GoodStretch}
-use Rattle.call_colour.specs.Calls.{Memory, places, judged, filled, colourOutcome, stretchVerdict, chartMean, chartTenths, stretchOutcome}
+use Rattle.call_colour.specs.Call.{Memory, answerLengths, judged, filled, colourOutcome, stretchVerdict, chartMean, chartTenths, stretchOutcome}
 use Rattle.call_colour.specs.passes.Rooms.{ChartRoom}
 
 -- ---- the verdict on a stretch, by the number of what is refused of it
@@ -50,7 +50,7 @@ module _ (s : Settings) (c : Chart) (m : Memory) where
   -- an accepted call has room
   pub chart-room : Permitted s → judged c m ≡ Accepted → ChartRoom s (c .kinds) (c .ratios) m
   chart-room p h =
-      let r = accommodated c (places m) _ _ h in
+      let r = accommodated c (answerLengths m) _ _ h in
       record {
         permitted = p;
         ratio = r .chart .lengths .ratio;

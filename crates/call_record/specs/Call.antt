@@ -1,20 +1,18 @@
 -- The call record (scope: Calls and what they fill): what it answers, and what every lent slice holds
 -- afterwards. Refusals 8 and 9 are tested after 1 to 7.
-use Prim.Native.Nat.{ℕ, _*_}
+use Prim.Native.Nat.{ℕ}
 use mathlib.Core.Bool.{Bool, cond}
 use mathlib.Core.List.{List, []}
 use lib.Dec.{ltb}
-use lib.ListN.{length, replicate}
-use lib.Ieee.{Float, binary64, ofBits}
+use lib.Ieee.{Float}
 use denote.Ref.{now}
 use Rattle.numeric.specs.Constants.{one64, thousand64}
 use Rattle.numeric.specs.Range.{within}
-use Rattle.lent.specs.Over.{over}
 use Rattle.grouping_chart.specs.Chart.{Chart, size}
-use Rattle.grouping_chart.specs.Refusal.{verdict, refused}
-use Rattle.grouping_chart.specs.Room.{refusalBeside}
-use Rattle.grouping_chart.specs.Outcome.{Outcome, outcome, answered}
-use Rattle.lent.specs.Slice.{Held, Slice, lent, left}
+use Rattle.grouping_chart.specs.Refusal.{refused}
+use Rattle.grouping_chart.specs.Room.{clearedWork, clearedScratch}
+use Rattle.grouping_chart.specs.Outcome.{Outcome, outcome, judgedBy, answered}
+use Rattle.lent.specs.Slice.{SliceAt, Slice, lent, left}
 use Rattle.grouping_chart.specs.Settings.{Settings}
 use Rattle.grouping_chart.specs.declared.chart.Verdict.{Verdict}
 use Rattle.grouping_chart.specs.declared.chart.Verdict.the-variants.{Accepted, Refused}
@@ -43,21 +41,21 @@ before = memory (λ A. lent)
 abbrev pub after : Lending Slice
 after = memory (λ A. left)
 
-abbrev pub held : Lending Held
+abbrev pub held : Lending SliceAt
 held = memory (λ A. now)
 
 -- there are no answer slices
-abbrev pub places : Memory → List ℕ
-places m = []
+abbrev pub answerLengths : Memory → List ℕ
+answerLengths m = []
 
 abbrev pub judged : Chart → Memory → Verdict
-judged c m = verdict c (refusalBeside (size c) (places m) (length (m .work)) (length (m .scratch)))
+judged c m = judgedBy c (answerLengths m) (m .work) (m .scratch)
 
 -- the memory after an accepted call
 unfoldable pub cleared : ℕ → Memory → Memory
 cleared n m = record {
-  work = over (replicate (8 * n) 0) (m .work);
-  scratch = over (replicate n (ofBits binary64 0)) (m .scratch);
+  work = clearedWork n (m .work);
+  scratch = clearedScratch n (m .scratch);
 }
 
 -- from 1.0 to 1,000.0: a NaN is not

@@ -1,16 +1,15 @@
 -- The call encode (scope: calls): what it answers, and what every lent slice holds
 -- afterwards.
-use Prim.Native.Nat.{ℕ, _*_}
+use Prim.Native.Nat.{ℕ}
 use mathlib.Core.List.{List, [], _∷_}
-use lib.ListN.{length, replicate}
-use lib.Ieee.{Float, binary64, ofBits}
+use lib.ListN.{length}
+use lib.Ieee.{Float}
 use denote.Ref.{now}
 use Rattle.lent.specs.Over.{over}
 use Rattle.grouping_chart.specs.Chart.{Chart, size}
-use Rattle.grouping_chart.specs.Refusal.{verdict}
-use Rattle.grouping_chart.specs.Room.{refusalBeside}
-use Rattle.grouping_chart.specs.Outcome.{Outcome, outcome, answered}
-use Rattle.lent.specs.Slice.{Held, Slice, lent, left}
+use Rattle.grouping_chart.specs.Room.{clearedWork, clearedScratch}
+use Rattle.grouping_chart.specs.Outcome.{Outcome, outcome, judgedBy, answered}
+use Rattle.lent.specs.Slice.{SliceAt, Slice, lent, left}
 use Rattle.grouping_chart.specs.Settings.{Settings}
 use Rattle.grouping_chart.specs.declared.chart.Verdict.{Verdict}
 use Rattle.grouping_colour.specs.MonoStreak.{streakOf}
@@ -54,17 +53,17 @@ before = memory (λ A. lent)
 abbrev pub after : Lending Slice
 after = memory (λ A. left)
 
-abbrev pub held : Lending Held
+abbrev pub held : Lending SliceAt
 held = memory (λ A. now)
 
 -- how many places the answer slices have
-abbrev pub places : Memory → List ℕ
-places m =
+abbrev pub answerLengths : Memory → List ℕ
+answerLengths m =
     length (m .streak) ∷ length (m .streakPlace) ∷ length (m .pattern) ∷ length (m .patternPlace) ∷ length (m .hit)
     ∷ length (m .interval) ∷ []
 
 abbrev pub judged : Chart → Memory → Verdict
-judged c m = verdict c (refusalBeside (size c) (places m) (length (m .work)) (length (m .scratch)))
+judged c m = judgedBy c (answerLengths m) (m .work) (m .scratch)
 
 -- the memory after an accepted call: the answers in the first n places, 0 and +0.0 in the first 8 n and n places of the
 -- work slices, old contents elsewhere
@@ -76,8 +75,8 @@ filled s c m = record {
   patternPlace = over (patternPlaceOf (c .kinds)) (m .patternPlace);
   hit = over (hitOf (c .kinds)) (m .hit);
   interval = over (intervalOf (s .limit) (c .kinds)) (m .interval);
-  work = over (replicate (8 * size c) 0) (m .work);
-  scratch = over (replicate (size c) (ofBits binary64 0)) (m .scratch);
+  work = clearedWork (size c) (m .work);
+  scratch = clearedScratch (size c) (m .scratch);
 }
 
 unfoldable pub encodeOutcome : Settings → Chart → Memory → Outcome Encoding Memory

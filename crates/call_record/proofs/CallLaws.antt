@@ -23,7 +23,7 @@ use Rattle.call_record.specs.declared.GroupRecord.{GroupRecord}
 use Rattle.call_record.specs.declared.Recording.the-variants.{Done}
 use Rattle.call_record.specs.declared.Recording.the-variants as answer
 use Rattle.call_record.specs.Record.{recordAt}
-use Rattle.call_record.specs.Calls.{Memory, places, judged, windowGood, recordVerdict, cleared, groupsOf, recordOutcome}
+use Rattle.call_record.specs.Call.{Memory, answerLengths, judged, windowGood, recordVerdict, cleared, groupsOf, recordOutcome}
 use Rattle.call_record.specs.passes.Found.{GroupRoom}
 
 -- ---- a time in range is finite
@@ -34,13 +34,13 @@ finite-time x t =
 
 -- ---- what is known of an accepted call
 pub lengths-same : (c : Chart) (m : Memory) → judged c m ≡ Accepted → length (c .deltas) ≡ size c
-lengths-same c m h = accommodated c (places m) _ _ h .chart .lengths .delta
+lengths-same c m h = accommodated c (answerLengths m) _ _ h .chart .lengths .delta
 
 module _ (s : Settings) (c : Chart) (m : Memory) where
   pub group-room : (g : ℕ) → judged c m ≡ Accepted → g < groupsOf s c
       → GroupRoom (s .margin) (c .kinds) (c .starts) (c .deltas) g (m .work) (m .scratch)
   group-room g h there =
-      let r = accommodated c (places m) _ _ h in
+      let r = accommodated c (answerLengths m) _ _ h in
       let good = r .chart in
       record {
         tables = record { few = good .few; started = good .lengths .start; whole = good .lengths .delta; regions = r .regions; floats = r .floats };

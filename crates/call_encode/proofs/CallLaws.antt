@@ -15,7 +15,7 @@ use Rattle.grouping_chart.proofs.OutcomeLaws.{answered-done, accommodated}
 use Rattle.grouping_preprocessor.specs.Preprocessor.{hitOf, intervalOf, hitCount}
 use Rattle.grouping_preprocessor.proofs.BoundLaws.{length-hitOf, length-intervalOf}
 use Rattle.call_encode.specs.declared.Encoding.the-variants as answer
-use Rattle.call_encode.specs.Encode.{Memory, memory, places, judged, filled, encodeOutcome}
+use Rattle.call_encode.specs.Call.{Memory, memory, answerLengths, judged, filled, encodeOutcome}
 use Rattle.call_encode.specs.passes.LookUps.{kindsMemory, KindsRoom, Encoded}
 
 -- the memory that `encode_kinds` is lent of the call's, and the call's by it
@@ -53,7 +53,7 @@ module _ (s : Settings) (c : Chart) (m : Memory) where
   -- an accepted call has room
   pub kinds-room : Permitted s → judged c m ≡ Accepted → KindsRoom (size c) (s .limit) (withoutScratch m)
   kinds-room p h =
-      let r = accommodated c (places m) _ _ h in
+      let r = accommodated c (answerLengths m) _ _ h in
       record {
         few = r .chart .few;
         streak = r .long .0;
@@ -68,7 +68,7 @@ module _ (s : Settings) (c : Chart) (m : Memory) where
       }
 
 pub scratch-room : (c : Chart) (m : Memory) → judged c m ≡ Accepted → size c ≤ length (m .scratch)
-scratch-room c m h = accommodated c (places m) _ _ h .floats
+scratch-room c m h = accommodated c (answerLengths m) _ _ h .floats
 
 -- ---- what an accepted call writes, place by place
 module _ (s : Settings) (c : Chart) (lent : Memory) (accepted : judged c lent ≡ Accepted) where

@@ -1,19 +1,19 @@
 -- The calls colour and stretch (scope: Calls and what they fill): what each answers, and what every lent
 -- slice holds afterwards. Refusal 9 is tested after 1 to 7.
-use Prim.Native.Nat.{ℕ, _*_}
+use Prim.Native.Nat.{ℕ}
 use mathlib.Core.Bool.{cond}
 use mathlib.Core.List.{List, [], _∷_}
 use lib.Dec.{eqb}
 use lib.IntN.{ℤ}
-use lib.ListN.{length, replicate}
-use lib.Ieee.{Float, binary64, ofBits}
+use lib.ListN.{length}
+use lib.Ieee.{Float}
 use denote.Ref.{now}
 use Rattle.lent.specs.Over.{over}
-use Rattle.grouping_chart.specs.Chart.{Chart, size}
-use Rattle.grouping_chart.specs.Refusal.{verdict, refused}
-use Rattle.grouping_chart.specs.Room.{refusalBeside}
-use Rattle.grouping_chart.specs.Outcome.{Outcome, outcome, answered}
-use Rattle.lent.specs.Slice.{Held, Slice, lent, left}
+use Rattle.grouping_chart.specs.Chart.{Chart}
+use Rattle.grouping_chart.specs.Refusal.{refused}
+use Rattle.grouping_chart.specs.Room.{clearedWork, clearedScratch}
+use Rattle.grouping_chart.specs.Outcome.{Outcome, outcome, judgedBy, answered}
+use Rattle.lent.specs.Slice.{SliceAt, Slice, lent, left}
 use Rattle.grouping_chart.specs.declared.chart.Verdict.{Verdict}
 use Rattle.grouping_chart.specs.declared.chart.Verdict.the-variants.{Accepted, Refused}
 use Rattle.grouping_chart.specs.Settings.{Settings}
@@ -48,22 +48,22 @@ before = memory (λ A. lent)
 abbrev pub after : Lending Slice
 after = memory (λ A. left)
 
-abbrev pub held : Lending Held
+abbrev pub held : Lending SliceAt
 held = memory (λ A. now)
 
 -- how many places the answer slice has
-abbrev pub places : Memory → List ℕ
-places m = length (m .value) ∷ []
+abbrev pub answerLengths : Memory → List ℕ
+answerLengths m = length (m .value) ∷ []
 
 abbrev pub judged : Chart → Memory → Verdict
-judged c m = verdict c (refusalBeside (size c) (places m) (length (m .work)) (length (m .scratch)))
+judged c m = judgedBy c (answerLengths m) (m .work) (m .scratch)
 
 -- the memory after an accepted call, by the chart's kinds and ratios
 unfoldable pub filled : Settings → List ℕ → List Float → Memory → Memory
 filled s kinds ratios m = record {
   value = over (colourValues (s .limit) (s .tolerance) kinds ratios) (m .value);
-  work = over (replicate (8 * length kinds) 0) (m .work);
-  scratch = over (replicate (length kinds) (ofBits binary64 0)) (m .scratch);
+  work = clearedWork (length kinds) (m .work);
+  scratch = clearedScratch (length kinds) (m .scratch);
 }
 
 unfoldable pub colourOutcome : Settings → Chart → Memory → Outcome Colouring Memory

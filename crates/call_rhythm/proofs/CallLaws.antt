@@ -18,14 +18,15 @@ use Rattle.grouping_interval.specs.IntervalGrouping.{intervalMarks}
 use Rattle.grouping_same_rhythm.proofs.MadeLaws.{rhythmMarks-made}
 use Rattle.call_rhythm.specs.declared.Grouping.the-variants as answer
 use Rattle.call_rhythm.specs.declared.tables.GroupCounts.{GroupCounts}
-use Rattle.call_rhythm.specs.Rhythm.{Memory, places, judged, noteGroup, groupOf, countsOf, filled, groupingDone, rhythmOutcome}
+use Rattle.call_rhythm.specs.Rhythm.{noteGroup, groupOf, countsOf}
+use Rattle.call_rhythm.specs.Call.{Memory, answerLengths, judged, filled, groupingDone, rhythmOutcome}
 use Rattle.call_rhythm.specs.passes.Tables.{GroupsRoom}
 use Rattle.call_rhythm.proofs.PerNoteLaws.{length-per-note, per-note-at}
 
 -- an accepted call has room
 pub rhythm-room : (c : Chart) (m : Memory) → judged c m ≡ Accepted → GroupsRoom (c .kinds) (c .starts) (c .deltas) m
 rhythm-room c m h =
-    let r = accommodated c (places m) _ _ h in
+    let r = accommodated c (answerLengths m) _ _ h in
     let good = r .chart in
     record {
       tables = record { few = good .few; started = good .lengths .start; whole = good .lengths .delta; regions = r .regions; floats = r .floats };
