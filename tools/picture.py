@@ -1,67 +1,32 @@
-#!/usr/bin/env python3
+#!/usr/bin/env -S python3 -B
 """Draws docs/chart.svg, the chart of docs/GUIDE.md, from the library's own answers.
 
 usage: tools/picture.py            writes docs/chart.svg
        tools/picture.py --check    says whether docs/chart.svg is what it would write, and writes nothing
 
-It needs gcc and the archive that `rt staticlib dresserduck` writes, or the folder DRESSERDUCK_STATICLIB.
+It needs gcc and the archive, as tools/library.py says.
 """
-import ctypes
 import os
-import subprocess
 import sys
-import tempfile
 
-ROOT = os.path.dirname(os.path.dirname(os.path.abspath(__file__)))
+from library import GUIDE, ROOT, colour, encode, open_library
+
 PICTURE = os.path.join(ROOT, "docs", "chart.svg")
 
-LETTERS = "dkdkkdkknkkddkdkkdkk"
-DELTAS = [300, 150, 150, 150, 150, 300, 150, 150, 300, 300, 150, 150, 300, 150, 150, 150, 150, 300, 150, 150]
+# objects stand STEP apart from LEFT on; the names of rows end at NAMES; TALL is from the lowest end of a bar to the highest
+STEP, LEFT, RADIUS, TALL = 40, 178, 15, 120
+NAMES = LEFT - 30
+WIDTH, HEIGHT = LEFT + STEP * len(GUIDE.letters) - 8, 426
+
+# every ink has a contrast of at least 4.5 to 1 with what it stands on, every shape one of 3 to 1 with the ground
+INK, PALE, LINE, BAR, BAND = "#262626", "#595959", "#595959", "#6f5aa6", "#f3f2f7"
+RED, BLUE, GREY = "#b8402c", "#1f5f9f", "#e6e6e6"
+KINDS = {"d": "Center (don)", "k": "Rim (kat)", "n": "NonHit (no note)"}
 
 
-def open_library(folder):
-    """The library, linked from the archive into a shared object in the folder."""
-    archive = os.path.join(os.environ.get("DRESSERDUCK_STATICLIB", os.path.join(ROOT, "target", "staticlib")), "libdresserduck.a")
-    if not os.path.isfile(archive):
-        sys.exit(archive + " is missing: run `rt staticlib dresserduck` first")
-    shared = os.path.join(folder, "dresserduck.so")
-    subprocess.run(["gcc", "-shared", "-Wl,--whole-archive", archive, "-Wl,--no-whole-archive", "-o", shared], check=True)
-    return ctypes.CDLL(shared)
-
-
-class Encoded(ctypes.Structure):
-    _fields_ = [("refusal", ctypes.c_uint64), ("place", ctypes.c_uint64), ("hit_patterns", ctypes.c_uint64)]
-
-
-class Coloured(ctypes.Structure):
-    _fields_ = [("refusal", ctypes.c_uint64), ("place", ctypes.c_uint64)]
-
-
-def lent(kind, values):
-    """A slice as the calls take it: an array and how many elements it has."""
-    return [(kind * len(values))(*values), ctypes.c_size_t(len(values))]
-
-
-def answers(library):
-    """Per object its streak, alternating pattern, hit pattern, repetition interval and colour value."""
-    n = len(LETTERS)
-    starts = [float(sum(DELTAS[1:i + 1])) for i in range(n)]
-    ratios = [1.0] + [DELTAS[i] / DELTAS[i - 1] for i in range(1, n)]
-    chart = lent(ctypes.c_uint8, ["dkn".index(letter) for letter in LETTERS])
-    for values in (starts, DELTAS, ratios):
-        chart += lent(ctypes.c_double, values)
-    work = lent(ctypes.c_uint16, [0] * (8 * n)) + lent(ctypes.c_double, [0.0] * n)
-    numbers = [lent(ctypes.c_uint16, [0] * n) for _ in range(5)] + [lent(ctypes.c_uint8, [0] * n)]
-    value = lent(ctypes.c_double, [0.0] * n)
-
-    library.dresserduck_encode.restype = Encoded
-    library.dresserduck_colour.restype = Coloured
-    encoded = library.dresserduck_encode(*chart, *sum(numbers, []), *work)
-    coloured = library.dresserduck_colour(*chart, *value, *work)
-    if encoded.refusal or coloured.refusal:
-        sys.exit("the chart is refused")
-    streak, _, pattern, _, hit, interval = [list(number[0]) for number in numbers]
-    return streak, pattern, hit, interval, list(value[0])
+def middle(i):
+    """Where object i stands, from left to right."""
+    return LEFT + STEP * i
 
 
 def runs(numbers):
@@ -70,71 +35,133 @@ def runs(numbers):
     return list(zip(firsts, [first - 1 for first in firsts[1:]] + [len(numbers) - 1]))
 
 
-STEP, LEFT, RADIUS, TALLEST = 40, 195, 15, 110
-KINDS = {"d": ("#c8442f", "#ffffff"), "k": ("#2f6fb0", "#ffffff"), "n": ("#d8d8d8", "#333333")}
+def shown(value):
+    """A colour value as the picture gives it: two decimals, with a true minus sign; 0 where there is no change."""
+    return "0" if value == 0 else f"{value:.2f}".replace("-", "\u2212")
 
 
-def middle(i):
-    return LEFT + STEP * i
+def text(x, y, words, anchor="middle", size=12, fill=INK, more=""):
+    return f'<text x="{x:g}" y="{y:g}" text-anchor="{anchor}" font-size="{size}" fill="{fill}"{more}>{words}</text>'
 
 
-def text(x, y, words, anchor="middle", size=13, fill="#333333"):
-    return f'<text x="{x:g}" y="{y:g}" text-anchor="{anchor}" font-size="{size}" fill="{fill}">{words}</text>'
+def draw_name(y, name):
+    return text(NAMES, y, name, anchor="end", size=13)
 
 
-def draw_object(i, letter):
-    fill, ink = KINDS[letter]
-    shape = f'<circle cx="{middle(i)}" cy="40" r="{RADIUS}" fill="{fill}"/>'
-    if letter == "n":
-        shape = f'<rect x="{middle(i) - RADIUS}" y="30" width="{2 * RADIUS}" height="20" rx="4" fill="{fill}"/>'
-    return [shape, text(middle(i), 44.5, letter, fill=ink), text(middle(i), 16, i, size=10, fill="#777777")]
+def draw_kind(x, y, letter):
+    """A disc for the middle of the drum, a ring for its rim, a box for no note; each with its letter."""
+    shape, ink = {
+        "d": (f'<circle cx="{x}" cy="{y}" r="{RADIUS}" fill="{RED}"/>', "#ffffff"),
+        "k": (f'<circle cx="{x}" cy="{y}" r="{RADIUS - 2}" fill="#ffffff" stroke="{BLUE}" stroke-width="4"/>', BLUE),
+        "n": (f'<rect x="{x - 14}" y="{y - 11}" width="28" height="22" rx="3" fill="{GREY}" stroke="{LINE}" '
+              'stroke-width="1.5"/>', INK),
+    }[letter]
+    return [shape, text(x, y + 4.5, letter, size=14, fill=ink, more=' font-weight="bold"')]
 
 
-def draw_groups(name, y, numbers, label):
-    lines = [text(LEFT - 30, y + 4, name, anchor="end")]
+def draw_legend(y):
+    lines = [draw_name(y + 4.5, "kinds")]
+    for x, (letter, name) in zip(range(LEFT, WIDTH, 4 * STEP), KINDS.items()):
+        lines += draw_kind(x, y, letter) + [text(x + RADIUS + 7, y + 4.5, "= " + name, anchor="start", size=13)]
+    return lines
+
+
+def draw_row(y, name, labels, fill=INK):
+    return [draw_name(y, name)] + [text(middle(i), y, label, fill=fill) for i, label in enumerate(labels)]
+
+
+def draw_groups(y, name, numbers):
+    lines = [draw_name(y, name)]
     for first, last in runs(numbers):
         a, b = middle(first) - RADIUS, middle(last) + RADIUS
-        lines.append(f'<path d="M {a} {y - 6} V {y} H {b} V {y - 6}" fill="none" stroke="#555555" stroke-width="1.5"/>')
-        if label is not None:
-            lines.append(text((a + b) / 2, y + 15, label[first], size=11))
+        lines.append(f'<path d="M {a} {y - 8} V {y - 1} H {b} V {y - 8}" fill="none" stroke="{LINE}" stroke-width="1.5"/>')
     return lines
 
 
-def draw_values(values, top):
-    tall = max(values)
-    lines = [text(LEFT - 30, top + TALLEST, "colour value", anchor="end")]
+def draw_intervals(y, encoded):
+    middles = [((middle(first) + middle(last)) / 2, encoded.interval[first]) for first, last in runs(encoded.hit)]
+    return [draw_name(y, "repetition interval")] + [text(x, y, interval) for x, interval in middles]
+
+
+def draw_bands(top, hit):
+    """A pale band behind every second hit pattern, so that the eye finds it again in each row."""
+    lines = []
+    for first, last in runs(hit)[1::2]:
+        x, width = middle(first) - STEP // 2, STEP * (last - first + 1)
+        lines.append(f'<rect x="{x}" y="{top}" width="{width}" height="{HEIGHT - 12 - top}" fill="{BAND}"/>')
+    return lines
+
+
+def draw_values(top, values):
+    """A bar for each value, up from the zero line, or down from it if the value is negative; the figures below them all."""
+    unit = TALL / (max(0, *values) - min(0, *values))
+    zero = top + unit * max(0, *values)
+    lines = [draw_name(zero + 4.5, "0")]
     for i, value in enumerate(values):
-        height = TALLEST * value / tall
-        lines.append(f'<rect x="{middle(i) - 11}" y="{top + TALLEST - height:.1f}" width="22" height="{height:.1f}" fill="#7a5ea8"/>')
-        lines.append(text(middle(i), top + TALLEST + 15, f"{value:.2f}", size=10))
-    return lines
+        if value != 0:
+            upper, height = zero - unit * max(0, value), unit * abs(value)
+            lines.append(f'<rect x="{middle(i) - 11}" y="{upper:.1f}" width="22" height="{height:.1f}" fill="{BAR}"/>')
+    ends = f"M {middle(0) - STEP // 2} {zero:.1f} H {middle(len(values)) - STEP // 2}"
+    lines.append(f'<path d="{ends}" stroke="{LINE}" stroke-width="1.5"/>')
+    return lines + draw_row(top + TALL + 20, "colour value", [shown(value) for value in values])
+
+
+def told(encoded, values):
+    """What the picture shows, in words."""
+    def joined(labels):
+        return ", ".join(str(label) for label in labels)
+
+    def groups(numbers):
+        return joined(GUIDE.letters[first:last + 1] for first, last in runs(numbers))
+
+    kinds = joined(f"{letter} = {name}" for letter, name in KINDS.items())
+    intervals = joined(encoded.interval[first] for first, _ in runs(encoded.hit))
+    return "\n".join([
+        f"{len(GUIDE.letters)} objects stand in a row, numbered from 0: {' '.join(GUIDE.letters)}, where {kinds}.",
+        f"Below each stands its delta in milliseconds: {joined(GUIDE.deltas)}.",
+        f"Then its ratio: {joined(f'{ratio:g}' for ratio in GUIDE.ratios)}.",
+        f"Brackets join the objects of a streak: {groups(encoded.streak)};",
+        f"of an alternating pattern: {groups(encoded.pattern)};",
+        f"and of a hit pattern: {groups(encoded.hit)}. A pale band lies behind every second hit pattern.",
+        f"Below each hit pattern stands its repetition interval: {intervals}.",
+        f"At the bottom a bar shows each object's colour value: {joined(shown(value) for value in values)}.",
+    ])
 
 
 def drawn(library):
-    streak, pattern, hit, interval, values = answers(library)
-    width, height = middle(len(LETTERS) - 1) + 40, 320
+    encoded, values = encode(library, GUIDE), colour(library, GUIDE)
     lines = [
-        f'<svg xmlns="http://www.w3.org/2000/svg" viewBox="0 0 {width} {height}" font-family="sans-serif" role="img">',
-        f"<title>The chart {LETTERS}: its streaks, alternating patterns, hit patterns, intervals and colour values</title>",
-        f'<rect width="{width}" height="{height}" fill="#ffffff"/>',
-        text(LEFT - 30, 45, "objects", anchor="end"),
+        f'<svg xmlns="http://www.w3.org/2000/svg" viewBox="0 0 {WIDTH} {HEIGHT}" font-family="sans-serif" role="img" '
+        'aria-labelledby="title desc">',
+        f'<title id="title">The chart {GUIDE.letters}: its rhythm, groups and colour values</title>',
+        f'<desc id="desc">{told(encoded, values)}</desc>',
+        f'<rect width="{WIDTH}" height="{HEIGHT}" fill="#ffffff"/>',
     ]
-    for i, letter in enumerate(LETTERS):
-        lines += draw_object(i, letter)
-    lines += draw_groups("streaks", 76, streak, None)
-    lines += draw_groups("alternating patterns", 104, pattern, None)
-    lines += draw_groups("hit patterns, intervals", 132, hit, interval)
-    lines += draw_values(values, 180)
+    lines += draw_bands(56, encoded.hit)
+    lines += draw_legend(28)
+    lines += draw_row(74, "object", range(len(GUIDE.letters)), fill=PALE)
+    for i, letter in enumerate(GUIDE.letters):
+        lines += draw_kind(middle(i), 98, letter)
+    lines += draw_row(136, "delta, ms", GUIDE.deltas)
+    lines += draw_row(158, "ratio", [f"{ratio:g}" for ratio in GUIDE.ratios])
+    lines += draw_groups(184, "streaks", encoded.streak)
+    lines += draw_groups(208, "alternating patterns", encoded.pattern)
+    lines += draw_groups(232, "hit patterns", encoded.hit)
+    lines += draw_intervals(252, encoded)
+    lines += draw_values(266, values)
     return "\n".join(lines + ["</svg>"]) + "\n"
 
 
+def read():
+    with open(PICTURE, encoding="utf-8") as file:
+        return file.read()
+
+
 def main():
-    with tempfile.TemporaryDirectory() as folder:
-        picture = drawn(open_library(folder))
+    picture = drawn(open_library())
     if sys.argv[1:] == ["--check"]:
-        with open(PICTURE, encoding="utf-8") as file:
-            if file.read() != picture:
-                sys.exit("docs/chart.svg is not what tools/picture.py draws")
+        if not os.path.isfile(PICTURE) or read() != picture:
+            sys.exit("docs/chart.svg is not what tools/picture.py draws: run it, and look at the picture")
         print("picture: ok")
         return
     with open(PICTURE, "w", encoding="utf-8") as file:
