@@ -1,4 +1,4 @@
-/* Dresserduck: which stretches of a drum chart swap colour, and its rhythm groups, computed by proved code.
+/* Dresserduck: how new each change of colour in a drum chart is, and its rhythm groups, computed by proved code.
  *
  * A chart is four slices of one length n, from 0 to 16,384, with a place for each object:
  *   kind   DRESSERDUCK_CENTER, DRESSERDUCK_RIM or DRESSERDUCK_NON_HIT
@@ -107,10 +107,12 @@ typedef struct dresserduck_coloured {
     uint64_t place;
 } dresserduck_coloured;
 
-/* Fills per object its colour value: how new the change of colour at it is, not how fast. No time goes into it, so that a chart has
- * the same values at any speed; the host, or the player's limit, brings the tempo in. No change is 0. In an even rhythm (ratios of 1)
- * a value is at most about 2.99 from the third object on, and at most about 4.98 at the first two; above a ratio of 2.5 it may be below
- * zero. Never a NaN or an infinity. */
+/* Fills per object its colour value, which tells how new the change of colour there is, not how fast it comes: no time enters
+ * it, and the tempo is for the host, or for the player's limit, to bring in. Where the colour stays it is 0. In an even rhythm
+ * (every ratio 1) a value is at most about 2.99 from the third object on, and at most about 4.98 at the first two. In other
+ * rhythms the ratio two objects earlier decides from the fifth object on: a value is at most about 1 after a ratio of 2, and
+ * negative after one above 2.5. Long alternations of one length have the lowest values of all that change. Never a NaN or an
+ * infinity. */
 dresserduck_coloured dresserduck_colour(
     const uint8_t *kind, size_t kind_count,
     const double *start, size_t start_count,
@@ -174,7 +176,7 @@ typedef struct dresserduck_recorded {
     uint64_t own_bits;           /* the own interval in milliseconds, a whole number; 0 where it is absent */
     uint64_t ratio_bits;         /* own interval over that of the group before; 1.0 where either is absent, NaN for two zeros */
     uint64_t interval_bits;      /* from the start of the group before; 0.0 within 5 ms, infinity for the first group */
-    uint64_t penalty_bits;       /* a factor: smaller where an own interval came a few groups before, and for a long group; finite */
+    uint64_t penalty_bits;       /* a factor: smaller where two of the last groups have nearly one own interval, and for a long group; finite */
     uint64_t pattern_group;      /* the number of its pattern group */
     uint64_t pattern_ratio_bits; /* that one's interval over that of the pattern group before; 1.0 for the first, NaN for two zeros */
 } dresserduck_recorded;
