@@ -159,6 +159,16 @@ pub fn declared(text: &str) -> BTreeSet<&str> {
     names
 }
 
+/// The names that a text of antt defines: those that it declares at the start of a line, which are no fields or constructors, and are
+/// no names of files.
+pub fn defined(text: &str) -> BTreeSet<&str> {
+    let starts = [" ", "pub mod "];
+    let outer = text
+        .lines()
+        .filter(|line| !starts.iter().any(|start| line.starts_with(start)));
+    outer.flat_map(declared).collect()
+}
+
 /// Whether the file, or one of the folder, declares the name.
 pub fn declares(path: &Path, name: &str) -> bool {
     let files = match path.is_dir() {
