@@ -92,7 +92,7 @@ impl Workspace {
         Ok(())
     }
 
-    /// Each object's colour value: how hard the swap of colour at it is. Never a NaN or an infinity.
+    /// Each object's colour value: how new the change of colour at it is, not how fast. Never a NaN or an infinity.
     pub fn colour(&mut self, chart: &Chart) -> Result<Vec<f64>, Refusal> {
         let mut values = Vec::new();
         self.colour_into(chart, &mut values)?;

@@ -2,7 +2,7 @@
 -- and each of its parts is held to the case.
 use mathlib.Core.Path.{_≡_, ap, _∙_}
 use mathlib.Core.List.{List, map}
-use mathlib.Core.Bool.{Bool, true, false, _&&_}
+use mathlib.Core.Bool.{Bool, false, _&&_}
 use Prim.Native.Nat.{ℕ, _+_, _-_, _*_, _≤_}
 use native.Mathlib.Omega.{arith}
 use lib.ListN.{length, take, drop, replicate}
@@ -10,7 +10,7 @@ use lib.Ieee.{Float, binary64, toBits, ofBits}
 use Rattle.lent.specs.Over.{over}
 use Rattle.lent.proofs.OverLaws.{lent-part}
 use Rattle.lent.proofs.NeverLaws.{never}
-use Rattle.grouping_chart.specs.Chart.{Chart}
+use Rattle.grouping_chart.specs.Chart.{Chart, largest}
 use Rattle.grouping_chart.specs.Outcome.{Outcome}
 use Rattle.grouping_chart.specs.Settings.{baseSettings}
 use Rattle.grouping_chart.specs.declared.object.ObjectIndex.{ObjectIndex}
@@ -18,18 +18,20 @@ use Rattle.call_colour.specs.Call.{Memory, colourOutcome, stretchOutcome}
 use Rattle.call_colour.specs.declared.Colouring.{Colouring}
 use Rattle.call_colour.specs.declared.Colouring.the-variants as colouring
 use Rattle.call_colour.specs.declared.Stretching.{Stretching}
-use Rattle.vectors.specs.Case.{pairAt, columnSize, words}
-use Rattle.vectors.specs.Held.{Tells, Held}
+use Rattle.vectors.specs.Case.{pairAt, words}
+use Rattle.vectors.specs.Held.{Tells, FrontHeld}
 use Rattle.vectors.specs.Table.{entries}
 use Rattle.vectors.specs.declared.case.Head.{Head}
-use Rattle.vectors.specs.Form.{Formed, PartFormed}
-use Rattle.vectors.specs.Sentinel.{numberSentinel, floatSentinel, one, Cleared, Few}
+use Rattle.vectors.specs.Form.{Formed}
+use Rattle.vectors.specs.Sentinel.{numberSentinel, floatSentinel, Cleared}
+use Rattle.vectors.specs.passes.Room.{mostPlaces, mostWork, Few}
 use Rattle.vectors.proofs.TableLaws.{entries-front}
 use Rattle.vectors.proofs.TellsLaws.{denied, tells-as, tells-both, tells-of}
-use Rattle.vectors.proofs.FormLaws.{ill-at, well-at}
-use Rattle.vectors.proofs.SentinelLaws.{ones-lent, work-lent, floats-lent}
-use Rattle.cases_colour.specs.Colour.{colourChart, colourLent, stretchOf, MeanIs, Answers, leaves, Answered, ValuesHeld, CallStored}
-use Rattle.cases_colour.specs.Colour.{ColourRoom, ColourForm, ColourHolds, StretchHolds}
+use Rattle.vectors.proofs.SentinelLaws.{codeOne, ones-lent, work-lent, floats-lent}
+use Rattle.cases_colour.specs.Colour.{colourChart, colourLent, MeanIs, Answers, leaves, ValuesHeld, CallStored}
+use Rattle.cases_colour.specs.Colour.{ColourForm, ColourHolds, StretchHolds}
+use Rattle.cases_colour.specs.passes.Room.{ColourRoom}
+use Rattle.cases_colour.specs.passes.Told.{CallTold}
 use Rattle.cases_colour.specs.declared.StoredStretch.{StoredStretch}
 use Rattle.cases_colour.specs.declared.Asked.{Asked}
 use Rattle.cases_colour.specs.declared.Asked.the-variants as asked
@@ -41,27 +43,27 @@ colour-refused answer number place e = denied (λ h. never (cc))
 
 module _ {call : Asked} {c : Chart} {m : Memory} {r : Bool} where
   pub colour-answered : {o : Outcome Colouring Memory} → call ≡ asked.Colour → o ≡ colourOutcome baseSettings c m
-      → Tells r (o .answer ≡ colouring.Done) → Answered call c m (o .memory) r
+      → Tells r (o .answer ≡ colouring.Done) → CallTold call c m (o .memory) r
   unfolding Answers leaves
   colour-answered a e t =
       let told = tells-of (λ (x : Outcome Colouring Memory). x .answer ≡ colouring.Done) e t in
       rw a (record { told = told; memory = ap (λ (x : Outcome Colouring Memory). x .memory) e })
 
   pub stretch-answered : {o : Outcome Stretching Memory} (s : StoredStretch) → call ≡ asked.Stretched s
-      → o ≡ stretchOutcome baseSettings c (s .a) (s .b) m → Tells r (MeanIs s (o .answer)) → Answered call c m (o .memory) r
+      → o ≡ stretchOutcome baseSettings c (s .a) (s .b) m → Tells r (MeanIs s (o .answer)) → CallTold call c m (o .memory) r
   unfolding Answers leaves
   stretch-answered s a e t =
       let told = tells-of (λ (x : Outcome Stretching Memory). MeanIs s (x .answer)) e t in
       rw a (record { told = told; memory = ap (λ (x : Outcome Stretching Memory). x .memory) e })
 
 pub values-told : {size n : ℕ} {body : List ℕ} {m : Memory} {a b r : Bool} → r ≡ (a && b)
-    → Tells a (Held (words body (2 + n + size) n) (toBits binary64 floatSentinel) (map (toBits binary64) (m .value)))
+    → Tells a (FrontHeld (words body (2 + n + size) n) (toBits binary64 floatSentinel) (map (toBits binary64) (m .value)))
     → Tells b (Cleared n (m .work) (m .scratch)) → Tells r (ValuesHeld size n body m)
 values-told q t u = tells-as (λ p. record { values = p .0; cleared = p .1 }) (λ p. (p .values, p .cleared)) (tells-both _ _ q t u)
 
 -- the answer, and what the call leaves
 pub call-told : {call : Asked} {size n : ℕ} {body : List ℕ} {c : Chart} {m m′ : Memory} {a b r : Bool}
-    → Answered call c m m′ a → Tells b (ValuesHeld size n body m′) → r ≡ (a && b) → Tells r (CallStored call size n body c m)
+    → CallTold call c m m′ a → Tells b (ValuesHeld size n body m′) → r ≡ (a && b) → Tells r (CallStored call size n body c m)
 call-told {size} {n} {body} x t q =
     tells-as (λ p. record { answer = p .0; memory = p .1 }) (λ p. (p .answer, p .memory))
     (tells-both _ _ q (x .told) (tells-of (ValuesHeld size n body) (x .memory) t))
@@ -70,18 +72,18 @@ call-told {size} {n} {body} x t q =
 
 -- the table's floats, read over zeros
 abbrev readRatios : ℕ → ℕ → ℕ → List ℕ → List Float
-readRatios size width n body = over (entries body (2 + n + size + 8 * n) (2 + n) width n) (replicate 16384 (ofBits binary64 0))
+readRatios size width n body = over (entries body (2 + n + size + 8 * n) (2 + n) width n) (replicate largest (ofBits binary64 0))
 
 abbrev made-chart : ℕ → List ℕ → List Float → Chart
 made-chart n body ratios =
-    let ones : List Float = take n (replicate 16384 one) in
+    let ones : List Float = take n (replicate largest codeOne) in
     record { kinds = take (2 + n - 2) (drop 2 body); starts = ones; deltas = ones; ratios = take n ratios }
 
 abbrev made-memory : ℕ → ℕ → Memory
 made-memory n spare = record {
-  value = take (n + spare) (replicate 16391 floatSentinel);
-  work = take (8 * n + spare) (replicate 131079 numberSentinel);
-  scratch = take (n + spare) (replicate 16391 floatSentinel);
+  value = take (n + spare) (replicate mostPlaces floatSentinel);
+  work = take (8 * n + spare) (replicate mostWork numberSentinel);
+  scratch = take (n + spare) (replicate mostPlaces floatSentinel);
 }
 
 module _ {n spare : ℕ} (few : Few n spare) (size width : ℕ) (body : List ℕ) {ratios : List Float} (e : ratios ≡ readRatios size width n body) where
@@ -107,40 +109,10 @@ pub form-told : (size : ℕ) (h : Head) (body : List ℕ) (ratios : ℕ) {r : Bo
 unfolding ColourForm
 form-told size h body ratios e t = tells-of (λ (k : ℕ). Formed 2 1 2 (2 + 9 * h .objects + size + 8 * k) h (length body)) e t
 
-pub form-room : (h : Head) (body : List ℕ) (spare size : ℕ) → h .objects ≤ 16384 → spare ≤ 7 → size ≤ 2 * h .objects
+pub form-room : (h : Head) (body : List ℕ) (spare size : ℕ) → h .objects ≤ largest → spare ≤ 7 → size ≤ 2 * h .objects
     → ColourForm size h body → ColourRoom size (h .objects) body spare
 unfolding ColourForm
 form-room h body spare size l k z f = record { few = record { objects = l; places = k }; small = z; whole = omega (arith, f .whole) }
-
-module _ (h : Head) (body : List ℕ) (spare size : ℕ) (e : size ≡ columnSize (h .objects) (h .width)) where
-  abbrev form : ℕ → Type 0
-  form z = ColourForm z h body
-
-  abbrev stored : Asked → ℕ → Type 0
-  stored call z = CallStored call z (h .objects) body (colourChart z (h .width) (h .objects) body) (colourLent (h .objects) spare)
-
-  pub colour-ill : {b : Bool} → Tells b (form size) → b ≡ false → Tells false (ColourHolds h body spare)
-  unfolding ColourHolds
-  colour-ill t f = ill-at form (stored asked.Colour) e t f
-
-  pub colour-told : {b r : Bool} → h .objects ≤ 16384 → Tells b (form size) → b ≡ true → Tells r (stored asked.Colour size) → Tells r (ColourHolds h body spare)
-  unfolding ColourHolds
-  colour-told l t f u = well-at form (stored asked.Colour) e t l f u
-
-  -- a stretch of this chart
-  module _ (k : Head) (part : List ℕ) where
-    abbrev forms : ℕ → Type 0
-    forms z = form z × PartFormed 3 1 16 (h .objects) k (length part)
-
-    pub stretch-ill : {b : Bool} → Tells b (forms size) → b ≡ false → Tells false (StretchHolds h body k part spare)
-    unfolding StretchHolds
-    stretch-ill t f = ill-at forms (stored (asked.Stretched (stretchOf part))) e t f
-
-    pub stretch-told : {b r : Bool} (s : StoredStretch) → s ≡ stretchOf part → h .objects ≤ 16384 → Tells b (forms size) → b ≡ true
-        → Tells r (stored (asked.Stretched s) size) → Tells r (StretchHolds h body k part spare)
-    unfolding StretchHolds
-    stretch-told s q l t f u =
-        well-at forms (stored (asked.Stretched (stretchOf part))) e t l f (tells-of (λ (x : StoredStretch). stored (asked.Stretched x) size) q u)
 
 pub colour-call : (h : Head) (body : List ℕ) (spare : ℕ) → ColourHolds h body spare → h .call ≡ 2
 unfolding ColourHolds ColourForm

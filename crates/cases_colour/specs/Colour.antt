@@ -1,14 +1,15 @@
 -- When a stored case of colour, or of a stretch of its chart, holds: on the chart that its bytes say and slices
 -- full of sentinels the call's definition gives the original's answer.
 use mathlib.Core.Path.{_≡_}
-use mathlib.Core.Bool.{Bool, cond}
+use mathlib.Core.Bool.{cond}
 use mathlib.Core.List.{List, map}
-use Prim.Native.Nat.{ℕ, _+_, _-_, _*_, _≤_}
+use Prim.Native.Nat.{ℕ, _+_, _-_, _*_}
 use lib.Dec.{ltb}
 use lib.IntN.{ℤ, pos, negℤ}
 use lib.ListN.{length, replicate}
 use lib.Ieee.{binary64, toBits}
 use Rattle.lent.specs.Over.{part}
+use Rattle.numeric.specs.Constants.{one64}
 use Rattle.grouping_chart.specs.Chart.{Chart}
 use Rattle.grouping_chart.specs.Settings.{baseSettings}
 use Rattle.call_colour.specs.Call.{Memory, colourOutcome, stretchOutcome}
@@ -16,11 +17,11 @@ use Rattle.call_colour.specs.declared.Colouring.the-variants as colouring
 use Rattle.call_colour.specs.declared.Stretching.{Stretching}
 use Rattle.call_colour.specs.declared.Stretching.the-variants as stretching
 use Rattle.vectors.specs.Case.{pairAt, quadAt, wordAt, columnSize, words}
-use Rattle.vectors.specs.Held.{Tells, Held}
+use Rattle.vectors.specs.Held.{FrontHeld}
 use Rattle.vectors.specs.Table.{entries}
 use Rattle.vectors.specs.declared.case.Head.{Head}
 use Rattle.vectors.specs.Form.{Formed, PartFormed, Holds}
-use Rattle.vectors.specs.Sentinel.{numberSentinel, floatSentinel, one, Cleared, Few}
+use Rattle.vectors.specs.Sentinel.{floatSentinel, floatsLent, workLent, Cleared}
 use Rattle.cases_colour.specs.declared.StoredStretch.{StoredStretch}
 use Rattle.cases_colour.specs.declared.Asked.{Asked}
 use Rattle.cases_colour.specs.declared.Asked.the-variants as asked
@@ -32,8 +33,8 @@ use Rattle.cases_colour.specs.declared.Asked.the-variants as asked
 unfoldable pub colourChart : ℕ → ℕ → ℕ → List ℕ → Chart
 colourChart size width n body = record {
   kinds = part 2 n body;
-  starts = replicate n one;
-  deltas = replicate n one;
+  starts = replicate n one64;
+  deltas = replicate n one64;
   ratios = entries body (2 + n + size + 8 * n) (2 + n) width n;
 }
 
@@ -43,7 +44,8 @@ signedOf x = cond (ltb x 2147483648) (pos x) (negℤ (pos (4294967296 - x)))
 
 -- a stretch: its two ends, the bits of its mean, and the tenths
 unfoldable pub stretchOf : List ℕ → StoredStretch
-stretchOf part = record { a = pairAt part 0; b = pairAt part 2; mean = wordAt part 4; tenths = quadAt part 12 }
+stretchOf stored =
+    record { a = pairAt stored 0; b = pairAt stored 2; mean = wordAt stored 4; tenths = quadAt stored 12 }
 
 -- ---- what is compared
 
@@ -62,14 +64,10 @@ unfoldable pub leaves : Asked → Chart → Memory → Memory
 leaves asked.Colour c m = colourOutcome baseSettings c m .memory
 leaves (asked.Stretched s) c m = stretchOutcome baseSettings c (s .a) (s .b) m .memory
 
--- what a call on lent slices tells
-pub record Answered (call : Asked) (c : Chart) (m m′ : Memory) (r : Bool) : Type 0 where
-  pub told : Tells r (Answers call c m)
-  pub memory : m′ ≡ leaves call c m
-
 -- the values of the body, by their bits, and cleared work slices
 pub record ValuesHeld (size n : ℕ) (body : List ℕ) (m : Memory) : Type 0 where
-  pub values : Held (words body (2 + n + size) n) (toBits binary64 floatSentinel) (map (toBits binary64) (m .value))
+  pub values : FrontHeld (words body (2 + n + size) n) (toBits binary64 floatSentinel)
+      (map (toBits binary64) (m .value))
   pub cleared : Cleared n (m .work) (m .scratch)
 
 pub record CallStored (call : Asked) (size n : ℕ) (body : List ℕ) (c : Chart) (m : Memory) : Type 0 where
@@ -81,16 +79,10 @@ pub record CallStored (call : Asked) (size n : ℕ) (body : List ℕ) (c : Chart
 -- so many places to spare in each slice
 unfoldable pub colourLent : ℕ → ℕ → Memory
 colourLent n spare = record {
-  value = replicate (n + spare) floatSentinel;
-  work = replicate (8 * n + spare) numberSentinel;
-  scratch = replicate (n + spare) floatSentinel;
+  value = floatsLent n spare;
+  work = workLent n spare;
+  scratch = floatsLent n spare;
 }
-
--- a body for the column and the values
-pub record ColourRoom (size n : ℕ) (body : List ℕ) (spare : ℕ) : Type 0 where
-  pub few : Few n spare
-  pub small : size ≤ 2 * n
-  pub whole : 2 + n ≤ length body
 
 -- the bytes of a colour case, by the size of its column
 unfoldable pub ColourForm : ℕ → Head → List ℕ → Type 0
@@ -105,9 +97,9 @@ ColourHolds h body spare =
 
 -- a stretch with this head and these bytes, of the chart of a colour case
 unfoldable pub StretchHolds : Head → List ℕ → Head → List ℕ → ℕ → Type 0
-StretchHolds chart body h part spare =
+StretchHolds chart body h stored spare =
     let n : ℕ = chart .objects in
     let size : ℕ = columnSize n (chart .width) in
-    Holds n (ColourForm size chart body × PartFormed 3 1 16 n h (length part))
-    (CallStored (asked.Stretched (stretchOf part)) size n body
+    Holds n (ColourForm size chart body × PartFormed 3 1 16 n h (length stored))
+    (CallStored (asked.Stretched (stretchOf stored)) size n body
     (colourChart size (chart .width) n body) (colourLent n spare))

@@ -2,13 +2,14 @@
 ghost use mathlib.Core.Path.{_≡_};
 ghost use Prim.Native.Nat.{_+_, _*_, _≤_};
 ghost use Rattle.lent.specs.Slice.{lent};
-ghost use Rattle.grouping_chart.specs.Chart.{chart};
+ghost use Rattle.grouping_chart.specs.Chart.{chart, largest};
 ghost use Rattle.call_colour.specs.Call.{before, after};
 ghost use Rattle.call_colour.specs.declared.Colouring.the-variants as colouring;
 ghost use Rattle.vectors.specs.Held.{Tells};
-ghost use Rattle.cases_colour.specs.Colour.{colourChart, colourLent, signedOf, stretchOf, MeanIs, Answered};
-ghost use Rattle.cases_colour.specs.Colour.{ValuesHeld, CallStored, ColourRoom, ColourForm};
-ghost use Rattle.cases_colour.specs.Colour.{ColourHolds, StretchHolds};
+ghost use Rattle.cases_colour.specs.Colour.{colourChart, colourLent, signedOf, stretchOf, MeanIs};
+ghost use Rattle.cases_colour.specs.Colour.{ValuesHeld, CallStored, ColourForm, ColourHolds, StretchHolds};
+ghost use Rattle.cases_colour.specs.passes.Room.{ColourRoom};
+ghost use Rattle.cases_colour.specs.passes.Told.{CallTold};
 use call_colour::Colouring;
 use call_colour::Stretching;
 use numeric::canonical::bits;
@@ -22,6 +23,9 @@ use vectors::held;
 use vectors::held::both;
 use vectors::sentinel;
 use vectors::sentinel::FLOAT_SENTINEL;
+use vectors::sentinel::MOST_OBJECTS;
+use vectors::sentinel::MOST_PLACES;
+use vectors::sentinel::MOST_WORK;
 use vectors::sentinel::NUMBER_SENTINEL;
 
 // What is stored of a stretch: its two ends, the bits of its mean, and the tenths, whose sign is in their highest bit.
@@ -94,7 +98,7 @@ fn answer_holds(
     work: &mut [u16],
     scratch: &mut [f64],
 ) -> bool
-    ensures { λ r. ⌜ Answered asked (chart kind one one ratio)
+    ensures { λ r. ⌜ CallTold asked (chart kind one one ratio)
         (before value work scratch) (after value work scratch) r ⌝ }
 {
     match asked {
@@ -115,7 +119,7 @@ fn values_hold(
     work: &[u16],
     scratch: &[f64],
 ) -> bool
-    requires { ⌜ (n ≤ 16384) × (size ≤ 2 * n) ⌝ }
+    requires { ⌜ (n ≤ largest) × (size ≤ 2 * n) ⌝ }
     ensures { λ r. ⌜ Tells r (ValuesHeld size n (lent body) (before value work scratch)) ⌝ }
 {
     let values = held::floats_held(body, 2 + n + size, n, FLOAT_SENTINEL, value);
@@ -136,7 +140,7 @@ fn lent_holds(
     work: &mut [u16],
     scratch: &mut [f64],
 ) -> bool
-    requires { ⌜ (n ≤ 16384) × (size ≤ 2 * n) ⌝ }
+    requires { ⌜ (n ≤ largest) × (size ≤ 2 * n) ⌝ }
     ensures { λ r. ⌜ Tells r (CallStored asked size n (lent body)
         (chart kind one one ratio) (before value work scratch)) ⌝ }
 {
@@ -151,7 +155,7 @@ fn call_holds(asked: Asked, size: usize, width: u8, n: usize, body: &[u8], spare
         (colourChart size width n (lent body)) (colourLent n spare)) ⌝ }
 {
     let room = n + spare;
-    let mut ratios = [0.0; 16384];
+    let mut ratios = [0.0; MOST_OBJECTS];
     vectors::table::read(body, 2 + n + size + 8 * n, 2 + n, width, n, &mut ratios);
     lent_holds(
         asked,
@@ -159,17 +163,17 @@ fn call_holds(asked: Asked, size: usize, width: u8, n: usize, body: &[u8], spare
         n,
         body,
         &body[2..2 + n],
-        &[1.0; 16384][..n],
+        &[1.0; MOST_OBJECTS][..n],
         &ratios[..n],
-        &mut [FLOAT_SENTINEL; 16391][..room],
-        &mut [NUMBER_SENTINEL; 131079][..8 * n + spare],
-        &mut [FLOAT_SENTINEL; 16391][..room],
+        &mut [FLOAT_SENTINEL; MOST_PLACES][..room],
+        &mut [NUMBER_SENTINEL; MOST_WORK][..8 * n + spare],
+        &mut [FLOAT_SENTINEL; MOST_PLACES][..room],
     )
 }
 
 // Whether the bytes have the form of a colour case with a column of this size.
 fn colour_formed(size: usize, h: Head, body: &[u8]) -> bool
-    requires { ⌜ (h .objects ≤ 16384) × (size ≤ 2 * h .objects) ⌝ }
+    requires { ⌜ (h .objects ≤ largest) × (size ≤ 2 * h .objects) ⌝ }
     ensures { λ r. ⌜ Tells r (ColourForm size h (lent body)) ⌝ }
 {
     let table = 8 * (case::pair_at(body, 0) as usize);
@@ -189,7 +193,7 @@ pub fn holds(h: Head, body: &[u8], spare: usize) -> bool
     ensures { λ r. ⌜ Tells r (ColourHolds h (lent body) spare) ⌝ }
 {
     let n = h.objects;
-    if n > 16384 {
+    if n > MOST_OBJECTS {
         return false;
     }
     let size = case::column_size(n, h.width);
@@ -205,7 +209,7 @@ pub fn stretch_holds(chart: Head, body: &[u8], h: Head, part: &[u8], spare: usiz
     ensures { λ r. ⌜ Tells r (StretchHolds chart (lent body) h (lent part) spare) ⌝ }
 {
     let n = chart.objects;
-    if n > 16384 {
+    if n > MOST_OBJECTS {
         return false;
     }
     let size = case::column_size(n, chart.width);

@@ -1,29 +1,28 @@
 -- What encode hands back on the lent slices is what its definition gives on slices full of sentinels; and each of its parts is held to the case.
 use mathlib.Core.Path.{_≡_, ap, _∙_}
 use mathlib.Core.List.{List}
-use mathlib.Core.Bool.{Bool, true, false, _&&_}
-use Prim.Native.Nat.{ℕ, _+_, _-_, _*_, _≤_}
+use mathlib.Core.Bool.{Bool, false, _&&_}
+use Prim.Native.Nat.{ℕ, _+_, _-_, _*_}
 use lib.Dec.{eqb}
-use lib.ListN.{length, take, drop, replicate}
+use lib.ListN.{take, drop, replicate}
 use lib.Ieee.{Float}
 use Rattle.lent.specs.Over.{part}
 use Rattle.lent.proofs.OverLaws.{lent-part}
 use Rattle.lent.proofs.NeverLaws.{never}
-use Rattle.grouping_chart.specs.Chart.{Chart}
+use Rattle.grouping_chart.specs.Chart.{Chart, largest}
 use Rattle.grouping_chart.specs.Outcome.{Outcome}
 use Rattle.grouping_chart.specs.Settings.{baseSettings}
 use Rattle.grouping_chart.specs.declared.object.ObjectIndex.{ObjectIndex}
 use Rattle.call_encode.specs.Call.{Memory, encodeOutcome}
 use Rattle.call_encode.specs.declared.Encoding.{Encoding}
 use Rattle.call_encode.specs.declared.Encoding.the-variants.{Done, Refused}
-use Rattle.vectors.specs.Case.{pairAt, columnSize, column}
-use Rattle.vectors.specs.Held.{Tells, Held}
+use Rattle.vectors.specs.Case.{pairAt, column}
+use Rattle.vectors.specs.Held.{Tells, FrontHeld}
 use Rattle.vectors.specs.declared.case.Head.{Head}
-use Rattle.vectors.specs.Form.{Formed}
-use Rattle.vectors.specs.Sentinel.{numberSentinel, byteSentinel, floatSentinel, one, Columns, Cleared, Few}
+use Rattle.vectors.specs.Sentinel.{numberSentinel, byteSentinel, floatSentinel, ColumnsHeld, Cleared}
+use Rattle.vectors.specs.passes.Room.{mostPlaces, mostWork, Few}
 use Rattle.vectors.proofs.TellsLaws.{denied, tells-as, tells-both, tells-of, tells-eqb}
-use Rattle.vectors.proofs.FormLaws.{ill-at, well-at}
-use Rattle.vectors.proofs.SentinelLaws.{ones-lent, numbers-lent, bytes-lent, work-lent, floats-lent}
+use Rattle.vectors.proofs.SentinelLaws.{codeOne, ones-lent, numbers-lent, bytes-lent, work-lent, floats-lent}
 use Rattle.cases_encode.specs.Encode.{encodeChart, encodeLent, EncodeStored, EncodeHolds}
 
 -- ---- the answer
@@ -39,10 +38,10 @@ module _ (body : List ℕ) (answer : Encoding) where
 
 pub outcome-told : {size width n : ℕ} {body : List ℕ} {o : Outcome Encoding Memory} {a b c d e f bc abc de def r : Bool}
     → Tells a (o .answer ≡ Done (pairAt body 0))
-    → Tells b (Columns body (2 + n) size width n (o .memory .streak) (o .memory .streakPlace))
-    → Tells c (Columns body (2 + n + 2 * size) size width n (o .memory .pattern) (o .memory .patternPlace))
-    → Tells d (Held (column body (2 + n + 4 * size) width n) numberSentinel (o .memory .hit))
-    → Tells e (Held (part (2 + n + 5 * size) n body) byteSentinel (o .memory .interval))
+    → Tells b (ColumnsHeld body (2 + n) size width n (o .memory .streak) (o .memory .streakPlace))
+    → Tells c (ColumnsHeld body (2 + n + 2 * size) size width n (o .memory .pattern) (o .memory .patternPlace))
+    → Tells d (FrontHeld (column body (2 + n + 4 * size) width n) numberSentinel (o .memory .hit))
+    → Tells e (FrontHeld (part (2 + n + 5 * size) n body) byteSentinel (o .memory .interval))
     → Tells f (Cleared n (o .memory .work) (o .memory .scratch))
     → bc ≡ (b && c) → abc ≡ (a && bc) → de ≡ (d && e) → def ≡ (de && f) → r ≡ (abc && def)
     → Tells r (EncodeStored size width n body o)
@@ -68,21 +67,21 @@ outcome-told ta tb tc td te tf p q u v w =
 
 abbrev made-chart : ℕ → List ℕ → Chart
 made-chart n body =
-    let ones : List Float = take n (replicate 16384 one) in
+    let ones : List Float = take n (replicate largest codeOne) in
     record { kinds = take (2 + n - 2) (drop 2 body); starts = ones; deltas = ones; ratios = ones }
 
 abbrev made-memory : ℕ → ℕ → Memory
 made-memory n spare =
-    let numbers : List ℕ = take (n + spare) (replicate 16391 numberSentinel) in
+    let numbers : List ℕ = take (n + spare) (replicate mostPlaces numberSentinel) in
     record {
       streak = numbers;
       streakPlace = numbers;
       pattern = numbers;
       patternPlace = numbers;
       hit = numbers;
-      interval = take (n + spare) (replicate 16391 byteSentinel);
-      work = take (8 * n + spare) (replicate 131079 numberSentinel);
-      scratch = take (n + spare) (replicate 16391 floatSentinel);
+      interval = take (n + spare) (replicate mostPlaces byteSentinel);
+      work = take (8 * n + spare) (replicate mostWork numberSentinel);
+      scratch = take (n + spare) (replicate mostPlaces floatSentinel);
     }
 
 module _ {n spare : ℕ} (few : Few n spare) where
@@ -100,22 +99,6 @@ module _ {n spare : ℕ} (few : Few n spare) where
   made-told {size} {width} {body} t = tells-of (EncodeStored size width n body) (λ i. encodeOutcome baseSettings (chart-is body i) (memory-is i)) t
 
 -- ---- the case
-
-module _ (h : Head) (body : List ℕ) (spare size : ℕ) (e : size ≡ columnSize (h .objects) (h .width)) where
-  -- the form and the answers, by the size of a column
-  abbrev form : ℕ → Type 0
-  form z = Formed 1 1 2 (2 + 2 * h .objects + 5 * z) h (length body)
-
-  abbrev stored : ℕ → Type 0
-  stored z = EncodeStored z (h .width) (h .objects) body (encodeOutcome baseSettings (encodeChart (h .objects) body) (encodeLent (h .objects) spare))
-
-  pub case-ill : {b : Bool} → Tells b (form size) → b ≡ false → Tells false (EncodeHolds h body spare)
-  unfolding EncodeHolds
-  case-ill t f = ill-at form stored e t f
-
-  pub case-told : {b r : Bool} → h .objects ≤ 16384 → Tells b (form size) → b ≡ true → Tells r (stored size) → Tells r (EncodeHolds h body spare)
-  unfolding EncodeHolds
-  case-told l t f u = well-at form stored e t l f u
 
 pub encode-call : (h : Head) (body : List ℕ) (spare : ℕ) → EncodeHolds h body spare → h .call ≡ 1
 unfolding EncodeHolds

@@ -9,8 +9,8 @@ ghost use Rattle.call_encode.specs.Call.{before, encodeOutcome};
 ghost use Rattle.call_encode.specs.declared.Encoding.the-variants as encoding;
 ghost use Rattle.vectors.specs.Case.{pairAt};
 ghost use Rattle.vectors.specs.Held.{Tells};
-ghost use Rattle.cases_encode.specs.Encode.{encodeChart, encodeLent, EncodeStored};
-ghost use Rattle.cases_encode.specs.Encode.{EncodeCompared, EncodeRoom, EncodeHolds};
+ghost use Rattle.cases_encode.specs.Encode.{encodeChart, encodeLent, EncodeStored, EncodeHolds};
+ghost use Rattle.cases_encode.specs.passes.Room.{EncodeCompared, EncodeRoom};
 use call_encode::Encoding;
 use vectors::case::Head;
 use vectors::form::ENCODE;
@@ -20,6 +20,9 @@ use vectors::held::both;
 use vectors::sentinel;
 use vectors::sentinel::BYTE_SENTINEL;
 use vectors::sentinel::FLOAT_SENTINEL;
+use vectors::sentinel::MOST_OBJECTS;
+use vectors::sentinel::MOST_PLACES;
+use vectors::sentinel::MOST_WORK;
 use vectors::sentinel::NUMBER_SENTINEL;
 
 // Whether the chart is accepted, with as many hit patterns as the body's first number says.
@@ -136,15 +139,15 @@ fn call_holds(h: Head, size: usize, body: &[u8], spare: usize) -> bool
         size,
         body,
         &body[2..2 + n],
-        &[1.0; 16384][..n],
-        &mut [NUMBER_SENTINEL; 16391][..room],
-        &mut [NUMBER_SENTINEL; 16391][..room],
-        &mut [NUMBER_SENTINEL; 16391][..room],
-        &mut [NUMBER_SENTINEL; 16391][..room],
-        &mut [NUMBER_SENTINEL; 16391][..room],
-        &mut [BYTE_SENTINEL; 16391][..room],
-        &mut [NUMBER_SENTINEL; 131079][..8 * n + spare],
-        &mut [FLOAT_SENTINEL; 16391][..room],
+        &[1.0; MOST_OBJECTS][..n],
+        &mut [NUMBER_SENTINEL; MOST_PLACES][..room],
+        &mut [NUMBER_SENTINEL; MOST_PLACES][..room],
+        &mut [NUMBER_SENTINEL; MOST_PLACES][..room],
+        &mut [NUMBER_SENTINEL; MOST_PLACES][..room],
+        &mut [NUMBER_SENTINEL; MOST_PLACES][..room],
+        &mut [BYTE_SENTINEL; MOST_PLACES][..room],
+        &mut [NUMBER_SENTINEL; MOST_WORK][..8 * n + spare],
+        &mut [FLOAT_SENTINEL; MOST_PLACES][..room],
     )
 }
 
@@ -154,7 +157,7 @@ pub fn holds(h: Head, body: &[u8], spare: usize) -> bool
     ensures { λ r. ⌜ Tells r (EncodeHolds h (lent body) spare) ⌝ }
 {
     let n = h.objects;
-    if n > 16384 {
+    if n > MOST_OBJECTS {
         return false;
     }
     let size = vectors::case::column_size(n, h.width);

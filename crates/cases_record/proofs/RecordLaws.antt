@@ -19,10 +19,12 @@ use Rattle.call_record.specs.declared.Recording.the-variants.{Done, Refused}
 use Rattle.vectors.specs.Case.{pairAt, wordAt}
 use Rattle.vectors.specs.Held.{Tells}
 use Rattle.vectors.specs.declared.case.Head.{Head}
-use Rattle.vectors.specs.Sentinel.{numberSentinel, floatSentinel, Cleared, Few}
+use Rattle.vectors.specs.Sentinel.{numberSentinel, floatSentinel, Cleared}
+use Rattle.vectors.specs.passes.Room.{mostPlaces, mostWork, Few}
 use Rattle.vectors.proofs.SentinelLaws.{work-lent, floats-lent}
 use Rattle.vectors.proofs.TellsLaws.{denied, tells-as, tells-both, tells-four, tells-of, tells-eqb-as}
-use Rattle.cases_rhythm.specs.Rhythm.{rhythmChart, TimesRead}
+use Rattle.cases_rhythm.specs.Rhythm.{rhythmChart}
+use Rattle.cases_rhythm.specs.passes.Times.{TimesRead}
 use Rattle.cases_rhythm.proofs.RhythmLaws.{made-chart, zeros, chart-is}
 use Rattle.cases_record.specs.Record.{recordLent, askedOutcome, OwnIs, PlacesAre, ScoresAre, RecordIs, RecordStored, RecordHolds}
 
@@ -79,7 +81,8 @@ outcome-told c m {n} {part} e p w t u q =
 -- ---- the chart and the slices, as fronts of what the code makes
 
 abbrev made-memory : ℕ → ℕ → Memory
-made-memory n spare = record { work = take (8 * n + spare) (replicate 131079 numberSentinel); scratch = take (n + spare) (replicate 16391 floatSentinel) }
+made-memory n spare =
+    record { work = take (8 * n + spare) (replicate mostWork numberSentinel); scratch = take (n + spare) (replicate mostPlaces floatSentinel) }
 
 module _ {n spare : ℕ} (few : Few n spare) (body : List ℕ) {starts deltas : List Float} (x : TimesRead n body zeros starts zeros deltas) where
   memory-is : made-memory n spare ≡ recordLent n spare

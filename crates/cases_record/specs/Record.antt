@@ -2,8 +2,8 @@
 -- the call's definition gives the original's answer.
 use mathlib.Core.Path.{_≡_}
 use mathlib.Core.List.{List}
-use Prim.Native.Nat.{ℕ, _+_, _*_}
-use lib.ListN.{length, replicate}
+use Prim.Native.Nat.{ℕ}
+use lib.ListN.{length}
 use lib.Ieee.{binary64, toBits, ofBits}
 use Rattle.grouping_chart.specs.Chart.{Chart}
 use Rattle.grouping_chart.specs.Outcome.{Outcome}
@@ -17,13 +17,12 @@ use Rattle.call_record.specs.declared.Recording.the-variants.{Done, Refused}
 use Rattle.vectors.specs.Case.{pairAt, wordAt}
 use Rattle.vectors.specs.declared.case.Head.{Head}
 use Rattle.vectors.specs.Form.{PartFormed, Holds}
-use Rattle.vectors.specs.Sentinel.{numberSentinel, floatSentinel, Cleared}
+use Rattle.vectors.specs.Sentinel.{floatsLent, workLent, Cleared}
 use Rattle.cases_rhythm.specs.Rhythm.{rhythmChart, RhythmForm}
 
 -- so many places to spare in each slice
 unfoldable pub recordLent : ℕ → ℕ → Memory
-recordLent n spare =
-    record { work = replicate (8 * n + spare) numberSentinel; scratch = replicate (n + spare) floatSentinel }
+recordLent n spare = record { work = workLent n spare; scratch = floatsLent n spare }
 
 -- the group's own interval: 1 and its bits, or 0 and 0 where there is none
 unfoldable pub OwnIs : List ℕ → Own → Type 0

@@ -5,10 +5,11 @@ ghost use lib.Ieee as Ieee;
 ghost use lib.Ieee.{binary64};
 ghost use Rattle.vectors.specs.Case.{pairAt, wordAt};
 ghost use Rattle.vectors.specs.Held.{Tells};
-ghost use Rattle.grouping_chart.specs.Chart.{chart};
+ghost use Rattle.grouping_chart.specs.Chart.{chart, largest};
 ghost use Rattle.lent.specs.Slice.{lent};
 ghost use Rattle.call_record.specs.Call.{before};
-ghost use Rattle.cases_rhythm.specs.Rhythm.{rhythmChart, RhythmRoom};
+ghost use Rattle.cases_rhythm.specs.Rhythm.{rhythmChart};
+ghost use Rattle.cases_rhythm.specs.passes.Times.{RhythmRoom};
 ghost use Rattle.cases_record.specs.Record.{recordLent, askedOutcome, OwnIs, PlacesAre, ScoresAre};
 ghost use Rattle.cases_record.specs.Record.{RecordIs, RecordStored, RecordHolds};
 use call_record::GroupRecord;
@@ -22,6 +23,9 @@ use vectors::form::part_formed;
 use vectors::held::both;
 use vectors::sentinel;
 use vectors::sentinel::FLOAT_SENTINEL;
+use vectors::sentinel::MOST_OBJECTS;
+use vectors::sentinel::MOST_PLACES;
+use vectors::sentinel::MOST_WORK;
 use vectors::sentinel::NUMBER_SENTINEL;
 
 // Whether a float has the bits that stand at a place.
@@ -104,7 +108,7 @@ fn lent_holds(
     work: &mut [u16],
     scratch: &mut [f64],
 ) -> bool
-    requires { ⌜ n ≤ 16384 ⌝ }
+    requires { ⌜ n ≤ largest ⌝ }
     ensures { λ r. ⌜ Tells r (RecordStored n (lent part)
         (askedOutcome (lent part) (chart kind start delta one) (before work scratch))) ⌝ }
 {
@@ -123,8 +127,8 @@ fn call_holds(n: usize, body: &[u8], part: &[u8], spare: usize) -> bool
     ensures { λ r. ⌜ Tells r (RecordStored n (lent part)
         (askedOutcome (lent part) (rhythmChart n (lent body)) (recordLent n spare))) ⌝ }
 {
-    let mut starts = [0.0; 16384];
-    let mut deltas = [0.0; 16384];
+    let mut starts = [0.0; MOST_OBJECTS];
+    let mut deltas = [0.0; MOST_OBJECTS];
     cases_rhythm::read_times(n, body, &mut starts, &mut deltas);
     lent_holds(
         n,
@@ -132,9 +136,9 @@ fn call_holds(n: usize, body: &[u8], part: &[u8], spare: usize) -> bool
         &body[4..4 + n],
         &starts[..n],
         &deltas[..n],
-        &[1.0; 16384][..n],
-        &mut [NUMBER_SENTINEL; 131079][..8 * n + spare],
-        &mut [FLOAT_SENTINEL; 16391][..n + spare],
+        &[1.0; MOST_OBJECTS][..n],
+        &mut [NUMBER_SENTINEL; MOST_WORK][..8 * n + spare],
+        &mut [FLOAT_SENTINEL; MOST_PLACES][..n + spare],
     )
 }
 
@@ -144,7 +148,7 @@ pub fn holds(chart: Head, body: &[u8], h: Head, part: &[u8], spare: usize) -> bo
     ensures { λ r. ⌜ Tells r (RecordHolds chart (lent body) h (lent part) spare) ⌝ }
 {
     let n = chart.objects;
-    if n > 16384 {
+    if n > MOST_OBJECTS {
         return false;
     }
     let whole = cases_rhythm::rhythm_formed(chart, body);

@@ -9,7 +9,7 @@ use lib.ListN.{take, drop, replicate}
 use lib.Ieee.{Float, binary64, ofBits}
 use Rattle.lent.proofs.OverLaws.{lent-part}
 use Rattle.lent.proofs.NeverLaws.{never}
-use Rattle.grouping_chart.specs.Chart.{Chart}
+use Rattle.grouping_chart.specs.Chart.{Chart, largest}
 use Rattle.grouping_chart.specs.Outcome.{Outcome}
 use Rattle.grouping_chart.specs.Settings.{baseSettings}
 use Rattle.grouping_chart.specs.declared.object.ObjectIndex.{ObjectIndex}
@@ -20,11 +20,13 @@ use Rattle.vectors.specs.Case.{pairAt}
 use Rattle.vectors.specs.Held.{Tells}
 use Rattle.vectors.specs.Table.{entries}
 use Rattle.vectors.specs.declared.case.Head.{Head}
-use Rattle.vectors.specs.Sentinel.{numberSentinel, floatSentinel, one, Columns, Cleared, Few}
+use Rattle.vectors.specs.Sentinel.{numberSentinel, floatSentinel, ColumnsHeld, Cleared}
+use Rattle.vectors.specs.passes.Room.{mostPlaces, mostWork, Few}
 use Rattle.vectors.proofs.TableLaws.{entries-front}
 use Rattle.vectors.proofs.TellsLaws.{denied, tells-as, tells-both, tells-of, tells-eqb}
-use Rattle.vectors.proofs.SentinelLaws.{ones-lent, numbers-lent, work-lent, floats-lent}
-use Rattle.cases_rhythm.specs.Rhythm.{rhythmChart, rhythmLent, TimesRead, RhythmRoom, RhythmStored, RhythmForm, RhythmHolds}
+use Rattle.vectors.proofs.SentinelLaws.{codeOne, ones-lent, numbers-lent, work-lent, floats-lent}
+use Rattle.cases_rhythm.specs.Rhythm.{rhythmChart, rhythmLent, RhythmStored, RhythmForm, RhythmHolds}
+use Rattle.cases_rhythm.specs.passes.Times.{TimesRead, RhythmRoom}
 
 -- ---- the answer of rhythm
 
@@ -42,7 +44,7 @@ module _ (body : List ℕ) (answer : Grouping) where
 
 pub outcome-told : {n : ℕ} {body : List ℕ} {o : Outcome Grouping Memory} {a b c bc r : Bool}
     → Tells a (o .answer ≡ Done (pairAt body 0) (pairAt body 2))
-    → Tells b (Columns body (4 + 17 * n) (2 * n) 2 n (o .memory .group) (o .memory .pattern))
+    → Tells b (ColumnsHeld body (4 + 17 * n) (2 * n) 2 n (o .memory .group) (o .memory .pattern))
     → Tells c (Cleared n (o .memory .work) (o .memory .scratch))
     → bc ≡ (b && c) → r ≡ (a && bc) → Tells r (RhythmStored n body o)
 outcome-told ta tb tc p q =
@@ -53,18 +55,18 @@ outcome-told ta tb tc p q =
 
 abbrev pub made-chart : ℕ → List ℕ → List Float → List Float → Chart
 made-chart n body starts deltas =
-    record { kinds = take (4 + n - 4) (drop 4 body); starts = take n starts; deltas = take n deltas; ratios = take n (replicate 16384 one) }
+    record { kinds = take (4 + n - 4) (drop 4 body); starts = take n starts; deltas = take n deltas; ratios = take n (replicate largest codeOne) }
 
 abbrev made-memory : ℕ → ℕ → Memory
 made-memory n spare = record {
-  group = take (n + spare) (replicate 16391 numberSentinel);
-  pattern = take (n + spare) (replicate 16391 numberSentinel);
-  work = take (8 * n + spare) (replicate 131079 numberSentinel);
-  scratch = take (n + spare) (replicate 16391 floatSentinel);
+  group = take (n + spare) (replicate mostPlaces numberSentinel);
+  pattern = take (n + spare) (replicate mostPlaces numberSentinel);
+  work = take (8 * n + spare) (replicate mostWork numberSentinel);
+  scratch = take (n + spare) (replicate mostPlaces floatSentinel);
 }
 
 abbrev pub zeros : List Float
-zeros = replicate 16384 (ofBits binary64 0)
+zeros = replicate largest (ofBits binary64 0)
 
 module _ {n spare : ℕ} (few : Few n spare) (body : List ℕ) {starts deltas : List Float} (x : TimesRead n body zeros starts zeros deltas) where
   pub chart-is : made-chart n body starts deltas ≡ rhythmChart n body
@@ -85,7 +87,7 @@ module _ {n spare : ℕ} (few : Few n spare) (body : List ℕ) {starts deltas : 
 
 -- ---- the case
 
-pub form-room : (h : Head) (body : List ℕ) (spare : ℕ) → h .objects ≤ 16384 → spare ≤ 7 → RhythmForm h body → RhythmRoom (h .objects) body spare
+pub form-room : (h : Head) (body : List ℕ) (spare : ℕ) → h .objects ≤ largest → spare ≤ 7 → RhythmForm h body → RhythmRoom (h .objects) body spare
 unfolding RhythmForm
 form-room h body spare l k f = record { few = record { objects = l; places = k }; whole = omega (arith, f .whole) }
 

@@ -1,2 +1,3 @@
 -- The definitions that this crate's promises and laws cite.
 pub mod Rhythm
+pub mod passes

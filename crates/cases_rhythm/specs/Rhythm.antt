@@ -2,10 +2,10 @@
 -- the call's definition gives the original's answer.
 use mathlib.Core.Path.{_≡_}
 use mathlib.Core.List.{List}
-use Prim.Native.Nat.{ℕ, _+_, _*_, _≤_}
+use Prim.Native.Nat.{ℕ, _+_, _*_}
 use lib.ListN.{length, replicate}
-use lib.Ieee.{Float}
-use Rattle.lent.specs.Over.{over, part}
+use Rattle.lent.specs.Over.{part}
+use Rattle.numeric.specs.Constants.{one64}
 use Rattle.grouping_chart.specs.Chart.{Chart}
 use Rattle.grouping_chart.specs.Outcome.{Outcome}
 use Rattle.grouping_chart.specs.Settings.{baseSettings}
@@ -16,7 +16,7 @@ use Rattle.vectors.specs.Case.{pairAt}
 use Rattle.vectors.specs.Table.{entries}
 use Rattle.vectors.specs.declared.case.Head.{Head}
 use Rattle.vectors.specs.Form.{Formed, Holds}
-use Rattle.vectors.specs.Sentinel.{numberSentinel, floatSentinel, one, Columns, Cleared, Few}
+use Rattle.vectors.specs.Sentinel.{numbersLent, floatsLent, workLent, ColumnsHeld, Cleared}
 
 -- ---- what is stored
 
@@ -27,39 +27,24 @@ rhythmChart n body = record {
   kinds = part 4 n body;
   starts = entries body (4 + n) 0 0 n;
   deltas = entries body (4 + 9 * n) 0 0 n;
-  ratios = replicate n one;
+  ratios = replicate n one64;
 }
-
--- both columns, read over what was there
-pub record TimesRead (n : ℕ) (body : List ℕ) (start₀ start delta₀ delta : List Float) : Type 0 where
-  pub starts : start ≡ over (entries body (4 + n) 0 0 n) start₀
-  pub deltas : delta ≡ over (entries body (4 + 9 * n) 0 0 n) delta₀
-
--- a body for kinds, starts and deltas
-pub record TimesRoom (n : ℕ) (start delta : List Float) : Type 0 where
-  pub few : n ≤ 16384
-  pub start-room : n ≤ length start
-  pub delta-room : n ≤ length delta
-
-pub record RhythmRoom (n : ℕ) (body : List ℕ) (spare : ℕ) : Type 0 where
-  pub few : Few n spare
-  pub whole : 4 + n ≤ length body
 
 -- ---- rhythm
 
 -- so many places to spare in each slice
 unfoldable pub rhythmLent : ℕ → ℕ → Memory
 rhythmLent n spare = record {
-  group = replicate (n + spare) numberSentinel;
-  pattern = replicate (n + spare) numberSentinel;
-  work = replicate (8 * n + spare) numberSentinel;
-  scratch = replicate (n + spare) floatSentinel;
+  group = numbersLent n spare;
+  pattern = numbersLent n spare;
+  work = workLent n spare;
+  scratch = floatsLent n spare;
 }
 
 -- both counts, the numbers of each object, which have two bytes, and cleared work slices
 pub record RhythmStored (n : ℕ) (body : List ℕ) (o : Outcome Grouping Memory) : Type 0 where
   pub answer : o .answer ≡ Done (pairAt body 0) (pairAt body 2)
-  pub numbers : Columns body (4 + 17 * n) (2 * n) 2 n (o .memory .group) (o .memory .pattern)
+  pub numbers : ColumnsHeld body (4 + 17 * n) (2 * n) 2 n (o .memory .group) (o .memory .pattern)
   pub cleared : Cleared n (o .memory .work) (o .memory .scratch)
 
 -- the bytes of a rhythm case

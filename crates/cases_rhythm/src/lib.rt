@@ -4,13 +4,13 @@ ghost use Prim.Native.Nat.{_≤_};
 ghost use Rattle.lent.specs.Slice.{lent, left};
 ghost use Rattle.grouping_chart.specs.Settings.{baseSettings};
 ghost use Rattle.grouping_chart.specs.Outcome.{outcome};
-ghost use Rattle.grouping_chart.specs.Chart.{chart};
+ghost use Rattle.grouping_chart.specs.Chart.{chart, largest};
 ghost use Rattle.call_rhythm.specs.Call.{before, rhythmOutcome};
 ghost use Rattle.call_rhythm.specs.declared.Grouping.the-variants as grouping;
 ghost use Rattle.vectors.specs.Case.{pairAt};
 ghost use Rattle.vectors.specs.Held.{Tells};
-ghost use Rattle.cases_rhythm.specs.Rhythm.{rhythmChart, rhythmLent, TimesRoom, TimesRead};
-ghost use Rattle.cases_rhythm.specs.Rhythm.{RhythmRoom, RhythmStored, RhythmForm, RhythmHolds};
+ghost use Rattle.cases_rhythm.specs.Rhythm.{rhythmChart, rhythmLent, RhythmStored, RhythmForm, RhythmHolds};
+ghost use Rattle.cases_rhythm.specs.passes.Times.{TimesRoom, TimesRead, RhythmRoom};
 use call_rhythm::Grouping;
 use vectors::case;
 use vectors::case::Head;
@@ -19,6 +19,9 @@ use vectors::form::formed;
 use vectors::held::both;
 use vectors::sentinel;
 use vectors::sentinel::FLOAT_SENTINEL;
+use vectors::sentinel::MOST_OBJECTS;
+use vectors::sentinel::MOST_PLACES;
+use vectors::sentinel::MOST_WORK;
 use vectors::sentinel::NUMBER_SENTINEL;
 use vectors::table;
 
@@ -54,7 +57,7 @@ fn outcome_holds(
     work: &[u16],
     scratch: &[f64],
 ) -> bool
-    requires { ⌜ n ≤ 16384 ⌝ }
+    requires { ⌜ n ≤ largest ⌝ }
     ensures { λ r. ⌜ Tells r (RhythmStored n (lent body) (outcome answer (before group pattern work scratch))) ⌝ }
 {
     let counts = counts_hold(body, answer);
@@ -76,7 +79,7 @@ fn lent_holds(
     work: &mut [u16],
     scratch: &mut [f64],
 ) -> bool
-    requires { ⌜ n ≤ 16384 ⌝ }
+    requires { ⌜ n ≤ largest ⌝ }
     ensures { λ r. ⌜ Tells r (RhythmStored n (lent body)
         (rhythmOutcome baseSettings (chart kind start delta one) (before group pattern work scratch))) ⌝ }
 {
@@ -91,8 +94,8 @@ fn call_holds(n: usize, body: &[u8], spare: usize) -> bool
         (rhythmOutcome baseSettings (rhythmChart n (lent body)) (rhythmLent n spare))) ⌝ }
 {
     let room = n + spare;
-    let mut starts = [0.0; 16384];
-    let mut deltas = [0.0; 16384];
+    let mut starts = [0.0; MOST_OBJECTS];
+    let mut deltas = [0.0; MOST_OBJECTS];
     read_times(n, body, &mut starts, &mut deltas);
     lent_holds(
         n,
@@ -100,17 +103,17 @@ fn call_holds(n: usize, body: &[u8], spare: usize) -> bool
         &body[4..4 + n],
         &starts[..n],
         &deltas[..n],
-        &[1.0; 16384][..n],
-        &mut [NUMBER_SENTINEL; 16391][..room],
-        &mut [NUMBER_SENTINEL; 16391][..room],
-        &mut [NUMBER_SENTINEL; 131079][..8 * n + spare],
-        &mut [FLOAT_SENTINEL; 16391][..room],
+        &[1.0; MOST_OBJECTS][..n],
+        &mut [NUMBER_SENTINEL; MOST_PLACES][..room],
+        &mut [NUMBER_SENTINEL; MOST_PLACES][..room],
+        &mut [NUMBER_SENTINEL; MOST_WORK][..8 * n + spare],
+        &mut [FLOAT_SENTINEL; MOST_PLACES][..room],
     )
 }
 
 // Whether the bytes have the form of a rhythm case.
 pub fn rhythm_formed(h: Head, body: &[u8]) -> bool
-    requires { ⌜ h .objects ≤ 16384 ⌝ }
+    requires { ⌜ h .objects ≤ largest ⌝ }
     ensures { λ r. ⌜ Tells r (RhythmForm h (lent body)) ⌝ }
 {
     formed(h, RHYTHM, 2, 2, 4 + 21 * h.objects, body.len())
@@ -122,7 +125,7 @@ pub fn holds(h: Head, body: &[u8], spare: usize) -> bool
     ensures { λ r. ⌜ Tells r (RhythmHolds h (lent body) spare) ⌝ }
 {
     let n = h.objects;
-    if n > 16384 {
+    if n > MOST_OBJECTS {
         return false;
     }
     if rhythm_formed(h, body) {

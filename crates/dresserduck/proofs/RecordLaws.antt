@@ -5,24 +5,7 @@ use lib.Ieee.{binary64, toBits}
 use Rattle.call_record.specs.declared.GroupRecord.{GroupRecord}
 use Rattle.call_record.specs.declared.Recording.{Recording}
 use Rattle.call_record.specs.declared.Recording.the-variants.{Done}
-use Rattle.dresserduck.specs.Host.{hasOwn, ownBits, recordedOf}
-use Rattle.dresserduck.specs.declared.Recorded.{Recorded}
-
--- with these bits of its floats
-abbrev pub recordWith : GroupRecord → ℕ → ℕ → ℕ → ℕ → ℕ → ℕ → Recorded
-recordWith r has own ratio interval penalty pattern = record {
-  refusal = 0;
-  place = 0;
-  firstnote = r .first .0;
-  notecount = r .notes;
-  hasown = has;
-  ownbits = own;
-  ratiobits = ratio;
-  intervalbits = interval;
-  penaltybits = penalty;
-  patterngroup = r .pattern;
-  patternratiobits = pattern;
-}
+use Rattle.dresserduck.specs.Host.{hasOwn, ownBits, recordWith, recordedOf}
 
 module _ (r : GroupRecord) {has own ratio interval penalty pattern : ℕ} where
   pub done-recorded : {answer : Recording} → answer ≡ Done r → has ≡ hasOwn (r .own) → own ≡ ownBits (r .own)

@@ -38,12 +38,12 @@ use Rattle.evaluator_colour.specs.RatioPenalty as ratio
 use Rattle.evaluator_rhythm.specs.RepeatedInterval.{present, similar, similarTo, somePair, walkPenalty}
 use Rattle.evaluator_values.specs.Colour.{isFirst, standingAt, colourAt, colourValues}
 use Rattle.call_colour.specs.Call as calls
-use Rattle.examples.specs.Question.{whole, bitsOf, chart, encodeMemory, colourMemory, rhythmMemory, encodeAnswer, colourAnswer, rhythmAnswer}
+use Rattle.examples.specs.Question.{whole, bitsOf, plainChart, encodeMemory, colourMemory, rhythmMemory, encodeAnswer, colourAnswer, rhythmAnswer}
 use Rattle.examples.specs.Question.{encodeShown, colourShown, rhythmShown, millis, answer}
 use Rattle.examples.specs.Starred.{Example, encoding, starred}
 
 pub starred-right : map (λ (e : Example). answer (e .question)) starred ≡ map (λ (e : Example). e .outcome) starred
-unfolding starred encoding answer whole bitsOf chart encodeMemory colourMemory rhythmMemory encodeAnswer colourAnswer rhythmAnswer encodeShown colourShown
+unfolding starred encoding answer whole bitsOf plainChart encodeMemory colourMemory rhythmMemory encodeAnswer colourAnswer rhythmAnswer encodeShown colourShown
     rhythmShown millis answered encode.encodeOutcome encode.filled calls.colourOutcome anyShort shortRefusal calls.filled rhythm.rhythmOutcome
     rhythm.filled groupOf patternGroupOf perNote noteGroup groupsIn patternGroupsIn rhythmMarks groupObjects
     firstsOf startsOf intervalsOf groupIntervals patternNumber parted notesFrom noteObjects ofNotes verdict equallyLong firstRefused objectRefusal

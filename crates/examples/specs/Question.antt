@@ -49,8 +49,8 @@ unfoldable pub bitsOf : List Float → List ℕ
 bitsOf values = map (toBits binary64) values
 
 -- starts and deltas 0.0, ratios 1.0
-unfoldable pub chart : List ℕ → Chart
-chart kinds = record {
+unfoldable pub plainChart : List ℕ → Chart
+plainChart kinds = record {
   kinds = kinds;
   starts = replicate (length kinds) (whole 0);
   deltas = replicate (length kinds) (whole 0);
@@ -117,10 +117,12 @@ unfoldable pub millis : ℕ → Own
 millis n = Millis (whole n)
 
 unfoldable pub answer : Question → List (List ℕ)
-answer (encoded kinds) = encodeShown (encode.encodeOutcome baseSettings (chart kinds) (encodeMemory (length kinds)))
-answer (coloured kinds) = colourShown (calls.colourOutcome baseSettings (chart kinds) (colourMemory (length kinds)))
+answer (encoded kinds) =
+    encodeShown (encode.encodeOutcome baseSettings (plainChart kinds) (encodeMemory (length kinds)))
+answer (coloured kinds) =
+    colourShown (calls.colourOutcome baseSettings (plainChart kinds) (colourMemory (length kinds)))
 answer (rhythmed kinds) =
-    rhythmShown (rhythm.rhythmOutcome baseSettings (chart kinds) (rhythmMemory (length kinds)))
+    rhythmShown (rhythm.rhythmOutcome baseSettings (plainChart kinds) (rhythmMemory (length kinds)))
 answer (grouped deltas) = groupNumbers (intervalMarks (baseSettings .margin) (map whole deltas)) ∷ []
 answer (normal deltas) = bitsOf (normalized (baseSettings .margin) (map whole deltas)) ∷ []
 answer (wholes deltas) = bitsOf (map roundTiesEven (normalized (baseSettings .margin) (map whole deltas))) ∷ []

@@ -9,27 +9,27 @@ pub record Example : Type 0 where
   pub question : Question
   pub outcome : List (List ℕ)
 
--- 1.0, which a float slice is lent full of
-abbrev pub one : ℕ
-one = 0x3ff0_0000_0000_0000
+-- the bits of 1.0, which a float slice is lent full of
+abbrev pub bitsOfOne : ℕ
+bitsOfOne = 0x3ff0_0000_0000_0000
 
 -- six answers, each with a place to spare, and the work slices cleared as far as n objects need
 unfoldable pub encoding : ℕ → ℕ → List ℕ → List ℕ → List ℕ → List ℕ → List ℕ → List ℕ → List (List ℕ)
 encoding n hits streak streakPlace pattern patternPlace hit interval =
     (0 ∷ hits ∷ []) ∷ spare streak ∷ spare streakPlace ∷ spare pattern ∷ spare patternPlace ∷ spare hit ∷ spare interval
-    ∷ (replicate (8 * n) 0 ++ (77 ∷ [])) ∷ (replicate n 0 ++ (one ∷ [])) ∷ []
+    ∷ (replicate (8 * n) 0 ++ (77 ∷ [])) ∷ (replicate n 0 ++ (bitsOfOne ∷ [])) ∷ []
   where
     spare : List ℕ → List ℕ
     spare xs = xs ++ (77 ∷ [])
 
 unfoldable pub starred : List Example
 starred =
-    -- no objects: accepted, and nothing is written
+    -- an empty chart: Done, and every slice is left as it was lent
     record { question = encoded []; outcome = encoding 0 0 [] [] [] [] [] [] }
-    ∷ record { question = coloured []; outcome = (0 ∷ []) ∷ (one ∷ []) ∷ (77 ∷ []) ∷ (one ∷ []) ∷ [] }
+    ∷ record { question = coloured []; outcome = (0 ∷ []) ∷ (bitsOfOne ∷ []) ∷ (77 ∷ []) ∷ (bitsOfOne ∷ []) ∷ [] }
     ∷ record {
       question = rhythmed [];
-      outcome = (0 ∷ 0 ∷ 0 ∷ []) ∷ (77 ∷ []) ∷ (77 ∷ []) ∷ (77 ∷ []) ∷ (one ∷ []) ∷ [];
+      outcome = (0 ∷ 0 ∷ 0 ∷ []) ∷ (77 ∷ []) ∷ (77 ∷ []) ∷ (77 ∷ []) ∷ (bitsOfOne ∷ []) ∷ [];
     }
     -- d: one hit pattern, interval 17; the value is mono, alt and hit with T at 0, each step rounded
     ∷ record {
@@ -38,9 +38,10 @@ starred =
     }
     ∷ record {
       question = coloured (0 ∷ []);
-      outcome = (0 ∷ []) ∷ (0x4013_ee42_c838_4268 ∷ one ∷ []) ∷ (replicate 8 0 ++ (77 ∷ [])) ∷ (0 ∷ one ∷ []) ∷ [];
+      outcome = (0 ∷ []) ∷ (0x4013_ee42_c838_4268 ∷ bitsOfOne ∷ [])
+          ∷ (replicate 8 0 ++ (77 ∷ [])) ∷ (0 ∷ bitsOfOne ∷ []) ∷ [];
     }
-    -- d n d: the streaks are d and nd
+    -- d n d: the object that is no note goes with the streak after it
     ∷ record {
       question = encoded (0 ∷ 2 ∷ 0 ∷ []);
       outcome = encoding 3 2
@@ -48,7 +49,7 @@ starred =
           (0 ∷ 1 ∷ 1 ∷ []) (0 ∷ 0 ∷ 0 ∷ [])
           (0 ∷ 1 ∷ 1 ∷ []) (17 ∷ 17 ∷ 17 ∷ []);
     }
-    -- d d k: two hit patterns
+    -- d d k: the k opens a hit pattern
     ∷ record {
       question = encoded (0 ∷ 0 ∷ 1 ∷ []);
       outcome = encoding 3 2
@@ -56,7 +57,7 @@ starred =
           (0 ∷ 0 ∷ 1 ∷ []) (0 ∷ 0 ∷ 0 ∷ [])
           (0 ∷ 0 ∷ 1 ∷ []) (17 ∷ 17 ∷ 17 ∷ []);
     }
-    -- d k d k: one alternating pattern
+    -- d k d k: four streaks of one length, so they alternate
     ∷ record {
       question = encoded (0 ∷ 1 ∷ 0 ∷ 1 ∷ []);
       outcome = encoding 4 1
@@ -93,6 +94,6 @@ starred =
       outcome = (0x4059_6000_0000_0000 ∷ 0x4059_6000_0000_0000 ∷ 0x405a_c000_0000_0000 ∷ []) ∷ [];
     }
     -- own intervals of which no two that are compared are alike, and some of which two are: 1.0 and 0.8
-    ∷ record { question = walked (110 ∷ 150 ∷ 100 ∷ []); outcome = (one ∷ []) ∷ [] }
+    ∷ record { question = walked (110 ∷ 150 ∷ 100 ∷ []); outcome = (bitsOfOne ∷ []) ∷ [] }
     ∷ record { question = walked (100 ∷ 150 ∷ 110 ∷ []); outcome = (0x3fe9_9999_9999_999a ∷ []) ∷ [] }
     ∷ []

@@ -9,8 +9,9 @@ use lib.Dec.{T}
 use lib.Ieee.{Float, nan, inf, fin, binary64, isNan, ofBits, nanBits}
 use lib.Ieee.Bits.{nanBits-is, nanBits-above}
 use Rattle.lent.proofs.NeverLaws.{never}
+use Rattle.grouping_chart.specs.Chart.{largest}
 use Rattle.vectors.specs.Case.{numberAt, wordAt, columnWord}
-use Rattle.vectors.specs.Table.{placeAt, entryAt}
+use Rattle.vectors.specs.Table.{entryNumber, entryAt}
 
 only-nan : (x : Float) → isNan x ≡ true → nan ≡ x
 unfolding isNan
@@ -26,16 +27,16 @@ no-nan n h = subst (λ (b : Bool). T (not b)) (sym (nanBits-above binary64 n ∙
 
 -- ---- floats of a table
 
-pub place-own : (s : List ℕ) (column width i : ℕ) → width ≡ 0 → i ≤ 16384 → (i ≡ placeAt s column width i) × (i < 65536)
-unfolding placeAt
-place-own s column width i e h = (rw (eq-eqb width 0 e), omega arith)
+pub number-own : (s : List ℕ) (column width i : ℕ) → width ≡ 0 → i ≤ largest → (i ≡ entryNumber s column width i) × (i < 65536)
+unfolding entryNumber
+number-own s column width i e h = (rw (eq-eqb width 0 e), omega arith)
 
-pub place-named : (s : List ℕ) (column width i r : ℕ) → (width ≡ 0 → ⊥) → r ≡ numberAt s column width i → r < 65536
-    → (r ≡ placeAt s column width i) × (r < 65536)
-unfolding placeAt
-place-named s column width i r e q h = (rw (ne-eqb width 0 e) q, h)
+pub number-named : (s : List ℕ) (column width i r : ℕ) → (width ≡ 0 → ⊥) → r ≡ numberAt s column width i → r < 65536
+    → (r ≡ entryNumber s column width i) × (r < 65536)
+unfolding entryNumber
+number-named s column width i r e q h = (rw (ne-eqb width 0 e) q, h)
 
-pub entry-is : (s : List ℕ) (table column width i place bits : ℕ) (r : Float) → place ≡ placeAt s column width i → bits ≡ wordAt s (table + 8 * place)
+pub entry-is : (s : List ℕ) (table column width i number bits : ℕ) (r : Float) → number ≡ entryNumber s column width i → bits ≡ wordAt s (table + 8 * number)
     → r ≡ ofBits binary64 bits → r ≡ entryAt s table column width i
 unfolding entryAt columnWord
-entry-is s table column width i place bits r p q e = e ∙ ap (ofBits binary64) (q ∙ ap (λ (k : ℕ). wordAt s (table + 8 * k)) p)
+entry-is s table column width i number bits r p q e = e ∙ ap (ofBits binary64) (q ∙ ap (λ (k : ℕ). wordAt s (table + 8 * k)) p)

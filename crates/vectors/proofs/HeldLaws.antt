@@ -15,7 +15,8 @@ use Rattle.lent.specs.Scan.{tabulate}
 use Rattle.lent.proofs.OverLaws.{front, length-over, put-front, getD-put-after}
 use Rattle.lent.proofs.FillLaws.{length-tabulate, getD-tabulate}
 use Rattle.vectors.specs.Case.{pair, pairAt, quadAt, wordAt, numberAt, column, columnWord, words}
-use Rattle.vectors.specs.Held.{Tells, Held, expected}
+use Rattle.vectors.specs.Held.{Tells, FrontHeld}
+use Rattle.vectors.specs.passes.Room.{expected}
 use Rattle.vectors.proofs.TellsLaws.{denied, granted}
 
 -- ---- what is expected, case by case
@@ -77,7 +78,7 @@ answers-at want n sentinel room i h = by (ltb i n) refl
     by false e = let l : n ≤ i = ltb-false i n e in expected-past n want sentinel i _ l (written-past (tabulate want n) sentinel room i (omega (arith, new)) h)
 
 -- what is held has room for what was written
-pub held-room : {new got : List ℕ} {sentinel : ℕ} → Held new sentinel got → length new ≤ length got
+pub held-room : {new got : List ℕ} {sentinel : ℕ} → FrontHeld new sentinel got → length new ≤ length got
 held-room {new} {got} {sentinel} p =
     let e : take (length new) got ≡ new = ap (take (length new)) (p .all) ∙ front new (replicate (length got) sentinel) (length new) refl in
     omega (arith, length-take (length new) got, ap length e)
@@ -88,10 +89,10 @@ pub record Passed (n : ℕ) (want : ℕ → ℕ) (sentinel : ℕ) (got : List �
   pub each : (k : ℕ) → k < i → getD got k 0 ≡ expected n want sentinel k
 
 module _ (want : ℕ → ℕ) (n sentinel : ℕ) (got : List ℕ) where
-  pub too-short : length got < n → Tells false (Held (tabulate want n) sentinel got)
+  pub too-short : length got < n → Tells false (FrontHeld (tabulate want n) sentinel got)
   too-short h = denied (λ p. omega (arith, held-room p, length-tabulate want n))
 
-  pub differs : (i : ℕ) → i < length got → (getD got i 0 ≡ expected n want sentinel i → ⊥) → Tells false (Held (tabulate want n) sentinel got)
+  pub differs : (i : ℕ) → i < length got → (getD got i 0 ≡ expected n want sentinel i → ⊥) → Tells false (FrontHeld (tabulate want n) sentinel got)
   differs i h f = denied (λ p. f (ap (λ (xs : List ℕ). getD xs i 0) (p .all) ∙ answers-at want n sentinel (length got) i h))
 
 module _ {n sentinel : ℕ} {want : ℕ → ℕ} {got : List ℕ} where
@@ -101,7 +102,7 @@ module _ {n sentinel : ℕ} {want : ℕ → ℕ} {got : List ℕ} where
   pub one-passed : {i : ℕ} → Passed n want sentinel got i → getD got i 0 ≡ expected n want sentinel i → Passed n want sentinel got (i + 1)
   one-passed {i} p e = record { each = below-more (λ (k : ℕ). getD got k 0 ≡ expected n want sentinel k) i (p .each) e }
 
-  pub all-passed : {i : ℕ} → Passed n want sentinel got i → n ≤ length got → length got ≤ i → Tells true (Held (tabulate want n) sentinel got)
+  pub all-passed : {i : ℕ} → Passed n want sentinel got i → n ≤ length got → length got ≤ i → Tells true (FrontHeld (tabulate want n) sentinel got)
   all-passed p r h =
       let new : length (tabulate want n) ≡ n = length-tabulate want n in
       granted
@@ -113,8 +114,9 @@ module _ {n sentinel : ℕ} {want : ℕ → ℕ} {got : List ℕ} where
 
 -- ---- no column at all
 
-pub held-as : {new new′ : List ℕ} {sentinel : ℕ} {got : List ℕ} {r : Bool} → new ≡ new′ → Tells r (Held new sentinel got) → Tells r (Held new′ sentinel got)
-held-as {sentinel} {got} {r} e t = subst (λ (l : List ℕ). Tells r (Held l sentinel got)) e t
+pub held-as : {new new′ : List ℕ} {sentinel : ℕ} {got : List ℕ} {r : Bool} → new ≡ new′
+    → Tells r (FrontHeld new sentinel got) → Tells r (FrontHeld new′ sentinel got)
+held-as {sentinel} {got} {r} e t = subst (λ (l : List ℕ). Tells r (FrontHeld l sentinel got)) e t
 
 zeros-agree : (want : ℕ → ℕ) (n : ℕ) → ((i : ℕ) → want i ≡ 0) → tabulate want n ≡ replicate n 0
 zeros-agree want n z =

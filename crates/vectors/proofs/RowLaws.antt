@@ -8,7 +8,8 @@ use lib.ListN.{length, take, drop, take-append-drop, replicate}
 use lib.Seq.{take-length}
 use Rattle.lent.specs.Over.{over, part}
 use Rattle.lent.proofs.OverLaws.{front, drop-over, length-part, lent-part}
-use Rattle.vectors.specs.Held.{Tells, Held, BytesThere}
+use Rattle.vectors.specs.Held.{Tells, FrontHeld}
+use Rattle.vectors.specs.passes.Room.{mostPlaces, BytesThere}
 use Rattle.vectors.proofs.TellsLaws.{denied, tells-as}
 use Rattle.vectors.proofs.HeldLaws.{written-cut, held-room}
 
@@ -24,18 +25,18 @@ module _ (s got : List ℕ) (at n sentinel : ℕ) (x : BytesThere at n s got) wh
   long : length (part at n s) ≡ n
   long = length-part at n s (x .inside)
 
-  pub row-fits : length (take (at + n - at) (drop at s)) ≤ 16391
+  pub row-fits : length (take (at + n - at) (drop at s)) ≤ mostPlaces
   row-fits = omega (arith, x .few, ap length (lent-part at n s), long)
 
-  pub row-short : length got < n → Tells false (Held (part at n s) sentinel got)
+  pub row-short : length got < n → Tells false (FrontHeld (part at n s) sentinel got)
   row-short h = denied (λ p. omega (arith, held-room p, long))
 
   pub row-same : (want : List ℕ) {r : Bool} → n ≤ length got
-      → (let src : List ℕ = take (at + n - at) (drop at s) in want ≡ take (length src) src ++ drop (length src) (replicate 16391 sentinel))
-      → Tells r (got ≡ take (length got) want) → Tells r (Held (part at n s) sentinel got)
+      → (let src : List ℕ = take (at + n - at) (drop at s) in want ≡ take (length src) src ++ drop (length src) (replicate mostPlaces sentinel))
+      → Tells r (got ≡ take (length got) want) → Tells r (FrontHeld (part at n s) sentinel got)
   row-same want h w t =
       let src : List ℕ = take (at + n - at) (drop at s) in
       let e : take (length got) want ≡ over (part at n s) (replicate (length got) sentinel) =
-      ap (take (length got)) (w ∙ copied src (replicate 16391 sentinel) ∙ ap (λ (l : List ℕ). over l (replicate 16391 sentinel)) (lent-part at n s))
-      ∙ written-cut (part at n s) sentinel (length got) 16391 (omega (arith, long)) (x .most) in
+      ap (take (length got)) (w ∙ copied src (replicate mostPlaces sentinel) ∙ ap (λ (l : List ℕ). over l (replicate mostPlaces sentinel)) (lent-part at n s))
+      ∙ written-cut (part at n s) sentinel (length got) mostPlaces (omega (arith, long)) (x .most) in
       tells-as (λ p. record { all = p ∙ e }) (λ p. p .all ∙ sym e) t

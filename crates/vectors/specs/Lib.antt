@@ -4,3 +4,4 @@ pub mod Held
 pub mod Table
 pub mod Form
 pub mod Sentinel
+pub mod passes

@@ -1,10 +1,10 @@
 -- What slices are lent with, and what a call must leave in them.
 use mathlib.Core.List.{List, map}
-use Prim.Native.Nat.{ℕ, _+_, _*_, _≤_}
+use Prim.Native.Nat.{ℕ, _+_, _*_}
 use lib.ListN.{replicate}
 use lib.Ieee.{Float, binary64, toBits, ofBits}
 use Rattle.vectors.specs.Case.{column}
-use Rattle.vectors.specs.Held.{Held}
+use Rattle.vectors.specs.Held.{FrontHeld}
 
 -- ---- sentinels, which are no answers
 
@@ -20,23 +20,26 @@ byteSentinel = 190
 abbrev pub floatSentinel : Float
 floatSentinel = ofBits binary64 0xFE37_E43C_8800_759C
 
--- ---- what is lent and left
+-- ---- what is lent for n objects, with so many places to spare
 
--- 1.0, for what a call's answer does not look at
-abbrev pub one : Float
-one = ofBits binary64 0x3FF0_0000_0000_0000
+abbrev pub numbersLent : ℕ → ℕ → List ℕ
+numbersLent n spare = replicate (n + spare) numberSentinel
+
+abbrev pub floatsLent : ℕ → ℕ → List Float
+floatsLent n spare = replicate (n + spare) floatSentinel
+
+-- eight places for each object
+abbrev pub workLent : ℕ → ℕ → List ℕ
+workLent n spare = replicate (8 * n + spare) numberSentinel
+
+-- ---- what is left
 
 -- two columns of numbers, one right after the other; each has so many bytes
-pub record Columns (s : List ℕ) (at size width n : ℕ) (a b : List ℕ) : Type 0 where
-  pub first : Held (column s at width n) numberSentinel a
-  pub second : Held (column s (at + size) width n) numberSentinel b
+pub record ColumnsHeld (s : List ℕ) (at size width n : ℕ) (a b : List ℕ) : Type 0 where
+  pub first : FrontHeld (column s at width n) numberSentinel a
+  pub second : FrontHeld (column s (at + size) width n) numberSentinel b
 
 -- the work slices: 8n zeros and n times +0.0, and every place past them holds the sentinel
 pub record Cleared (n : ℕ) (work : List ℕ) (scratch : List Float) : Type 0 where
-  pub numbers : Held (replicate (8 * n) 0) numberSentinel work
-  pub floats : Held (replicate n 0) (toBits binary64 floatSentinel) (map (toBits binary64) scratch)
-
--- no more objects and no more places to spare than there is room for
-pub record Few (n spare : ℕ) : Type 0 where
-  pub objects : n ≤ 16384
-  pub places : spare ≤ 7
+  pub numbers : FrontHeld (replicate (8 * n) 0) numberSentinel work
+  pub floats : FrontHeld (replicate n 0) (toBits binary64 floatSentinel) (map (toBits binary64) scratch)

@@ -5,6 +5,7 @@ ghost use lib.ListN.{getD};
 ghost use lib.Ieee as Ieee;
 ghost use lib.Ieee.{binary64};
 ghost use Rattle.lent.specs.Slice.{lent};
+ghost use Rattle.grouping_chart.specs.Chart.{largest};
 ghost use Rattle.vectors.specs.Case.{pair, pairAt, columnSize, numberAt, quadAt, wordAt, headOf};
 
 // Which call, how many bytes a number of its columns has, how many objects, and how many bytes the body.
@@ -66,7 +67,7 @@ pub fn read_head(s: &[u8]) -> Head
 
 // How many bytes a column of n numbers has.
 pub fn column_size(n: usize, width: u8) -> usize
-    requires { ⌜ n ≤ 16384 ⌝ }
+    requires { ⌜ n ≤ largest ⌝ }
     ensures { λ r. ⌜ (r ≡ columnSize n width) × (r ≤ 2 * n) ⌝ }
 {
     if width == 1 { n } else { 2 * n }

@@ -10,8 +10,10 @@ ghost use lib.Ieee.{binary64};
 ghost use Rattle.lent.specs.Slice.{lent};
 ghost use Rattle.lent.specs.Over.{part};
 ghost use Rattle.vectors.specs.Case.{numberAt, column, columnWord, words};
-ghost use Rattle.vectors.specs.Held.{Tells, Held, BytesThere, expected};
+ghost use Rattle.vectors.specs.Held.{Tells, FrontHeld};
+ghost use Rattle.vectors.specs.passes.Room.{BytesThere, expected};
 use crate::case;
+use crate::sentinel::MOST_PLACES;
 
 // Whether both hold, each of them worked out before.
 pub fn both(a: bool, b: bool) -> bool
@@ -35,7 +37,7 @@ fn number_expected(s: &[u8], at: usize, width: u8, n: usize, sentinel: u16, i: u
 // Whether `got` holds the n numbers of the column that begins at a place, and then the sentinel.
 pub fn column_held(s: &[u8], at: usize, width: u8, n: usize, sentinel: u16, got: &[u16]) -> bool
     requires { ⌜ at + 2 * n < 2 ^ 32 ⌝ }
-    ensures { λ r. ⌜ Tells r (Held (column (lent s) at width n) sentinel (lent got)) ⌝ }
+    ensures { λ r. ⌜ Tells r (FrontHeld (column (lent s) at width n) sentinel (lent got)) ⌝ }
 {
     if got.len() < n {
         return false;
@@ -53,7 +55,7 @@ pub fn column_held(s: &[u8], at: usize, width: u8, n: usize, sentinel: u16, got:
 // Whether `got` holds n zeros, and then the sentinel.
 pub fn zeros_held(n: usize, sentinel: u16, got: &[u16]) -> bool
     requires { ⌜ 2 * n < 2 ^ 32 ⌝ }
-    ensures { λ r. ⌜ Tells r (Held (replicate n 0) sentinel (lent got)) ⌝ }
+    ensures { λ r. ⌜ Tells r (FrontHeld (replicate n 0) sentinel (lent got)) ⌝ }
 {
     column_held(b"", 0, 1, n, sentinel, got)
 }
@@ -61,13 +63,13 @@ pub fn zeros_held(n: usize, sentinel: u16, got: &[u16]) -> bool
 // Whether `got` holds the n bytes from a place on, and then the sentinel.
 pub fn bytes_held(s: &[u8], at: usize, n: usize, sentinel: u8, got: &[u8]) -> bool
     requires { ⌜ BytesThere at n (now s) (now got) ⌝ }
-    ensures { λ r. ⌜ Tells r (Held (part at n (lent s)) sentinel (lent got)) ⌝ }
+    ensures { λ r. ⌜ Tells r (FrontHeld (part at n (lent s)) sentinel (lent got)) ⌝ }
 {
     let room = got.len();
     if room < n {
         return false;
     }
-    let mut want = [sentinel; 16391];
+    let mut want = [sentinel; MOST_PLACES];
     bytes::copy(&s[at..at + n], &mut want);
     check::same(got, &want[..room])
 }
@@ -86,7 +88,7 @@ fn bits_expected(s: &[u8], at: usize, n: usize, sentinel: f64, i: usize) -> u64
 // Whether `got` holds the n floats from a place on, and then the sentinel, by their bits.
 pub fn floats_held(s: &[u8], at: usize, n: usize, sentinel: f64, got: &[f64]) -> bool
     requires { ⌜ at + 8 * n < 2 ^ 32 ⌝ }
-    ensures { λ r. ⌜ Tells r (Held (words (lent s) at n) (Ieee.toBits binary64 sentinel)
+    ensures { λ r. ⌜ Tells r (FrontHeld (words (lent s) at n) (Ieee.toBits binary64 sentinel)
         (map (Ieee.toBits binary64) (lent got))) ⌝ }
 {
     let room = got.len();
@@ -106,7 +108,7 @@ pub fn floats_held(s: &[u8], at: usize, n: usize, sentinel: f64, got: &[f64]) ->
 // Whether `got` holds n times +0.0, and then the sentinel, by their bits.
 pub fn zero_floats_held(n: usize, sentinel: f64, got: &[f64]) -> bool
     requires { ⌜ 8 * n < 2 ^ 32 ⌝ }
-    ensures { λ r. ⌜ Tells r (Held (replicate n 0) (Ieee.toBits binary64 sentinel)
+    ensures { λ r. ⌜ Tells r (FrontHeld (replicate n 0) (Ieee.toBits binary64 sentinel)
         (map (Ieee.toBits binary64) (lent got))) ⌝ }
 {
     floats_held(b"", 0, n, sentinel, got)

@@ -3,13 +3,15 @@ ghost use mathlib.Core.Path.{_≡_};
 ghost use Prim.Native.Nat.{_^_, _≤_, _<_};
 ghost use Rattle.lent.specs.Slice.{lent, left};
 ghost use Rattle.lent.specs.Over.{over};
-ghost use Rattle.vectors.specs.Table.{placeAt, entryAt, entries, EntryThere, EntriesRoom};
+ghost use Rattle.grouping_chart.specs.Chart.{largest};
+ghost use Rattle.vectors.specs.Table.{entryNumber, entryAt, entries};
+ghost use Rattle.vectors.specs.passes.Room.{EntryThere, EntriesRoom};
 use crate::case;
 
 // Which float of the table is meant at i: the one that number i of the column names, or the next where the width is 0.
-fn place_at(s: &[u8], column: usize, width: u8, i: usize) -> usize
-    requires { ⌜ (column < 2 ^ 31) × (i ≤ 16384) ⌝ }
-    ensures { λ r. ⌜ (r ≡ placeAt (lent s) column width i) × (r < 65536) ⌝ }
+fn entry_number(s: &[u8], column: usize, width: u8, i: usize) -> usize
+    requires { ⌜ (column < 2 ^ 31) × (i ≤ largest) ⌝ }
+    ensures { λ r. ⌜ (r ≡ entryNumber (lent s) column width i) × (r < 65536) ⌝ }
 {
     if width == 0 {
         return i;
@@ -22,7 +24,7 @@ fn entry_at(s: &[u8], table: usize, column: usize, width: u8, i: usize) -> f64
     requires { ⌜ EntryThere table column i ⌝ }
     ensures { λ r. ⌜ r ≡ entryAt (lent s) table column width i ⌝ }
 {
-    case::float_of(case::word_at(s, table + 8 * place_at(s, column, width, i)))
+    case::float_of(case::word_at(s, table + 8 * entry_number(s, column, width, i)))
 }
 
 // Reads n floats of the table that begins at a place: those that the column names or,

@@ -5,7 +5,7 @@ use std::fmt;
 use crate::chart::Chart;
 use crate::samples::Xorshift;
 
-/// Two charts whose last `tail` objects are alike in kind, delta and ratio.
+/// Two charts that end with the same kinds, deltas and ratios, for as many objects as `tail` says.
 pub struct Pair {
     pub charts: [Chart; 2],
     pub tail: usize,

@@ -16,7 +16,7 @@ fn tail_notes(pair: &Pair) -> Vec<usize> {
         .collect()
 }
 
-/// Of three neighbouring notes the first two are near in delta and the last two are not: the middle one.
+/// The notes whose delta is within the margin of that of the note before, and not of that of the note after.
 fn landmarks(pair: &Pair, notes: &[usize]) -> Vec<usize> {
     let chart = &pair.charts[0];
     let before = chart.size() - pair.tail;

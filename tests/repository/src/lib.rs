@@ -115,48 +115,93 @@ fn split(text: &str) -> impl Iterator<Item = &str> {
     text.split(|c: char| !is_inside(c))
 }
 
-/// Whether the file, or one of the folder, has the name as a word of its own.
-pub fn has_name(path: &Path, name: &str) -> bool {
-    if path.is_dir() {
-        let entries = fs::read_dir(path).into_iter().flatten().flatten();
-        return entries
-            .into_iter()
-            .any(|entry| has_name(&entry.path(), name));
-    }
-    let text = fs::read_to_string(path).unwrap_or_default();
-    let there = split(&text).any(|word| word == name);
-    there
+/// What may stand before a declaration.
+const MARKS: [&str; 5] = ["abbrev", "unfoldable", "pub", "extern", "\"C\""];
+
+/// What a declared name stands behind.
+const KEYWORDS: [&str; 11] = [
+    "record", "data", "mod", "fn", "struct", "enum", "const", "type", "trait", "static", "#define",
+];
+
+fn leading_name(word: &str) -> &str {
+    let end = word.find(|c: char| !is_inside(c)).unwrap_or(word.len());
+    &word[..end]
 }
 
-/// The words of a file or folder: what it is called, and what stands in it. What cargo makes is passed over, and these tests.
-fn gather(path: &Path, all: &mut BTreeSet<String>) {
-    let called = path.file_name().unwrap_or_default().to_string_lossy();
-    if called == "target" || called == "repository" {
-        return;
+/// The names that a text of antt, Rattle or Rust declares: behind a keyword, before a colon that has a space on either side, and the
+/// fields and variants of a struct or an enum.
+pub fn declared(text: &str) -> BTreeSet<&str> {
+    let mut names = BTreeSet::new();
+    let mut within = false;
+    let is_comment = |line: &&str| line.starts_with("--") || line.starts_with("//");
+    for line in text.lines().map(str::trim).filter(|line| !is_comment(line)) {
+        let marked = line.split_whitespace();
+        let words: Vec<&str> = marked.skip_while(|word| MARKS.contains(word)).collect();
+        let front = words.split(|word| *word == ":").next().unwrap_or(&[]);
+        match words[..] {
+            [keyword, name, ..] if KEYWORDS.contains(&keyword) => {
+                names.insert(leading_name(name));
+                within = ["struct", "enum"].contains(&keyword) && line.ends_with('{');
+            }
+            ["}"] => within = false,
+            [name, ..] if within => {
+                names.insert(leading_name(name));
+            }
+            ["let" | "in", ..] => {}
+            _ if front.len() < words.len()
+                && front.iter().all(|word| word.chars().all(is_inside)) =>
+            {
+                names.extend(front);
+            }
+            _ => {}
+        }
     }
-    all.extend(split(&called).map(str::to_string));
-    for entry in fs::read_dir(path).into_iter().flatten().flatten() {
-        gather(&entry.path(), all);
-    }
-    let text = fs::read_to_string(path).unwrap_or_default();
-    all.extend(split(&text).map(str::to_string));
+    names
 }
 
-/// Every word of the tree but for the documents'.
-pub fn tree_words() -> BTreeSet<String> {
-    let mut all = BTreeSet::new();
+/// The names that a text of antt defines: those that it declares at the start of a line, which are no fields or constructors, and are
+/// no names of files.
+pub fn defined(text: &str) -> BTreeSet<&str> {
+    let starts = [" ", "pub mod "];
+    let outer = text
+        .lines()
+        .filter(|line| !starts.iter().any(|start| line.starts_with(start)));
+    outer.flat_map(declared).collect()
+}
+
+/// Whether the file, or one of the folder, declares the name.
+pub fn declares(path: &Path, name: &str) -> bool {
+    let files = match path.is_dir() {
+        true => files_in(path),
+        false => vec![path.to_path_buf()],
+    };
+    files.iter().any(|file| {
+        let text = fs::read_to_string(file).unwrap_or_default();
+        declared(&text).contains(name)
+    })
+}
+
+/// What cargo makes, and these tests.
+fn is_passed_over(path: &str) -> bool {
+    path.contains("/target/") || path.starts_with("tests/repository/")
+}
+
+/// The names of the tree but for the documents': what its files are called, and what they declare.
+pub fn tree_names() -> BTreeSet<String> {
+    let mut all = BTreeSet::from(["KIT".to_string(), "NOTICE".to_string()]);
+    let root = root();
     for part in [
-        "crates",
-        "include",
-        "bindings",
-        "examples",
-        "tests",
-        "tools",
-        "crates.txt",
-        "NOTICE",
-        "test.sh",
+        "crates", "include", "bindings", "examples", "tests", "tools",
     ] {
-        gather(&root().join(part), &mut all);
+        for file in files_in(&root.join(part)) {
+            let path = file.strip_prefix(&root).expect("a path").to_string_lossy();
+            if is_passed_over(&path) {
+                continue;
+            }
+            all.extend(split(&path).map(str::to_string));
+            let text = fs::read_to_string(&file).unwrap_or_default();
+            all.extend(declared(&text).into_iter().map(str::to_string));
+        }
     }
     all
 }

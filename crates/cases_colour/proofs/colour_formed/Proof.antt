@@ -1,4 +1,4 @@
--- The definition, at the number of ratios that is read.
+-- The form is tested at the number of ratios that is read, which is the definition's.
 use native.Mathlib.Omega.{arith}
 use Rattle.cases_colour.proofs.ColourLaws.{form-told}
 use Rattle.cases_colour.proofs.colour_formed.Statement.{statement}

@@ -1,4 +1,4 @@
--- Case by case of the answer.
+-- Done is the one answer that accepts: a refusal is another variant.
 use native.Mathlib.Omega.{arith}
 use Rattle.vectors.proofs.TellsLaws.{granted}
 use Rattle.cases_colour.proofs.ColourLaws.{colour-refused}

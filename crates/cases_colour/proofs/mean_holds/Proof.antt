@@ -1,4 +1,4 @@
--- Case by case of the answer; the tenths first, then the bits of the mean.
+-- A refusal has no mean; tenths that differ deny the answer, and else the bits of the mean decide.
 use native.Mathlib.Omega.{arith}
 use borrow.Author.Needs.{needs}
 use Rattle.cases_colour.proofs.StretchLaws.{mean-told, tenths-differ, mean-refused}

@@ -1,9 +1,9 @@
--- Too many objects, a wrong form of the chart or of the stretch, or what the call tells.
+-- Too many objects or a wrong form of the chart or of the stretch deny the case, and any other holds where its answers do.
 use native.Mathlib.Omega.{arith}
 use Rattle.vectors.proofs.TellsLaws.{tells-both}
-use Rattle.vectors.proofs.FormLaws.{too-many}
+use Rattle.vectors.proofs.FormLaws.{too-many, ill-formed, well-formed}
 use Rattle.cases_colour.specs.Colour.{StretchHolds}
-use Rattle.cases_colour.proofs.ColourLaws.{form-room, stretch-ill, stretch-told}
+use Rattle.cases_colour.proofs.ColourLaws.{form-room}
 use Rattle.cases_colour.proofs.stretch_holds.Statement.{statement}
 use Rattle.cases_colour.proofs.stretch_holds.Tie as tie
 
@@ -19,18 +19,20 @@ call-holds-requires c κs =
     (whole .before .column-size .ensures .1) (f .0 (c .before .if2 .taken) .0)
 
 returns-2 : tie.Need-returns-2
+unfolding StretchHolds
 returns-2 c =
     let whole = c .before .before .before .before .before in
     let parts = c .before .before .before in
     let f = tells-both _ _ (parts .both .ensures) (whole .colour-formed .ensures) (parts .before .part-formed .ensures) in
-    stretch-told _ _ _ _ (whole .before .column-size .ensures .0) _ _ _ (c .before .read-stretch .ensures) (whole .before .before .if1 .left)
-    f (c .before .before .if2 .taken) (c .call-holds .ensures)
+    rw (← whole .before .column-size .ensures .0, ← c .before .read-stretch .ensures)
+    (well-formed (whole .before .before .if1 .left) f (c .before .before .if2 .taken) (c .call-holds .ensures))
 
 returns-3 : tie.Need-returns-3
+unfolding StretchHolds
 returns-3 c =
     let whole = c .before .before .before in
-    stretch-ill _ _ _ _ (whole .before .column-size .ensures .0) _ _
-    (tells-both _ _ (c .before .both .ensures) (whole .colour-formed .ensures) (c .before .before .part-formed .ensures)) (c .if2 .left)
+    let f = tells-both _ _ (c .before .both .ensures) (whole .colour-formed .ensures) (c .before .before .part-formed .ensures) in
+    rw (← whole .before .column-size .ensures .0) (ill-formed f (c .if2 .left))
 
 pub stretch-holds-spec : {M : Type 1} → statement M
 stretch-holds-spec =

@@ -2,6 +2,7 @@
 use Prim.Native.Nat.{_+_}
 use native.Mathlib.Omega.{arith}
 use Rattle.vectors.specs.Sentinel.{byteSentinel}
+use Rattle.vectors.specs.passes.Room.{mostPlaces}
 use Rattle.vectors.proofs.SentinelLaws.{front-counts, front-fits}
 use Rattle.cases_encode.proofs.EncodeLaws.{made-told}
 use Rattle.cases_encode.proofs.call_holds.Statement.{statement}
@@ -10,7 +11,7 @@ use Rattle.cases_encode.proofs.call_holds.Tie as tie
 lent-holds-requires : tie.Need-lent-holds-requires
 lent-holds-requires c κs =
     let entry = c .before .before .before .before .before .before .before .before .before .before .before in
-    let most = front-fits (entry .args .h .objects + entry .args .spare) 16391 byteSentinel in
+    let most = front-fits (entry .args .h .objects + entry .args .spare) mostPlaces byteSentinel in
     record { objects = entry .pre .few .objects; stored = entry .pre .stored; most = most }
 
 returns : tie.Need-returns

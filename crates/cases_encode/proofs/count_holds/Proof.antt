@@ -1,4 +1,4 @@
--- Case by case of the answer.
+-- An answer that accepts equals the stored one where the counts do, and a refusal never does.
 use native.Mathlib.Omega.{arith}
 use Rattle.cases_encode.proofs.EncodeLaws.{count-told, refused-told}
 use Rattle.cases_encode.proofs.count_holds.Statement.{statement}

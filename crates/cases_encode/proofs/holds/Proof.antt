@@ -1,8 +1,7 @@
--- Too many objects, a wrong form, or what the call tells.
+-- Too many objects or a wrong form deny the case, and any other case holds where its answers do.
 use native.Mathlib.Omega.{arith}
-use Rattle.vectors.proofs.FormLaws.{too-many}
+use Rattle.vectors.proofs.FormLaws.{too-many, ill-formed, well-formed}
 use Rattle.cases_encode.specs.Encode.{EncodeHolds}
-use Rattle.cases_encode.proofs.EncodeLaws.{case-ill, case-told}
 use Rattle.cases_encode.proofs.holds.Statement.{statement}
 use Rattle.cases_encode.proofs.holds.Tie as tie
 
@@ -19,12 +18,15 @@ call-holds-requires c κs =
     }
 
 returns-2 : tie.Need-returns-2
+unfolding EncodeHolds
 returns-2 c =
-    case-told _ _ _ _ (c .before .before .before .column-size .ensures .0) (c .before .before .before .before .if1 .left)
-    (c .before .before .formed .ensures) (c .before .if2 .taken) (c .call-holds .ensures)
+    let sized = c .before .before .before in
+    rw (← sized .column-size .ensures .0)
+    (well-formed (sized .before .if1 .left) (c .before .before .formed .ensures) (c .before .if2 .taken) (c .call-holds .ensures))
 
 returns-3 : tie.Need-returns-3
-returns-3 c = case-ill _ _ _ _ (c .before .before .column-size .ensures .0) (c .before .formed .ensures) (c .if2 .left)
+unfolding EncodeHolds
+returns-3 c = rw (← c .before .before .column-size .ensures .0) (ill-formed (c .before .formed .ensures) (c .if2 .left))
 
 pub holds-spec : {M : Type 1} → statement M
 holds-spec =

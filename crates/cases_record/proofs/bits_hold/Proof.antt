@@ -1,4 +1,4 @@
--- By what the readers ensure.
+-- Bits and word are the definition's, as their readers ensure, so the comparison tells the equation.
 use native.Mathlib.Omega.{arith}
 use Rattle.vectors.proofs.TellsLaws.{tells-eqb-as}
 use Rattle.cases_record.proofs.bits_hold.Statement.{statement}

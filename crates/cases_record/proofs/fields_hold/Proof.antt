@@ -1,4 +1,4 @@
--- Case by case of the answer.
+-- An answer that accepts is right where all its fields are, and a refusal has none.
 use native.Mathlib.Omega.{arith}
 use Rattle.cases_record.proofs.RecordLaws.{fields-told, fields-refused}
 use Rattle.cases_record.proofs.fields_hold.Statement.{statement}

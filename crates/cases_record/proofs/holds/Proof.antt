@@ -1,4 +1,4 @@
--- Too many objects, a wrong form of the chart or of the record, or what the call tells.
+-- Too many objects or a wrong form of the chart or of the record deny the case, and any other holds where its answers do.
 use native.Mathlib.Omega.{arith}
 use Rattle.vectors.proofs.FormLaws.{too-many, ill-formed, well-formed}
 use Rattle.vectors.proofs.TellsLaws.{tells-both}

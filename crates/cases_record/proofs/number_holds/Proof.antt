@@ -1,4 +1,4 @@
--- By what the reader ensures.
+-- The number that is read is the definition's, so the comparison tells the equation.
 use mathlib.Core.Path.{refl}
 use native.Mathlib.Omega.{arith}
 use Rattle.vectors.proofs.TellsLaws.{tells-eqb-as}

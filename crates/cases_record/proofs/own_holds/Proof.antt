@@ -1,4 +1,4 @@
--- Case by case of the own interval.
+-- Either variant is stored as a number and a word, and the code compares both with what that variant has.
 use native.Mathlib.Omega.{arith}
 use Rattle.cases_record.proofs.RecordLaws.{own-absent, own-millis}
 use Rattle.cases_record.proofs.own_holds.Statement.{statement}

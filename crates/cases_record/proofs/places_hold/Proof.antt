@@ -1,4 +1,4 @@
--- Each field is compared by itself.
+-- Each comparison tells the equation of its field, and `both` tells them together.
 use native.Mathlib.Omega.{arith}
 use Rattle.cases_record.proofs.RecordLaws.{places-told}
 use Rattle.cases_record.proofs.places_hold.Statement.{statement}

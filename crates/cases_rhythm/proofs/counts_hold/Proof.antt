@@ -1,4 +1,4 @@
--- Case by case of the answer.
+-- An answer that accepts equals the stored one where both counts do, and a refusal never does.
 use native.Mathlib.Omega.{arith}
 use Rattle.cases_rhythm.proofs.RhythmLaws.{counts-told, counts-refused}
 use Rattle.cases_rhythm.proofs.counts_hold.Statement.{statement}

@@ -1,4 +1,4 @@
--- Too many objects, a wrong form, or what the call tells.
+-- Too many objects or a wrong form deny the case, and any other case holds where its answers do.
 use native.Mathlib.Omega.{arith}
 use Rattle.vectors.proofs.FormLaws.{too-many, ill-formed, well-formed}
 use Rattle.cases_rhythm.specs.Rhythm.{RhythmHolds}

@@ -1,4 +1,4 @@
--- The definition.
+-- The form is tested at the size that the definition asks for.
 use native.Mathlib.Omega.{arith}
 use Rattle.cases_rhythm.specs.Rhythm.{RhythmForm}
 use Rattle.cases_rhythm.proofs.rhythm_formed.Statement.{statement}

@@ -1,4 +1,4 @@
--- Call by call.
+-- A case holds by the definition of its own call only, since each definition asks for its call's number.
 use native.Mathlib.Omega.{arith}
 use Rattle.replay_cases.proofs.CasesLaws.{of-encode, of-colour, of-rhythm}
 use Rattle.replay_cases.proofs.chart_holds.Statement.{statement}

@@ -1,4 +1,4 @@
--- The definition's cases.
+-- The code makes the definition's tests in the definition's order, so each return is the branch that is left.
 use native.Mathlib.Omega.{arith}
 use Rattle.replay_cases.proofs.CasesLaws.{own-follows, stretch-follows, record-follows, none-follows}
 use Rattle.replay_cases.proofs.follows.Statement.{statement}

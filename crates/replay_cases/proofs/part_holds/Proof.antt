@@ -1,4 +1,4 @@
--- Call by call.
+-- As for the cases with a chart: either definition asks for its call's number, so that only one can hold.
 use native.Mathlib.Omega.{arith}
 use Rattle.replay_cases.proofs.CasesLaws.{of-stretch, of-record}
 use Rattle.replay_cases.proofs.part_holds.Statement.{statement}

@@ -1,4 +1,4 @@
--- Case by case of what became of it.
+-- Each variant makes the fields that the definition has for it; a case was left, so that now fewer are.
 use native.Mathlib.Omega.{arith}
 use Rattle.replay_cases.proofs.CountLaws.{after-chart, after-part, after-broken, after-end}
 use Rattle.replay_cases.proofs.count.after.Statement.{statement}

@@ -1,4 +1,4 @@
--- The definition.
+-- The definition has the same five fields.
 use mathlib.Core.Path.{refl}
 use Rattle.replay_cases.specs.Count.{endedWith}
 use Rattle.replay_cases.proofs.count.ended.Statement.{statement}

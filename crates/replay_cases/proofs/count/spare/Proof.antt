@@ -1,4 +1,4 @@
--- The definition.
+-- The sum wraps as the definition's does, and what is left of a division by 8 is at most 7.
 use native.Mathlib.Omega.{arith}
 use Rattle.replay_cases.proofs.CountLaws.{spare-is}
 use Rattle.replay_cases.proofs.count.spare.Statement.{statement}

@@ -1,4 +1,4 @@
--- The definition.
+-- Every field is a constant, or what its maker ensures.
 use native.Mathlib.Omega.{arith}
 use Rattle.replay_cases.proofs.CountLaws.{start-is}
 use Rattle.replay_cases.proofs.count.start.Statement.{statement}

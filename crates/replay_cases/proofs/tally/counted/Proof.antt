@@ -1,4 +1,4 @@
--- By cases.
+-- Whether the case held picks the definition's branch, and the counts wrap as there.
 use native.Mathlib.Omega.{arith}
 use Rattle.replay_cases.proofs.TallyLaws.{counted-held, counted-differing}
 use Rattle.replay_cases.proofs.tally.counted.Statement.{statement}

@@ -1,4 +1,4 @@
--- By cases.
+-- The code branches at the definition's own test.
 use Rattle.replay_cases.proofs.TallyLaws.{this-first, that-first}
 use Rattle.replay_cases.proofs.tally.first_differing.Statement.{statement}
 use Rattle.replay_cases.proofs.tally.first_differing.Tie as tie

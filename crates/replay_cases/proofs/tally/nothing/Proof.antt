@@ -1,4 +1,4 @@
--- The definition.
+-- Each of the three fields is 0 on both sides.
 use mathlib.Core.Path.{refl}
 use Rattle.replay_cases.specs.Tally.{noCases}
 use Rattle.replay_cases.proofs.tally.nothing.Statement.{statement}

@@ -1,4 +1,4 @@
--- The definition's two cases.
+-- The code branches at the definition's own test, and neither n nor 2n is more than 2n.
 use borrow.Author.Needs.{needs}
 use Rattle.vectors.proofs.CaseLaws.{size-narrow, size-wide}
 use Rattle.vectors.proofs.case.column_size.Statement.{statement}

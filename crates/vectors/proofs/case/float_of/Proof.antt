@@ -12,8 +12,5 @@ returns c = a-nan _ (c .if1 .taken)
 float-from-bits-result : tie.Need-float-from-bits-result
 float-from-bits-result c = no-nan _ (c .if1 .left)
 
-returns-2 : tie.Need-returns-2
-returns-2 c = refl
-
 pub float-of-spec : {M : Type 1} → statement M
-float-of-spec = tie.close (tie.spec returns float-from-bits-result returns-2)
+float-of-spec = tie.close (tie.spec returns float-from-bits-result (λ c. refl))

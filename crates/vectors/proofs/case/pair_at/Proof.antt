@@ -1,4 +1,4 @@
--- What the callees ensure, put together.
+-- The bytes read are those at the definition's two places, so the number made of them is the definition's.
 use native.Mathlib.Omega.{arith}
 use Rattle.vectors.proofs.CaseLaws.{pair-is}
 use Rattle.vectors.proofs.case.pair_at.Statement.{statement}

@@ -1,4 +1,4 @@
--- Field by field.
+-- A test that fails denies the field that it is of; once three have passed, the last one tells the fourth field and so the whole.
 use native.Mathlib.Omega.{arith}
 use Rattle.vectors.proofs.TellsLaws.{denied, tells-as, tells-eqb}
 use Rattle.vectors.proofs.form.formed.Statement.{statement}

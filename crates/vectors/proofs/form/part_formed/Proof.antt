@@ -1,4 +1,4 @@
--- The form, and as many objects.
+-- Form and number of objects are told each by itself, so `both` tells the two together.
 use native.Mathlib.Omega.{arith}
 use Rattle.vectors.proofs.TellsLaws.{tells-as, tells-both, tells-eqb}
 use Rattle.vectors.proofs.form.part_formed.Statement.{statement}

@@ -1,4 +1,4 @@
--- The definition's two cases.
+-- The code branches at the definition's own test, and reads the word there or takes the sentinel's bits.
 use native.Mathlib.Omega.{arith}
 use Rattle.vectors.specs.Case.{columnWord}
 use Rattle.vectors.proofs.HeldLaws.{expected-front, expected-past}

@@ -27,17 +27,19 @@ loop-holds c = none-passed
 returns-2 : tie.Need-returns-2 Inv-loop μ-loop
 unfolding words
 returns-2 c =
-    let got = c .before .before .before .before .before .before .before .before .before .args .got .now in
-    let at = getD-map (toBits binary64) got _ _ 0 (c .before .before .before .before .loop-test .taken) in
+    let test = c .before .before .before .before in
+    let got = test .before .before .before .before .before .args .got .now in
+    let at = getD-map (toBits binary64) got _ _ 0 (test .loop-test .taken) in
     let e = length-map got (toBits binary64) in
     differs _ _ _ _ _ (omega arith)
     (λ q. c .if2 .taken (c .before .before .bits .ensures ∙ sym at ∙ q ∙ sym (c .before .bits-expected .ensures)))
 
 loop-again : tie.Need-loop-again Inv-loop μ-loop
 loop-again c =
-    let got = c .before .before .before .before .before .before .before .before .before .args .got .now in
-    let at = getD-map (toBits binary64) got _ _ 0 (c .before .before .before .before .loop-test .taken) in
-    one-passed (c .before .before .before .before .before .loop .inv)
+    let test = c .before .before .before .before in
+    let got = test .before .before .before .before .before .args .got .now in
+    let at = getD-map (toBits binary64) got _ _ 0 (test .loop-test .taken) in
+    one-passed (test .before .loop .inv)
     (at ∙ sym (c .before .before .bits .ensures) ∙ c .if2 .left ∙ c .before .bits-expected .ensures)
 
 returns-3 : tie.Need-returns-3 Inv-loop μ-loop

@@ -1,4 +1,4 @@
--- The definition's two cases.
+-- The code branches at the definition's own test, and reads the number there or takes the sentinel.
 use mathlib.Core.Path.{refl}
 use borrow.Author.Needs.{needs}
 use Rattle.vectors.proofs.HeldLaws.{expected-front, expected-past}

@@ -1,0 +1,3 @@
+-- What only the passes and their proofs need.
+pub mod Room
+pub mod Told
