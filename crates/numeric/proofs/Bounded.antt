@@ -16,7 +16,7 @@ use lib.Ieee.Exact.{HasValue}
 use lib.Ieee.Order.{round-mono}
 use lib.Ieee.Back.{round-whole}
 use lib.Ieee.Scale.{finite}
-use Rattle.numeric.proofs.Tests.{or-split}
+use mir.Facts.{or-yes}
 use Rattle.numeric.proofs.Values.{Number, at-most}
 use Rattle.numeric.proofs.Sign.{Signed, neg-round, round-signed}
 use Rattle.numeric.specs.Tenths.{InTenthsRange}
@@ -218,7 +218,7 @@ leq-plus a b c p t = let q = at-most (a * 1) b t in omega arith
 
 leq-minus : (a b c : ℕ) → b ≡ c → T (ltb (a * 1) b || (eqb b (a * 1) && true)) → a ≤ c
 leq-minus a b c p t =
-    elim (or-split (ltb (a * 1) b) (eqb b (a * 1) && true) t) [
+    elim (or-yes (ltb (a * 1) b) (eqb b (a * 1) && true) t) [
       | inl y ↦ let q = ltb→lt (a * 1) b y in omega arith
       | inr y ↦ let q = eqb→eq b (a * 1) (and-l (eqb b (a * 1)) true y) in omega arith
     ]

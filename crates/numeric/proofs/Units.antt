@@ -13,8 +13,9 @@ use lib.Pow.{pow-pos}
 use lib.Ieee.{fin, binary64, low, up, down, fits, le, below, level, round, sum, add}
 use lib.Ieee.Fits.{and-l, and-r, down-pos}
 use lib.Ieee.Scale.{round-same}
-use Rattle.numeric.proofs.Tests.{or-split, same-test}
-use Rattle.numeric.proofs.order.Rank.{ex, held, cross, lt-to, lt-from, eq-to}
+use mir.Facts.{or-yes}
+use Rattle.numeric.proofs.Tests.{same-test}
+use Rattle.numeric.proofs.order.Rank.{ex, in-format, cross, lt-to, lt-from, eq-to}
 
 abbrev pub L : ℕ
 L = 2 ^ low binary64
@@ -56,10 +57,10 @@ module _ (s : Bool) (m : ℕ) (e : ℤ) (t : Bool) (n : ℕ) (d : ℤ) (f : T (f
   P-pos = mul-pos (down-pos e) (down-pos d)
 
   at-a : a * L ≡ unitsOf m e * P
-  at-a = cross (low binary64) m e d (held s m e f .low-enough)
+  at-a = cross (low binary64) m e d (in-format s m e f .low-enough)
 
   at-b : b * L ≡ unitsOf n d * P
-  at-b = cross (low binary64) n d e (held t n d g .low-enough) ∙ ap (λ (z : ℕ). unitsOf n d * z) (mul-comm (down d) (down e))
+  at-b = cross (low binary64) n d e (in-format t n d g .low-enough) ∙ ap (λ (z : ℕ). unitsOf n d * z) (mul-comm (down d) (down e))
 
   abbrev u : ℕ
   u = unitsOf m e
@@ -117,13 +118,13 @@ module _ (s : Bool) (m : ℕ) (e : ℤ) (t : Bool) (n : ℕ) (d : ℤ) (f : T (f
       carry : (s t : Bool) (u v : ℕ) → (a < b → u < v) → (b < a → v < u) → (a ≡ b → u ≡ v) → (a ≡ 0 → u ≡ 0) → T (leq s a t b)
           → plus s u + minus t v ≤ plus t v + minus s u
       carry false false u v l g q z h =
-          let k : u ≤ v = elim (or-split (ltb a b) (eqb a b && true) h) [
+          let k : u ≤ v = elim (or-yes (ltb a b) (eqb a b && true) h) [
             | inl x ↦ le-of-lt (l (ltb→lt a b x))
             | inr x ↦ le-of-eq (q (eqb→eq a b (and-l (eqb a b) true x)))
           ] in
           omega arith
       carry true true u v l g q z h =
-          let k : v ≤ u = elim (or-split (ltb b a) (eqb a b && true) h) [
+          let k : v ≤ u = elim (or-yes (ltb b a) (eqb a b && true) h) [
             | inl x ↦ le-of-lt (g (ltb→lt b a x))
             | inr x ↦ le-of-eq (sym (q (eqb→eq a b (and-l (eqb a b) true x))))
           ] in

@@ -7,9 +7,10 @@ use lib.IntN.{ℤ, pos}
 use lib.Dec.{T, eqb, eqb→eq}
 use lib.Ieee.{Float, nan, inf, fin, binary64, up, down, lt, le, eq, div}
 use lib.Ieee.Fits.{and-l, and-r, and-i, eq→eqb}
+use mir.Facts.{or-yes}
 use Rattle.numeric.specs.Constants.{zero64, one64}
 use Rattle.numeric.specs.TotalOrder.{negative, totalOrder}
-use Rattle.numeric.proofs.Tests.{or-split, or-r}
+use Rattle.numeric.proofs.Tests.{or-r}
 use Rattle.numeric.proofs.Values.{not-zero, cross-pos, cross-zero}
 use lib.Ieee.Bits.{is-true}
 
@@ -75,7 +76,7 @@ signs (fin s zero e) (fin t n d) k z = absurd (true≢false (sym (is-true (eq (f
 signs (fin s (suc m) e) (fin t n d) k z =
     let a = suc m * up e * down d in
     let b = n * up d * down e in
-    elim (or-split (Bool·beq s t) (eqb a 0) (and-r (eqb a b) (Bool·beq s t || eqb a 0) (subst T (sym k) tt))) [
+    elim (or-yes (Bool·beq s t) (eqb a 0) (and-r (eqb a b) (Bool·beq s t || eqb a 0) (subst T (sym k) tt))) [
       | inl p ↦ same-sign s t p
       | inr q ↦ absurd (not-zero a (cross-pos m e d) (eqb→eq a 0 q))
     ]

@@ -12,8 +12,9 @@ use lib.Ieee.Fits.{and-l, and-r, round-fits}
 use lib.Ieee.Exact.{round-exact}
 use lib.Ieee.Back.{whole-unique}
 use lib.Ieee.Nearest.{closest}
-use borrow.Author.Tests.{ltb-false, le-ltb}
+use borrow.Author.Tests.{le-ltb}
 use Rattle.numeric.specs.RoundTiesEven.{wholeFloat, roundTiesEven}
+use Rattle.numeric.proofs.Values.{from-whole}
 
 closest-whole : (a : ℕ) → closest a 1 ≡ a
 closest-whole a = ap (λ (z : ℕ). nearest z (compare (a % 1 * 2) 1)) (div-one a) ∙ ap (λ (z : ℕ). nearest a (compare (z * 2) 1)) (mod-one a)
@@ -65,17 +66,13 @@ large s (suc m) (pos k) f h =
 large s (suc m) (negsuc k) f h =
     absurd (too-large (suc m) (2 ^ 52 * 2 ^ suc k) (digits-lt s m (negsuc k) f .0) (le-trans h (le-of-eq (mul-one (suc m)))) (doubled k))
 
-over : (a b : ℕ) → ltb a b ≡ false → b ≤ a
-over a b h = ltb-false a b h
-
 pub large-above : (x : Float) → T (fits binary64 x) → lt (fin false 0 (pos 0)) x ≡ true → lt x (fin false 1 (pos 52)) ≡ false → x ≡ roundTiesEven x
 unfolding lt
 large-above nan f h k = absurd (false≢true h)
 large-above (inf true) f h k = absurd (false≢true h)
 large-above (inf false) f h k = unfold roundTiesEven in refl
 large-above (fin true m e) f h k = absurd (false≢true h)
-large-above (fin false m e) f h k =
-    large false m e f (subst (λ (z : ℕ). 2 ^ 52 * down e ≤ z) (mul-one (m * up e)) (ltb-false (m * up e * 1) (1 * 2 ^ 52 * down e) k))
+large-above (fin false m e) f h k = large false m e f (from-whole (m * up e) (2 ^ 52) (down e) k)
 
 pub large-below : (x : Float) → T (fits binary64 x) → lt x (fin false 0 (pos 0)) ≡ true → lt (fin true 1 (pos 52)) x ≡ false → x ≡ roundTiesEven x
 unfolding lt
@@ -86,5 +83,4 @@ large-below (fin false m e) f h k = absurd (false≢true (sym (positive-not m e)
   where
     positive-not : (m : ℕ) (e : ℤ) → below false (m * up e * 1) false (0 * 1 * down e) ≡ false
     positive-not m e = le-ltb (m * up e * 1) (0 * 1 * down e) (le-trans (le-of-eq (zero-mul (down e))) zero-le)
-large-below (fin true m e) f h k =
-    large true m e f (subst (λ (z : ℕ). 2 ^ 52 * down e ≤ z) (mul-one (m * up e)) (ltb-false (m * up e * 1) (1 * 2 ^ 52 * down e) k))
+large-below (fin true m e) f h k = large true m e f (from-whole (m * up e) (2 ^ 52) (down e) k)

@@ -8,7 +8,7 @@ use native.Mathlib.Nat.{div-lt-iff-lt-mul, add-mul-div-right, add-mul-mod-self-r
 use native.Mathlib.Omega.{arith}
 use lib.IntN.{ℤ, pos}
 use lib.Dec.{T, ltb, ltb→lt, eqb→eq, lit<}
-use borrow.Author.Tests.{ltb-false}
+use borrow.Author.Tests.{ltb-true, ltb-false}
 use lib.Pow.{pow-add, pow-pos, pow-mono}
 use lib.Ieee.{Float, nan, inf, fin, binary64, low, up, down, size, nearest, units, round, neg, sum, add, sub, lt, fits}
 use lib.Ieee.Digits.{size-lt, size-le}
@@ -17,7 +17,7 @@ use lib.Ieee.Exact.{HasValue, units-val}
 use lib.Ieee.Nearest.{closest, closest-same}
 use lib.Ieee.Scale.{round-same}
 use Rattle.numeric.specs.RoundTiesEven.{wholeFloat, roundTiesEven}
-use Rattle.numeric.proofs.Values.{flat}
+use Rattle.numeric.proofs.Values.{flat, below-whole}
 use Rattle.numeric.proofs.Sign.{neg-round}
 
 abbrev W : ℕ
@@ -150,10 +150,7 @@ above nan h k = absurd h
 above (inf true) h k = absurd (false≢true k)
 above (inf false) h k = absurd h
 above (fin true m e) h k = absurd (false≢true k)
-above (fin false m e) h k = positive-arm m e (bound m e (ltb→lt (m * up e * 1) (1 * W * down e) h))
-  where
-    bound : (m : ℕ) (e : ℤ) → m * up e * 1 < 1 * W * down e → m * up e < W * down e
-    bound m e g = subst (λ (z : ℕ). z < W * down e) (mul-one (m * up e)) g
+above (fin false m e) h k = positive-arm m e (below-whole (m * up e) W (down e) h)
 
 pub below : (x : Float) → T (lt (fin true 1 (pos 52)) x) → lt x (fin false 0 (pos 0)) ≡ true
     → neg (sub binary64 (add binary64 (neg x) magic) magic) ≡ roundTiesEven x
@@ -161,18 +158,9 @@ unfolding lt roundTiesEven neg
 below nan h k = absurd h
 below (inf true) h k = absurd h
 below (inf false) h k = absurd (false≢true k)
-below (fin false m e) h k = absurd (never (m * up e * 1) (0 * 1 * down e) (zero-mul (down e)) (subst T (sym k) tt))
-  where
-    none : (a b : ℕ) → b ≡ 0 → a < b → ⊥
-    none a b p q = omega arith
-
-    never : (a b : ℕ) → b ≡ 0 → T (ltb a b) → ⊥
-    never a b p t = none a b p (ltb→lt a b t)
+below (fin false m e) h k = absurd (omega (arith, ltb-true (m * up e * 1) (0 * 1 * down e) k))
 below (fin true m e) h k =
-    ap neg (positive-arm m e (bound m e (ltb→lt (m * up e * 1) (1 * W * down e) h))) ∙ unfold wholeFloat in (neg-round (closest (m * up e) (down e)) 1)
-  where
-    bound : (m : ℕ) (e : ℤ) → m * up e * 1 < 1 * W * down e → m * up e < W * down e
-    bound m e g = subst (λ (z : ℕ). z < W * down e) (mul-one (m * up e)) g
+    ap neg (positive-arm m e (below-whole (m * up e) W (down e) h)) ∙ unfold wholeFloat in (neg-round (closest (m * up e) (down e)) 1)
 
 -- ---- a zero
 pos-case : (a b : ℕ) → b ≡ 0 → 0 < a → ltb b a ≡ false → ⊥

@@ -5,42 +5,40 @@ use Prim.Native.Nat.{ℕ, suc, _+_, _-_, _*_, _/_, _%_, _^_, _≤_, _<_}
 use native.Mathlib.Nat.{le-trans, le-of-eq, lt-of-lt-of-le, lt-of-le-of-lt, lt-of-not-le, lt-irrefl, mul-one, mul-assoc, mul-right-comm, mul-le-mul-right}
 use native.Mathlib.Nat.{mul-lt-mul-of-pos-right, lt-of-mul-lt-mul-right, eq-of-mul-eq-mul-right, le-add-right, mod-lt}
 use native.Mathlib.Omega.{arith}
-use lib.IntN.{ℤ, pos}
-use lib.Dec.{T, ltb, eqb, ltb→lt}
+use lib.IntN.{pos}
+use lib.Dec.{T, eqb}
 use lib.Pow.{pow-add, pow-pos, pow-mono}
 use lib.Ieee.{Float, nan, inf, fin, binary64, prec, low, up, down, odd, lt, fits, isNan, hid, ones, top, ofFields, ofBits, toBits}
 use lib.Ieee.Digits.{Equals, odd-val}
 use lib.Ieee.Bits.{ofBits-toBits}
 use lib.Ieee.Scale.{finite}
 use Rattle.numeric.specs.Tenths.{InTenthsRange, ScaledOf}
+use Rattle.numeric.proofs.Values.{below-whole}
 
 -- ---- between -2 ^ 53 and 2 ^ 53
-abbrev pub Within : Float → Type 0
-Within nan = ⊥
-Within (inf s) = ⊥
-Within (fin s m e) = m * up e < 2 ^ 53 * down e
+abbrev pub SizeBelow : Float → Type 0
+SizeBelow nan = ⊥
+SizeBelow (inf s) = ⊥
+SizeBelow (fin s m e) = m * up e < 2 ^ 53 * down e
 
-bound : (m : ℕ) (e : ℤ) → T (ltb (m * up e * 1) (1 * 2 ^ 53 * down e)) → m * up e < 2 ^ 53 * down e
-bound m e t = subst (λ (z : ℕ). z < 2 ^ 53 * down e) (mul-one (m * up e)) (ltb→lt (m * up e * 1) (1 * 2 ^ 53 * down e) t)
-
-between : (v : Float) → T (lt (fin true 1 (pos 53)) v) → T (lt v (fin false 1 (pos 53))) → Within v
+between : (v : Float) → T (lt (fin true 1 (pos 53)) v) → T (lt v (fin false 1 (pos 53))) → SizeBelow v
 unfolding lt
 between nan h k = absurd h
 between (inf true) h k = absurd h
 between (inf false) h k = absurd k
-between (fin true m e) h k = bound m e h
-between (fin false m e) h k = bound m e k
+between (fin true m e) h k = below-whole (m * up e) (2 ^ 53) (down e) h
+between (fin false m e) h k = below-whole (m * up e) (2 ^ 53) (down e) k
 
-pub range-within : (v : Float) → InTenthsRange v → Within v
+pub range-within : (v : Float) → InTenthsRange v → SizeBelow v
 range-within v r = between v (r .above) (r .below)
 
-pub no-nan : (v : Float) → Within v → T (not (isNan v))
+pub no-nan : (v : Float) → SizeBelow v → T (not (isNan v))
 unfolding isNan
 no-nan nan h = absurd h
 no-nan (inf s) h = tt
 no-nan (fin s m e) h = tt
 
-within-finite : (v : Float) → Within v → T (finite v)
+within-finite : (v : Float) → SizeBelow v → T (finite v)
 within-finite nan h = absurd h
 within-finite (inf s) h = absurd h
 within-finite (fin s m e) h = tt
@@ -90,7 +88,7 @@ value-high v f h k z =
 pow-lt-back : (i p : ℕ) → 2 ^ i < 2 ^ p → i < p
 pow-lt-back i p h = lt-of-not-le (λ (g : p ≤ i). lt-irrefl (2 ^ i) (lt-of-lt-of-le h (pow-mono g)))
 
-size-under : (v : Float) (n l : ℕ) → Within v → Equals v n (2 ^ l) → n < 2 ^ (53 + l)
+size-under : (v : Float) (n l : ℕ) → SizeBelow v → Equals v n (2 ^ l) → n < 2 ^ (53 + l)
 size-under nan n l h e = absurd h
 size-under (inf s) n l h e = absurd h
 size-under (fin s m x) n l h e =
@@ -129,7 +127,7 @@ few-low t h = omega arith
 few-high : (t : ℕ) → t < 2 ^ 52 → 2 ^ 52 + t < 2 ^ 53
 few-high t h = omega arith
 
-module _ (v : Float) (f : T (fits binary64 v)) (w : Within v) where
+module _ (v : Float) (f : T (fits binary64 v)) (w : SizeBelow v) where
   rest-lt : digitField v < 2 ^ 52
   rest-lt = mod-lt (toBits binary64 v) (pow-pos 52)
 
