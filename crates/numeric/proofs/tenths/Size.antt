@@ -12,7 +12,8 @@ use lib.Ieee.{Float, nan, inf, fin, binary64, prec, low, up, down, odd, lt, fits
 use lib.Ieee.Digits.{Equals, odd-val}
 use lib.Ieee.Bits.{ofBits-toBits}
 use lib.Ieee.Scale.{finite}
-use Rattle.numeric.specs.Tenths.{InTenthsRange, ScaledOf}
+use Rattle.numeric.specs.Tenths.{InTenthsRange}
+use Rattle.numeric.specs.passes.Tenths.{ScaledOf}
 use Rattle.numeric.proofs.Values.{below-whole}
 
 -- ---- between -2 ^ 53 and 2 ^ 53

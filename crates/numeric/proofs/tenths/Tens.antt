@@ -13,7 +13,8 @@ use lib.Ieee.Fits.{down-pos}
 use lib.Ieee.Nearest.{div-same}
 use lib.Ieee.Positive.{first-pos}
 use borrow.Author.Tests.{ltb-true, ltb-false}
-use Rattle.numeric.specs.Tenths.{ceiling, tenthsOf, ScaledOf}
+use Rattle.numeric.specs.Tenths.{ceiling, tenthsOf}
+use Rattle.numeric.specs.passes.Tenths.{ScaledOf}
 use Rattle.numeric.proofs.tenths.Size.{SizeBelow}
 
 -- ---- the ceiling: the smallest q with a ≤ q * b

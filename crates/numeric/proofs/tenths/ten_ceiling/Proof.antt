@@ -8,7 +8,8 @@ use lib.Dec.{lit<}
 use lib.Pow.{pow-pos}
 use mir.Syntax.{w64}
 use mir.Val.{Fits}
-use Rattle.numeric.specs.Tenths.{ceiling, CutTo}
+use Rattle.numeric.specs.Tenths.{ceiling}
+use Rattle.numeric.specs.passes.Tenths.{CutTo}
 use Rattle.numeric.proofs.tenths.Tens.{ten-lt, ceiling-zero, ceiling-one, unit-is, unit-le}
 use Rattle.numeric.proofs.tenths.ten_ceiling.Statement.{statement}
 use Rattle.numeric.proofs.tenths.ten_ceiling.Tie as tie
