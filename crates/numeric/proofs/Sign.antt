@@ -48,13 +48,13 @@ or-zero a b s t h =
     and-i (eqb b a) (Bool·beq (not t) (not s) || eqb b 0) (eq→eqb (sym e))
     (elim (or-yes (Bool·beq s t) (eqb a 0) (and-r (eqb a b) (Bool·beq s t || eqb a 0) h)) [
       | inl x ↦ or-l (Bool·beq (not t) (not s)) (eqb b 0) (subst T (beq-sym s t) x)
-      | inr x ↦ or-r (Bool·beq (not t) (not s)) (eqb b 0) (subst (λ (z : ℕ). T (eqb z 0)) e x)
+      | inr x ↦ or-r (Bool·beq (not t) (not s)) (eqb b 0) (rw e at x)
     ])
 
 below-flip : (s : Bool) (a : ℕ) (t : Bool) (b : ℕ) → T (below s a t b) → T (below (not t) b (not s) a)
 below-flip false a false b h = h
 below-flip false a true b h = absurd h
-below-flip true a false b h = subst (λ (z : ℕ). T (ltb 0 z)) (add-comm a b) h
+below-flip true a false b h = rw (add-comm b a) h
 below-flip true a true b h = h
 
 pub le-neg : (x y : Float) → T (le x y) → T (le (neg y) (neg x))
@@ -102,7 +102,7 @@ pub round-signed : (s : Bool) (a b : ℕ) → Signed (round binary64 s a b) s
 round-signed s a b =
     let n = a * 2 ^ low binary64 in
     let k = size (n / b) - prec binary64 in
-    subst (λ (z : Float). Signed z s) (sym (round-is binary64 s a b)) (units-signed s (closest n (b * 2 ^ k)) k)
+    rw (round-is binary64 s a b) (units-signed s (closest n (b * 2 ^ k)) k)
 
 pub across : (x y : Float) → Signed x true → Signed y false → T (le x y)
 unfolding le

@@ -1,5 +1,5 @@
 -- What fitting the format says of a value's digits and exponent, and when a value is zero.
-use mathlib.Core.Path.{_≡_, refl, sym, ap, _∙_}
+use mathlib.Core.Path.{_≡_, refl, sym, _∙_}
 use mathlib.Core.Logic.{inl, inr}
 use mathlib.Core.Bool.{true, false, not, _&&_, _||_}
 use Prim.Native.Nat.{ℕ, zero, suc, _*_, _^_, _≤_, _<_}
@@ -28,7 +28,7 @@ pub cross-pos : (m : ℕ) (e d : ℤ) → 0 < suc m * up e * down d
 cross-pos m e d = mul-pos (mul-pos (zero-lt-suc m) (up-pos e)) (down-pos d)
 
 pub cross-zero : (e d : ℤ) → 0 * up e * down d ≡ 0
-cross-zero e d = ap (λ (z : ℕ). z * down d) (zero-mul (up e)) ∙ zero-mul (down d)
+cross-zero e d = rw (zero-mul (up e), zero-mul (down d))
 
 two-up : (p : ℕ) → 0 < p → 2 * p ≡ 1 → ⊥
 two-up p h e = omega arith

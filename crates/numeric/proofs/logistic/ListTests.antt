@@ -1,6 +1,6 @@
 -- Tests of all elements of a list, or of each two neighbours, computed once over the whole list, and what they say at each place.
 -- And the value of a list that is mapped, at a place within it.
-use mathlib.Core.Path.{_≡_, refl, sym, _∙_, subst}
+use mathlib.Core.Path.{_≡_, refl}
 use mathlib.Core.Bool.{Bool, true, _&&_}
 use mathlib.Core.List.{List, [], _∷_, map}
 use Prim.Native.Nat.{ℕ, zero, suc, _+_, _<_}
@@ -18,7 +18,7 @@ every-at : (f : ℕ → ℕ → Bool) (xs : List ℕ) (i : ℕ) → T (every f i
 every-at f [] i t k h = absurd (not-suc-le-zero h)
 every-at f (x ∷ xs) i t zero h = rw add-zero (and-l (f i x) (every f (suc i) xs) t)
 every-at f (x ∷ xs) i t (suc k) h =
-    subst (λ (m : ℕ). T (f m (getD xs k 0))) (suc-add i k ∙ sym (add-suc i k))
+    rw (add-suc i k, ← suc-add i k)
     (every-at f xs (suc i) (and-r (f i x) (every f (suc i) xs) t) k (le-of-suc-le-suc h))
 
 pub every-here : (f : ℕ → ℕ → Bool) (xs : List ℕ) → T (every f 0 xs) → (k : ℕ) → k < length xs → T (f k (getD xs k 0))

@@ -1,7 +1,7 @@
--- The four answers of `total_order`.
-use mathlib.Core.Path.{_≡_, refl, sym, ap, _∙_, subst}
+-- The four answers of `total_order`: of two values that are equal and no zeros the signs are equal too, and of two zeros 1 ÷ x tells the signs apart.
+use mathlib.Core.Path.{_≡_, refl, sym, _∙_, subst}
 use mathlib.Core.Logic.{inl, inr}
-use mathlib.Core.Bool.{Bool, true, false, not, _&&_, _||_, Bool·beq, true≢false, false≢true}
+use mathlib.Core.Bool.{Bool, true, false, not, _||_, Bool·beq, true≢false, false≢true}
 use Prim.Native.Nat.{zero, suc, _*_}
 use lib.IntN.{ℤ, pos}
 use lib.Dec.{T, eqb, eqb→eq}
@@ -17,15 +17,15 @@ use lib.Ieee.Bits.{is-true}
 -- ---- the arms
 pub less : (x y : Float) → lt x y ≡ true → true ≡ totalOrder x y
 unfolding totalOrder
-less x y h = sym (ap (λ (b : Bool). b || (eq x y && (negative x || not (negative y)))) h)
+less x y h = rw h
 
 pub neither : (x y : Float) → lt x y ≡ false → eq x y ≡ false → false ≡ totalOrder x y
 unfolding totalOrder
-neither x y h k = sym (ap (λ (b : Bool). b || (eq x y && (negative x || not (negative y)))) h ∙ ap (λ (b : Bool). b && (negative x || not (negative y))) k)
+neither x y h k = rw (h, k)
 
 equal : (x y : Float) → lt x y ≡ false → eq x y ≡ true → totalOrder x y ≡ (negative x || not (negative y))
 unfolding totalOrder
-equal x y h k = ap (λ (b : Bool). b || (eq x y && (negative x || not (negative y)))) h ∙ ap (λ (b : Bool). b && (negative x || not (negative y))) k
+equal x y h k = rw (h, k)
 
 recip : (s t : Bool) (e d : ℤ) → le (div binary64 one64 (fin s 0 e)) (div binary64 one64 (fin t 0 d)) ≡ (s || not t)
 unfolding le div

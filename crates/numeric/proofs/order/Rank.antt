@@ -1,7 +1,7 @@
 -- A natural number for each finite value that fits, in the total order: `key`.
 -- A value that is not negative has `mid` plus its size in units of the smallest value, and a negative one lies as far below.
 -- `keyed`: totalOrder x y is the test key x ≤ key y. `key-inj`: two values with one key are one value.
-use mathlib.Core.Path.{_≡_, refl, sym, ap, _∙_, subst}
+use mathlib.Core.Path.{_≡_, refl, sym, ap, _∙_}
 use mathlib.Core.Logic.{inl, inr}
 use mathlib.Core.Bool.{Bool, true, false, not, _&&_, _||_}
 use Prim.Native.Nat.{ℕ, zero, suc, _+_, _-_, _*_, _%_, _^_, _≤_, _<_, zero-le}
@@ -30,11 +30,8 @@ pub pow-le-back : (a l : ℕ) → 2 ^ a ≤ 2 ^ l → a ≤ l
 pow-le-back a l h = le-of-suc-le-suc (lt-of-not-le (λ (g : suc l ≤ a). lt-irrefl (2 ^ l) (lt-of-lt-of-le (pow-lt g) h)))
 
 pub ex-val : (l m : ℕ) (e : ℤ) → down e ≤ 2 ^ l → m * 2 ^ ex l e * down e ≡ m * up e * 2 ^ l
-ex-val l m (pos k) h = mul-one (m * 2 ^ (k + l)) ∙ ap (λ (z : ℕ). m * z) (pow-add 2 k l) ∙ sym (mul-assoc m (2 ^ k) (2 ^ l))
-ex-val l m (negsuc k) h =
-    mul-assoc m (2 ^ (l - suc k)) (2 ^ suc k)
-    ∙ ap (λ (z : ℕ). m * z) (sym (pow-add 2 (l - suc k) (suc k)) ∙ ap (λ (z : ℕ). 2 ^ z) (back l (suc k) (pow-le-back (suc k) l h)))
-    ∙ ap (λ (z : ℕ). z * 2 ^ l) (sym (mul-one m))
+ex-val l m (pos k) h = rw (mul-one, pow-add, mul-assoc)
+ex-val l m (negsuc k) h = rw (mul-one, mul-assoc, ← pow-add 2 (l - suc k) (suc k), back l (suc k) (pow-le-back (suc k) l h))
 
 apart-ex : (k j l : ℕ) → suc j ≤ l → k + l ≡ l - suc j → ⊥
 apart-ex k j l h e = omega arith
@@ -61,14 +58,13 @@ suc-not-zero m h = omega arith
 under-top : (m : ℕ) (e : ℤ) (t l : ℕ) → down e ≤ 2 ^ l → m * up e < t * down e → m * 2 ^ ex l e < t * 2 ^ l
 under-top m e t l h g =
     lt-of-mul-lt-mul-right (down e)
-    (subst (λ (z : ℕ). z < t * 2 ^ l * down e) (sym (ex-val l m e h))
-    (subst (λ (z : ℕ). m * up e * 2 ^ l < z) (mul-right-comm t (down e) (2 ^ l)) (mul-lt-mul-of-pos-right g (pow-pos l))))
+    (rw (ex-val l m e h, mul-right-comm t (2 ^ l) (down e)) (mul-lt-mul-of-pos-right g (pow-pos l)))
 
 pub in-format : (s : Bool) (m : ℕ) (e : ℤ) → T (fits binary64 (fin s m e)) → InFormat m e
 unfolding fits
 in-format s zero e t =
     let p : e ≡ pos 0 = flat e (eqb→eq (up e * down e) 1 t) in
-    subst (λ (z : ℤ). InFormat zero z) (sym p)
+    rw p
     record {
       short = pow-pos (prec binary64);
       low-enough = pow-pos (low binary64);
@@ -92,19 +88,19 @@ in-format s (suc m) e t =
 -- ---- the comparison's products are in the order of the sizes in units
 module _ (a b u v L P : ℕ) (p : a * L ≡ u * P) (q : b * L ≡ v * P) (hL : 0 < L) (hP : 0 < P) where
   pub lt-to : a < b → u < v
-  lt-to h = lt-of-mul-lt-mul-right P (subst (λ (z : ℕ). z < v * P) p (subst (λ (z : ℕ). a * L < z) q (mul-lt-mul-of-pos-right h hL)))
+  lt-to h = lt-of-mul-lt-mul-right P (rw (p, q) at (mul-lt-mul-of-pos-right h hL))
 
   pub lt-from : u < v → a < b
-  lt-from h = lt-of-mul-lt-mul-right L (subst (λ (z : ℕ). z < b * L) (sym p) (subst (λ (z : ℕ). u * P < z) (sym q) (mul-lt-mul-of-pos-right h hP)))
+  lt-from h = lt-of-mul-lt-mul-right L (rw (p, q) (mul-lt-mul-of-pos-right h hP))
 
   pub eq-to : a ≡ b → u ≡ v
-  eq-to h = eq-of-mul-eq-mul-right P hP u v (sym p ∙ ap (λ (z : ℕ). z * L) h ∙ q)
+  eq-to h = eq-of-mul-eq-mul-right P hP u v (cc)
 
   pub eq-from : u ≡ v → a ≡ b
-  eq-from h = eq-of-mul-eq-mul-right L hL a b (p ∙ ap (λ (z : ℕ). z * P) h ∙ sym q)
+  eq-from h = eq-of-mul-eq-mul-right L hL a b (cc)
 
 pub cross : (l m : ℕ) (e d : ℤ) → down e ≤ 2 ^ l → m * up e * down d * 2 ^ l ≡ m * 2 ^ ex l e * (down e * down d)
-cross l m e d h = mul-right-comm (m * up e) (down d) (2 ^ l) ∙ ap (λ (z : ℕ). z * down d) (sym (ex-val l m e h)) ∙ mul-assoc (m * 2 ^ ex l e) (down e) (down d)
+cross l m e d h = rw (mul-right-comm (m * up e) (down d) (2 ^ l), ← ex-val l m e h, mul-assoc (m * 2 ^ ex l e) (down e) (down d))
 
 -- ---- the key of a sign and a size below c
 abbrev pub signed : ℕ → Bool → ℕ → ℕ
@@ -215,7 +211,7 @@ keyed (fin s m e) (fin t n d) p q f g =
     let v = n * 2 ^ ex l d in
     let P = down e * down d in
     let pa : a * 2 ^ l ≡ u * P = cross l m e d (hx .low-enough) in
-    let pb : b * 2 ^ l ≡ v * P = cross l n d e (hy .low-enough) ∙ ap (λ (z : ℕ). v * z) (mul-comm (down d) (down e)) in
+    let pb : b * 2 ^ l ≡ v * P = rw (mul-comm (down e) (down d)) (cross l n d e (hy .low-enough)) in
     let hL : 0 < 2 ^ l = pow-pos l in
     let hP : 0 < P = mul-pos (down-pos e) (down-pos d) in
     opened s m e t n d
@@ -229,15 +225,15 @@ even-odd m t o h = omega arith
 
 odd-pow : (m n a b : ℕ) → m % 2 ≡ 1 → n % 2 ≡ 1 → m * 2 ^ a ≡ n * 2 ^ b → (m ≡ n) × (a ≡ b)
 odd-pow m n zero zero o p h = (sym (mul-one m) ∙ h ∙ mul-one n, refl)
-odd-pow m n zero (suc b) o p h = absurd (even-odd m (n * 2 ^ b) o (sym (mul-one m) ∙ h ∙ ap (λ (x : ℕ). n * x) (pow-succ' 2 b) ∙ mul-left-comm n 2 (2 ^ b)))
-odd-pow m n (suc a) zero o p h = absurd (even-odd n (m * 2 ^ a) p (sym (mul-one n) ∙ sym h ∙ ap (λ (x : ℕ). m * x) (pow-succ' 2 a) ∙ mul-left-comm m 2 (2 ^ a)))
+odd-pow m n zero (suc b) o p h = absurd (even-odd m (n * 2 ^ b) o (sym (mul-one m) ∙ h ∙ rw (pow-succ' 2 b, mul-left-comm n 2 (2 ^ b))))
+odd-pow m n (suc a) zero o p h = absurd (even-odd n (m * 2 ^ a) p (sym (mul-one n) ∙ sym h ∙ rw (pow-succ' 2 a, mul-left-comm m 2 (2 ^ a))))
 odd-pow m n (suc a) (suc b) o p h =
     let r = odd-pow m n a b o p (eq-of-mul-eq-mul-right 2 (zero-lt-suc 1) (m * 2 ^ a) (n * 2 ^ b)
-    (mul-assoc m (2 ^ a) 2 ∙ ap (λ (x : ℕ). m * x) (sym (pow-suc 2 a)) ∙ h ∙ ap (λ (x : ℕ). n * x) (pow-suc 2 b) ∙ sym (mul-assoc n (2 ^ b) 2))) in
+    (rw (mul-assoc m (2 ^ a) 2, mul-assoc n (2 ^ b) 2, ← pow-suc 2 a, ← pow-suc 2 b) h)) in
     (r .0, ap suc (r .1))
 
 not-zero : (m a : ℕ) → suc m * 2 ^ a ≡ 0 → ⊥
-not-zero m a h = lt-irrefl 0 (subst (λ (x : ℕ). 0 < x) h (mul-pos (zero-lt-suc m) (pow-pos a)))
+not-zero m a h = lt-irrefl 0 (rw h at (mul-pos (zero-lt-suc m) (pow-pos a)))
 
 pub size-inj : (m : ℕ) (e : ℤ) (n : ℕ) (d : ℤ) → InFormat m e → InFormat n d → m * 2 ^ ex (low binary64) e ≡ n * 2 ^ ex (low binary64) d → (m ≡ n) × (e ≡ d)
 size-inj zero e zero d h k p = (refl, h .one-way .0 refl ∙ sym (k .one-way .0 refl))

@@ -3,7 +3,7 @@ use mathlib.Core.Path.{ap, _∙_}
 use Prim.Native.Nat.{ℕ, _^_, _<_}
 use native.Mathlib.Omega.{arith}
 use borrow.Author.Needs.{needs}
-use lib.IntN.{pos, negℤ}
+use lib.IntN.{pos}
 use lib.Ieee.{ofBits}
 use mir.Syntax.{w64}
 use mir.ValLaws.{toZ-pos}
@@ -27,9 +27,9 @@ returns c =
     let x = start .args .x in
     let q = c .ten-ceiling .result in
     minus-is q (room q (c .ten-ceiling .ensures .small))
-    ∙ ap (λ (z : ℕ). negℤ (pos z)) (c .ten-ceiling .ensures .equal)
-    ∙ up-case x (c .before .before .size-of .result .digits) (c .before .before .size-of .result .shift) (range-within x (start .pre))
-    (c .before .before .size-of .ensures) (c .before .if1 .taken)
+    ∙ rw (c .ten-ceiling .ensures .equal)
+    (up-case x (c .before .before .size-of .result .digits) (c .before .before .size-of .result .shift) (range-within x (start .pre))
+    (c .before .before .size-of .ensures) (c .before .if1 .taken))
 
 returns-2 : tie.Need-returns-2
 unfolding ofBits
