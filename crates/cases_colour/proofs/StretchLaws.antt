@@ -2,20 +2,20 @@
 use mathlib.Core.Path.{_≡_, sym, ap, subst, _∙_}
 use mathlib.Core.Bool.{false}
 use mathlib.Core.List.{List}
-use Prim.Native.Nat.{ℕ, zero, suc, _-_, _^_, _≤_, _<_}
+use Prim.Native.Nat.{ℕ, _-_, _^_, _≤_, _<_}
 use native.Mathlib.Nat.{lt-of-lt-of-le}
 use native.Mathlib.Omega.{arith}
 use borrow.Author.Needs.{sfits-of}
 use borrow.Author.Tests.{lt-ltb, le-ltb}
 use lib.Dec.{lit≤, eqb}
-use lib.IntN.{ℤ, pos, negℤ, _-ℤ_, +ℤ-idl}
+use lib.IntN.{ℤ, pos, _-ℤ_}
 use lib.Ieee.{Float, binary64, toBits}
-use lib.Pow.{pow-pos}
 use lib.Signed.{mag}
 use mir.Facts.{toZ-ofZ}
 use mir.Syntax.{w64}
-use mir.Val.{SFits, toZ, ofZ}
+use mir.Val.{toZ, ofZ}
 use mir.ValLaws.{toZ-pos}
+use Rattle.numeric.proofs.Minus.{minus-is}
 use Rattle.grouping_chart.specs.declared.object.ObjectIndex.{ObjectIndex}
 use Rattle.call_colour.specs.declared.Stretching.{Stretching}
 use Rattle.call_colour.specs.declared.Stretching.the-variants.{Done, Refused}
@@ -27,19 +27,6 @@ use Rattle.cases_colour.specs.declared.StoredStretch.{StoredStretch}
 
 -- ---- a number with a sign
 
-minus-fits : (q : ℕ) → q < 2 ^ 33 → SFits w64 (negℤ (pos q))
-minus-fits zero h = record { sfits = pow-pos 63 }
-minus-fits (suc q) h = record { sfits = room q h }
-  where
-    room : (q : ℕ) → suc q < 2 ^ 33 → q < 2 ^ 63
-    room q h = omega arith
-
-minus-is : (q : ℕ) → q < 2 ^ 33 → pos 0 -ℤ toZ w64 q ≡ negℤ (pos q)
-minus-is q h = ap (λ (z : ℤ). pos 0 -ℤ z) (toZ-pos w64 q (lt-of-lt-of-le h (lit≤ tt))) ∙ +ℤ-idl (negℤ (pos q))
-
-pub minus-room : (q : ℕ) → q < 2 ^ 33 → SFits w64 (pos 0 -ℤ toZ w64 q)
-minus-room q h = subst (SFits w64) (sym (minus-is q h)) (minus-fits q h)
-
 pub signed-low : (x : ℕ) → x < 2147483648 → toZ w64 x ≡ signedOf x
 unfolding signedOf
 signed-low x h = toZ-pos w64 x (lt-of-lt-of-le h (lit≤ tt)) ∙ rw (lt-ltb x 2147483648 h)
@@ -47,8 +34,8 @@ signed-low x h = toZ-pos w64 x (lt-of-lt-of-le h (lit≤ tt)) ∙ rw (lt-ltb x 2
 pub signed-high : (x : ℕ) → 2147483648 ≤ x → toZ w64 (ofZ w64 (pos 0 -ℤ toZ w64 (4294967296 - x))) ≡ signedOf x
 unfolding signedOf
 signed-high x h =
-    let q : 4294967296 - x < 2 ^ 33 = omega arith in
-    toZ-ofZ (minus-room (4294967296 - x) q) ∙ minus-is (4294967296 - x) q ∙ rw (le-ltb x 2147483648 h)
+    let q : 4294967296 - x < 2 ^ 63 = omega arith in
+    minus-is (4294967296 - x) q ∙ rw (le-ltb x 2147483648 h)
 
 -- ---- what is stored
 

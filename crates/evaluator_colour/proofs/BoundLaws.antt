@@ -13,7 +13,7 @@ use Rattle.numeric.specs.Logistic.{logisticAt}
 use Rattle.numeric.specs.Near.{isNear}
 use Rattle.numeric.specs.Range.{leastRatio, greatestRatio}
 use Rattle.numeric.proofs.ConstantLaws.{eight-tenths-bounded}
-use Rattle.numeric.proofs.Bounded.{Bounded, bounded-more, round-bounded, add-bounded, sub-bounded, mul-bounded, div-bounded}
+use Rattle.numeric.proofs.Bounded.{Bounded, bounded-more, round-bounded, cond-bounded, add-bounded, sub-bounded, mul-bounded, div-bounded}
 use Rattle.numeric.proofs.logistic.Bounds.{logistic-bounded, rest-bounded}
 use Rattle.evaluator_colour.specs.declared.Standing.{Standing}
 use Rattle.evaluator_colour.specs.Formulas.{hitValue, altValue, monoValue, addIf, objectSum}
@@ -76,10 +76,6 @@ lowered-bounded r lo hi =
     (div-bounded r two64 (2 ^ 24) 1 (leb→le (2 ^ 24) (2 ^ 53) tt) (ratio-bounded r lo hi) (leb→le 1 2 tt))
     eight-tenths-bounded)
 
-either : (b : Bool) (x y : Float) (B : ℕ) → Bounded x B → Bounded y B → Bounded (cond b x y) B
-either true x y B h g = h
-either false x y B h g = g
-
 module _ (tolerance : Float) (idx : ℕ) (c p : Float) (c-lo : T (le leastRatio c)) (c-hi : T (le c greatestRatio)) (p-lo : T (le leastRatio p))
     (p-hi : T (le p greatestRatio)) where
   pub penalty-bounded : Bounded (ratioPenalty tolerance idx c p) (2 ^ 24 + 1)
@@ -89,9 +85,9 @@ module _ (tolerance : Float) (idx : ℕ) (c p : Float) (c-lo : T (le leastRatio 
       let u : Bounded one64 B = leb→le 1 B tt in
       let last = cond (ltb idx 4) one64 (lowered p) in
       let near = cond (isNear tolerance one64 (div binary64 c p)) (lowered c) last in
-      either (ltb idx 2) one64 near B u
-      (either (isNear tolerance one64 (div binary64 c p)) (lowered c) last B (lowered-bounded c c-lo c-hi)
-      (either (ltb idx 4) one64 (lowered p) B u (lowered-bounded p p-lo p-hi)))
+      cond-bounded (ltb idx 2) one64 near B u
+      (cond-bounded (isNear tolerance one64 (div binary64 c p)) (lowered c) last B (lowered-bounded c c-lo c-hi)
+      (cond-bounded (ltb idx 4) one64 (lowered p) B u (lowered-bounded p p-lo p-hi)))
 
   -- 5 * (2 ^ 24 + 1), below 2 ^ 27
   pub colour-bounded : (o : Standing) → Bounded (mul binary64 (objectSum o) (ratioPenalty tolerance idx c p)) 83886085

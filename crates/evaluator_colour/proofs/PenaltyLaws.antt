@@ -2,7 +2,7 @@
 -- is 1.0, which is near 1.0.
 -- Its quotient's fraction is 1 / 1, and equal fractions round alike.
 use mathlib.Core.Path.{_≡_, refl, ap, _∙_}
-use mathlib.Core.Bool.{Bool, true, false, cond}
+use mathlib.Core.Bool.{true, false}
 use Prim.Native.Nat.{ℕ, zero, suc, _*_}
 use native.Mathlib.Nat.{mul-pos, zero-lt-suc, mul-comm}
 use lib.IntN.{ℤ}
@@ -26,9 +26,8 @@ whole-quotient : (m : ℕ) (e : ℤ) → div binary64 (fin false (suc m) e) (fin
 unfolding div
 whole-quotient m e =
     let a = suc m * up e * down e in
-    ap (λ (b : Bool). cond b (cond b nan (inf false)) (round binary64 false a a)) (eqb·suc-zero m)
-    ∙ round-same binary64 false a a 1 1 (mul-pos (mul-pos (zero-lt-suc m) (up-pos e)) (down-pos e)) (zero-lt-suc 0) (mul-comm a 1)
-    ∙ one-rounded
+    rw (eqb·suc-zero m)
+    (round-same binary64 false a a 1 1 (mul-pos (mul-pos (zero-lt-suc m) (up-pos e)) (down-pos e)) (zero-lt-suc 0) (mul-comm a 1) ∙ one-rounded)
 
 -- of every positive value
 pub own-quotient : (p : Float) → T (positive p) → div binary64 p p ≡ one64

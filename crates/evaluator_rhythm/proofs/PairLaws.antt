@@ -1,5 +1,5 @@
 -- Some pair of three, and of four, by the tests in the code's order: the newest with each older one, then what is left.
-use mathlib.Core.Path.{_≡_, refl, sym, ap, _∙_}
+use mathlib.Core.Path.{_≡_, refl, sym}
 use mathlib.Core.Bool.{Bool, true, false, _||_}
 use mathlib.Core.List.{[], _∷_}
 use lib.Ieee.{Float}
@@ -26,5 +26,4 @@ module _ (threshold a b c : Float) where
   pub four-tested : (d : Float) (p q r u : Bool) → similar threshold a b ≡ p → similar threshold a c ≡ q → similar threshold a d ≡ r
       → somePair threshold (b ∷ c ∷ d ∷ []) ≡ u → p || (q || (r || u)) ≡ somePair threshold (a ∷ b ∷ c ∷ d ∷ [])
   unfolding somePair similarTo
-  four-tested d p q r u h k l m =
-      rw (h, k, l) (sym (four-or p q r (somePair threshold (b ∷ c ∷ d ∷ [])) ∙ ap (λ (z : Bool). p || (q || (r || z))) m))
+  four-tested d p q r u h k l m = rw (h, k, l, ← m) (sym (four-or p q r (somePair threshold (b ∷ c ∷ d ∷ []))))

@@ -1,5 +1,5 @@
 -- The walk over k own intervals, by what it meets: one that is absent, or k that exist.
-use mathlib.Core.Path.{_≡_, refl, sym, ap, _∙_}
+use mathlib.Core.Path.{_≡_, refl, sym}
 use mathlib.Core.Bool.{Bool, cond}
 use mathlib.Core.List.{List, [], _∷_}
 use Prim.Native.Nat.{ℕ, zero, suc, _≤_, _<_}
@@ -8,6 +8,7 @@ use native.Mathlib.Omega.{arith}
 use borrow.Author.Tests.{lt-ltb, le-ltb}
 use lib.ListN.{length, getD, take}
 use lib.Ieee.{Float}
+use Rattle.lent.proofs.NeverLaws.{never}
 use Rattle.numeric.specs.Constants.{one64, eightTenths}
 use Rattle.grouping_same_rhythm.specs.declared.own.Own.{Own}
 use Rattle.grouping_same_rhythm.specs.declared.own.Own.the-variants.{Absent, Millis}
@@ -27,7 +28,7 @@ unfolding present
 present-fewer zero j owns h e = omega arith
 present-fewer (suc k) j [] h e = omega arith
 present-fewer (suc k) j (Absent ∷ owns) h e = let g = present-most k owns in omega arith
-present-fewer (suc k) zero (Millis x ∷ owns) h e = let z : _≡_ {A = ℕ} 0 1 = cc in omega arith
+present-fewer (suc k) zero (Millis x ∷ owns) h e = never (cc)
 present-fewer (suc k) (suc j) (Millis x ∷ owns) h e = let g = present-fewer k j owns (omega arith) e in omega arith
 
 pub walk-absent : (threshold : Float) (k j : ℕ) (owns : List Own) → j < k → getD owns j Absent ≡ Absent → one64 ≡ walkPenalty threshold k owns
@@ -42,7 +43,7 @@ pub data Existing : List Own → List Float → Type 0 where
 present-all : {owns : List Own} {xs : List Float} → Existing owns xs → present owns ≡ xs
 unfolding present
 present-all none = refl
-present-all (next {own} {owns} {x} {xs} h r) = ap (λ (o : Own). present (o ∷ owns)) h ∙ ap (λ (l : List Float). x ∷ l) (present-all r)
+present-all (next {own} {owns} {x} {xs} h r) = rw (h, present-all r)
 
 -- b is what the search for a similar pair found
 pub walk-existing : (threshold : Float) (k : ℕ) (owns : List Own) {xs : List Float} {b : Bool} → Existing (take k owns) xs → length xs ≡ k

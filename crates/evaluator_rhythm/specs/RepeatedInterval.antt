@@ -1,7 +1,7 @@
--- The penalty of a rhythm group that repeats an interval: evaluators/rhythm.rs, `repeated_interval_penalty`.
+-- The penalty of a rhythm group that repeats an interval (scope: evaluators/rhythm.rs, `repeated_interval_penalty`).
 -- A group and those before it are walked, three and then four of them, in search of two own intervals that are alike;
 -- the longer the group lasts, the smaller is the result. The threshold is a parameter, as in the source.
-use Prim.Native.Nat.{ℕ, _≤_}
+use Prim.Native.Nat.{ℕ}
 use mathlib.Core.Bool.{Bool, false, cond, _||_}
 use mathlib.Core.List.{List, [], _∷_}
 use lib.Dec.{ltb}
@@ -38,11 +38,6 @@ unfoldable pub walkPenalty : Float → ℕ → List Own → Float
 walkPenalty threshold k owns =
     let walked = present (take k owns) in
     cond (ltb (length walked) k) one64 (cond (somePair threshold walked) eightTenths one64)
-
--- what a walk is asked for
-pub record ThreeOrFour (k : ℕ) : Type 0 where
-  pub least : 3 ≤ k
-  pub most : k ≤ 4
 
 -- a group's own interval and those of the three groups before it
 unfoldable pub newestFirst : Recent → List Own

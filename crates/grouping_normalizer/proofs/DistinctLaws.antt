@@ -20,7 +20,8 @@ use Rattle.lent.proofs.PieceLaws.{over-pieces}
 use Rattle.numeric_sort.specs.Ordered.{ordered}
 use Rattle.numeric_sort.proofs.InsertLaws.{Numbers}
 use Rattle.numeric_sort.proofs.OrderedLaws.{number-at, ordered-few, length-ordered, numbers-ordered}
-use Rattle.grouping_normalizer.specs.Normalizer.{alike, unrepeated, distinct, sets, middleOf, normalOf, Distinct, NormalOf}
+use Rattle.grouping_normalizer.specs.Normalizer.{alike, unrepeated, distinct, sets, middleOf, normalOf, distinctInFront, NormalOf}
+use Rattle.grouping_normalizer.specs.passes.Distinct.{Distinct}
 
 -- ---- lengths
 
@@ -38,7 +39,8 @@ pub length-distinct : (xs : List Float) → length (distinct xs) ≤ length xs
 unfolding distinct
 length-distinct xs = omega (arith, length-unrepeated (ordered xs), length-ordered xs)
 
-pub length-left : (xs : List Float) → length (over (distinct xs) (ordered xs)) ≡ length xs
+length-left : (xs : List Float) → length (distinctInFront xs) ≡ length xs
+unfolding distinctInFront
 length-left xs = length-over (distinct xs) (ordered xs) (omega (arith, length-distinct xs, length-ordered xs)) ∙ length-ordered xs
 
 pub long-as : {s : List Float} (old : List Float) → s ≡ ordered old → length s ≡ length old
@@ -93,18 +95,11 @@ module _ {s w : List Float} {n k i : ℕ} (x : Thinning s w n k i) where
   unread =
       let m : ℕ = i - (k + 1) in
       let e : k + 1 + m ≡ i = omega (arith, x .behind) in
-      ap (λ (j : ℕ). getD w j nan) (sym e)
-      ∙ sym (getD-drop (k + 1) w m nan)
-      ∙ ap (λ (l : List Float). getD l m nan) (x .rest)
-      ∙ getD-drop (k + 1) s m nan
-      ∙ ap (λ (j : ℕ). getD s j nan) e
+      cc (getD-drop (k + 1) w m nan, getD-drop (k + 1) s m nan)
 
   module _ (h : i < n) where
     next : drop i s ≡ getD w i nan ∷ drop (i + 1) s
-    next =
-        drop-cons s i nan (omega (arith, x .size))
-        ∙ ap (λ (v : Float). v ∷ drop (suc i) s) (sym unread)
-        ∙ ap (λ (j : ℕ). getD w i nan ∷ drop j s) (sym (add-one i))
+    next = rw (add-one, unread, drop-cons s i nan (omega (arith, x .size)))
 
     number-next : Number (getD w i nan)
     number-next = subst Number (sym unread) (number-at i (x .numbers) (omega (arith, x .size)))
@@ -123,11 +118,7 @@ module _ {s w : List Float} {n k i : ℕ} (x : Thinning s w n k i) where
           behind = omega (arith, x .behind);
           upto = omega arith;
           rest = x .rest;
-          same =
-              x .same
-              ∙ ap (λ (l : List Float). take k w ++ unrepeated (a ∷ l)) next
-              ∙ ap (λ (l : List Float). take k w ++ l) (unrepeated-alike a b (drop (i + 1) s) e)
-              ∙ ap (λ (v : Float). take k w ++ unrepeated (v ∷ drop (i + 1) s)) q;
+          same = x .same ∙ rw (next, unrepeated-alike a b (drop (i + 1) s) e, q);
         }
 
     -- a new one
@@ -138,7 +129,7 @@ module _ {s w : List Float} {n k i : ℕ} (x : Thinning s w n k i) where
         let l : k + 1 < length w = omega (arith, x .long, x .behind) in
         let g : getD (set w (k + 1) b) (k + 1) nan ≡ b = getD-set-same w (k + 1) b nan l in
         let f : take (k + 1) (set w (k + 1) b) ≡ take k w ++ (a ∷ []) =
-        take-set-le (k + 1) w (k + 1) b (omega arith) ∙ ap (λ (j : ℕ). take j w) (add-one k) ∙ take-suc w k nan (omega arith) in
+        take-set-le (k + 1) w (k + 1) b (omega arith) ∙ rw add-one (take-suc w k nan (omega arith)) in
         record {
           size = x .size;
           long = length-set w (k + 1) b ∙ x .long;
@@ -151,42 +142,28 @@ module _ {s w : List Float} {n k i : ℕ} (x : Thinning s w n k i) where
               ∙ sym (drop-drop 1 (k + 1) w)
               ∙ ap (drop 1) (x .rest)
               ∙ drop-drop 1 (k + 1) s;
-          same =
-              x .same
-              ∙ ap (λ (l : List Float). take k w ++ unrepeated (a ∷ l)) next
-              ∙ ap (λ (l : List Float). take k w ++ l) (unrepeated-other a b (drop (i + 1) s) e)
-              ∙ sym (append-snoc (take k w) a (unrepeated (b ∷ drop (i + 1) s)))
-              ∙ ap (λ (l : List Float). l ++ unrepeated (b ∷ drop (i + 1) s)) (sym f)
-              ∙ ap (λ (v : Float). take (k + 1) (set w (k + 1) b) ++ unrepeated (v ∷ drop (i + 1) s)) (sym g);
+          same = x .same ∙ rw (next, unrepeated-other a b (drop (i + 1) s) e, f, g, append-snoc);
         }
 
   pub thinning-end : n ≤ i → (old : List Float) → s ≡ ordered old → Distinct old w (k + 1)
-  unfolding distinct unrepeated
+  unfolding distinct distinctInFront unrepeated
   thinning-end h old e =
       let r : k + 1 ≤ length w = omega (arith, x .long, x .behind, x .upto) in
       let u : unrepeated s ≡ take (k + 1) w =
-      x .same
-      ∙ ap (λ (l : List Float). take k w ++ unrepeated (getD w k nan ∷ l)) (drop-of-length-le s {i = i} (omega (arith, x .size)))
-      ∙ sym (take-suc w k nan (omega arith))
-      ∙ ap (λ (j : ℕ). take j w) (sym (add-one k)) in
+      x .same ∙ rw (drop-of-length-le s {i = i} (omega (arith, x .size)), add-one, take-suc w k nan (omega arith)) in
       let l : length (unrepeated s) ≡ k + 1 = ap length u ∙ length-take-le (k + 1) w r in
       record {
-        values =
-            sym (take-append-drop (k + 1) w)
-            ∙ ap (λ (z : List Float). z ++ drop (k + 1) w) (sym u)
-            ∙ ap (λ (z : List Float). unrepeated s ++ z) (x .rest)
-            ∙ over-pieces (unrepeated s) s (k + 1) l
-            ∙ ap (λ (z : List Float). over (unrepeated z) z) e;
-        count = sym l ∙ ap (λ (z : List Float). length (unrepeated z)) e;
+        values = sym (take-append-drop (k + 1) w) ∙ rw (← u, x .rest, over-pieces (unrepeated s) s (k + 1) l, e);
+        count = rw (← e, l);
       }
 
   pub thinning-long : (old : List Float) → s ≡ ordered old → length w ≡ length old
   thinning-long old e = x .long ∙ sym (x .size) ∙ long-as old e
 
 -- at most one value is in order, and no other is alike
-pub few-left : (xs : List Float) → length xs < 2 → xs ≡ over (distinct xs) (ordered xs)
-unfolding distinct unrepeated
-few-left xs h = few xs h ∙ ap (λ (z : List Float). over (unrepeated z) z) (sym (ordered-few xs h))
+pub few-left : (xs : List Float) → length xs < 2 → xs ≡ distinctInFront xs
+unfolding distinct distinctInFront unrepeated
+few-left xs h = few xs h ∙ rw (ordered-few xs h)
   where
     few : (xs : List Float) → length xs < 2 → xs ≡ over (unrepeated xs) xs
     few [] h = over-pieces [] [] 0 refl
@@ -195,11 +172,8 @@ few-left xs h = few xs h ∙ ap (λ (z : List Float). over (unrepeated z) z) (sy
 
 -- no values at all
 pub distinct-none : (s old : List Float) → length s ≡ 0 → s ≡ ordered old → Distinct old s 0
-unfolding distinct unrepeated
-distinct-none [] old h e = record {
-  values = over-pieces [] [] 0 refl ∙ ap (λ (z : List Float). over (unrepeated z) z) e;
-  count = ap (λ (z : List Float). length (unrepeated z)) e;
-}
+unfolding distinct distinctInFront unrepeated
+distinct-none [] old h e = record { values = rw (← e) (over-pieces [] [] 0 refl); count = rw (← e) }
 distinct-none (x ∷ s) old h e = absurd (omega arith)
 
 -- ---- what is left in a lent slice
@@ -212,9 +186,10 @@ module _ {old new : List Float} {k : ℕ} (d : Distinct old new k) where
   distinct-few = omega (arith, d .count, length-distinct old, distinct-long)
 
   pub distinct-front : take k new ≡ distinct old
-  distinct-front = ap (λ (l : List Float). take k l) (d .values) ∙ front (distinct old) (ordered old) k (sym (d .count))
+  unfolding distinctInFront
+  distinct-front = rw (d .values) (front (distinct old) (ordered old) k (sym (d .count)))
 
   -- the middle among the distinct values is what x counts as
   pub normal : (margin x r : Float) → r ≡ middleOf x (sets margin (take k new)) → NormalOf margin old new x r
   unfolding normalOf
-  normal margin x r e = record { answer = e ∙ ap (λ (l : List Float). middleOf x (sets margin l)) distinct-front; values = d .values }
+  normal margin x r e = record { answer = e ∙ rw distinct-front; values = d .values }

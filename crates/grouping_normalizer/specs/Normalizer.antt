@@ -1,7 +1,7 @@
--- What each delta of one group counts as (01, delta_time_normalizer.rs). The deltas that differ are put in order and
+-- What each delta of one group counts as (scope: delta_time_normalizer.rs). The deltas that differ are put in order and
 -- cut into sets, each of those near its first value; a delta counts as the middle of its set. What is near is told by a
 -- margin, 5.0 in every call.
-use Prim.Native.Nat.{ℕ, _-_, _/_, _%_}
+use Prim.Native.Nat.{_-_, _/_, _%_}
 use mathlib.Core.Path.{_≡_}
 use mathlib.Core.Bool.{Bool, false, cond, _&&_, _||_}
 use mathlib.Core.List.{List, [], _∷_, _++_, map}
@@ -62,12 +62,11 @@ normalOf margin deltas x = middleOf x (sets margin (distinct deltas))
 unfoldable pub normalized : Float → List Float → List Float
 normalized margin deltas = map (normalOf margin deltas) deltas
 
--- what `distinct_values` leaves of a lent slice, and returns: the distinct values in front of what else the order has
-pub record Distinct (old new : List Float) (r : ℕ) : Type 0 where
-  pub values : new ≡ over (distinct old) (ordered old)
-  pub count : r ≡ length (distinct old)
+-- deltas as they are left: the distinct ones in front, and behind them what the order has there
+unfoldable pub distinctInFront : List Float → List Float
+distinctInFront deltas = over (distinct deltas) (ordered deltas)
 
 -- what `normal_of` promises
 pub record NormalOf (margin : Float) (old new : List Float) (x r : Float) : Type 0 where
   pub answer : r ≡ normalOf margin old x
-  pub values : new ≡ over (distinct old) (ordered old)
+  pub values : new ≡ distinctInFront old

@@ -4,7 +4,8 @@ ghost use Prim.Native.Nat.{_<_};
 ghost use lib.ListN.{length};
 ghost use Rattle.lent.specs.Slice.{lent, left};
 ghost use Rattle.numeric_sort.specs.Ordered.{AllFinite};
-ghost use Rattle.grouping_normalizer.specs.Normalizer.{alike, holds, middle, middleOf, sets, Distinct, NormalOf};
+ghost use Rattle.grouping_normalizer.specs.Normalizer.{alike, holds, middle, middleOf, sets, NormalOf};
+ghost use Rattle.grouping_normalizer.specs.passes.Distinct.{Distinct};
 ghost use Rattle.grouping_normalizer.specs.passes.Sets.{SetEnd};
 use numeric::near::near;
 use numeric::order::total_order;
@@ -20,7 +21,7 @@ fn is_alike(a: f64, b: f64) -> bool
 }
 
 // Puts the distinct values, in total order, in front. The result is how many there are.
-pub fn distinct_values(values: &mut [f64]) -> usize
+fn distinct_values(values: &mut [f64]) -> usize
     requires { ⌜ AllFinite (now values) ⌝ }
     ensures { λ r. ⌜ Distinct (lent values) (left values) r ⌝ }
 {
@@ -43,7 +44,7 @@ pub fn distinct_values(values: &mut [f64]) -> usize
     k + 1
 }
 
-// The position after the set that starts at `at`: it runs while within the margin of its first value.
+// Where the set that starts at `at` ends: before the first value behind `at` that is not near the one there.
 fn set_end(values: &[f64], margin: f64, at: usize) -> usize
     requires { ⌜ at < length (now values) ⌝ }
     ensures { λ r. ⌜ SetEnd margin (lent values) at r ⌝ }

@@ -19,7 +19,8 @@ use Rattle.grouping_same_rhythm.specs.declared.own.Own.{Own}
 use Rattle.grouping_same_rhythm.specs.declared.own.Own.the-variants.{Absent}
 use Rattle.grouping_same_rhythm.specs.declared.owns.Recent.{Recent}
 use Rattle.grouping_same_rhythm.specs.Own.{modalDelta, snapped, ownsOf}
-use Rattle.grouping_same_rhythm.specs.passes.Owns.{settled, Modal, settledUpTo, recentWith, GroupThere, ReachedIs}
+use Rattle.grouping_normalizer.specs.Normalizer.{distinctInFront}
+use Rattle.grouping_same_rhythm.specs.passes.Owns.{Modal, settledUpTo, recentWith, GroupThere, ReachedIs}
 use Rattle.grouping_same_rhythm.proofs.OwnsLaws.{Known, known-start, known-turn, known-end}
 use Rattle.grouping_same_rhythm.proofs.OwnsWalk.{groupsFrom, groups-all, groups-next, as-they-are, Notes, Walk, walk-start, walk-open, walk-turn}
 
@@ -107,7 +108,7 @@ module _ {margin : Float} {deltas₀ deltas : List Float} {g : ℕ} {recent : Re
       let u : groupsFrom margin deltas₀ deltas₀ end ≡ first ∷ rest = rw (o .is) (groups-next margin deltas₀ deltas₀ refl end b) in
       let size : length group ≡ new - end = l ∙ mid-len end new deltas (o .upto) in
       let n : suc g - k ≡ suc (suc g - suc k) = omega arith in
-      let f : settled first ≡ group = sym (m .left ∙ ap settled (o .notes)) in
+      let f : distinctInFront first ≡ group = sym (m .left ∙ ap distinctInFront (o .notes)) in
       record {
         asked = x .asked;
         walk = rw (o .is) (walk-turn (x .walk) b);

@@ -1,5 +1,6 @@
--- A rhythm group's own interval, and its ratio to that of the group before (01, same_rhythm_hit_object_grouping.rs).
--- A group is the list of its notes' deltas; what is near is told by a margin, 5.0 in every call.
+-- A rhythm group's own interval, and its ratio to that of the group before (scope:
+-- same_rhythm_hit_object_grouping.rs). A group is the list of its notes' deltas; what is near is told by a margin, 5.0
+-- in every call.
 use Prim.Native.Nat.{ℕ, zero, suc}
 use mathlib.Core.Bool.{cond}
 use mathlib.Core.List.{List, [], _∷_}
@@ -13,7 +14,7 @@ use Rattle.grouping_same_rhythm.specs.declared.own.Own.{Own}
 use Rattle.grouping_same_rhythm.specs.declared.own.Own.the-variants.{Absent, Millis}
 use Rattle.grouping_same_rhythm.specs.declared.owns.Recent.{Recent}
 
--- the second note's delta, normalised among the group's and rounded to whole, ties to even; one note alone has none
+-- what the second delta counts as among all of its group, as the nearest whole number; a single note has none
 unfoldable pub modalDelta : Float → List Float → Own
 modalDelta margin [] = Absent
 modalDelta margin (d ∷ []) = Absent

@@ -1,4 +1,4 @@
--- Pattern groups: rhythm groups, grouped by their intervals as notes are by their deltas (01,
+-- Pattern groups: rhythm groups, grouped by their intervals as notes are by their deltas (scope:
 -- same_patterns_grouped_hit_objects.rs). A pattern is the list of its groups' intervals.
 use Prim.Native.Nat.{ℕ, zero, suc}
 use mathlib.Core.List.{List, [], _∷_}

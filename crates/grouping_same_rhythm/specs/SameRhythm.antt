@@ -1,5 +1,5 @@
 -- The rhythm groups of a chart's notes, by the deltas, and the groups' intervals, by where they start
--- (01, same_rhythm_hit_object_grouping.rs).
+-- (scope: same_rhythm_hit_object_grouping.rs).
 use Prim.Native.Nat.{ℕ}
 use mathlib.Core.Bool.{false, cond}
 use mathlib.Core.List.{List, [], _∷_, map}

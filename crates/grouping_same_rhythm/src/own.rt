@@ -8,13 +8,13 @@ use grouping_normalizer::normal_of;
 use numeric::near::near;
 use numeric::round::round_ties_even;
 
-// Absent where the group has one note, else a number of milliseconds.
+// How far apart the notes of a group are, in milliseconds; of a single note nothing can be said.
 pub enum Own {
     Absent,
     Millis(f64),
 }
 
-// The second note's normalised delta, to whole. The group's deltas are lent to be put in order.
+// What the second delta counts as in its group, made whole. The lent deltas are left with the distinct ones in front.
 pub fn modal_delta(deltas: &mut [f64], margin: f64) -> Own
     requires { ⌜ AllFinite (now deltas) ⌝ }
     ensures { λ r. ⌜ Modal margin (lent deltas) (left deltas) r ⌝ }

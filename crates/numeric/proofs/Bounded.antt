@@ -1,11 +1,11 @@
 -- Sizes: `Bounded x B` says that x is finite and at most the whole number B in size.
 -- Each operation's result is bounded by what its exact result is bounded by, as long as that is a whole number up to 2 ^ 53:
 -- such a number is a value of the format, and rounding keeps the order.
-use mathlib.Core.Path.{_≡_, refl, sym, ap, _∙_, subst}
+use mathlib.Core.Path.{_≡_, refl, sym, _∙_}
 use mathlib.Core.Logic.{inl, inr}
 use mathlib.Core.Bool.{Bool, true, false, _&&_, _||_, Bool·beq, cond, true≢false}
 use Prim.Native.Nat.{ℕ, zero, suc, _+_, _-_, _*_, _^_, _≤_, _<_}
-use native.Mathlib.Nat.{le-trans, le-of-eq, lt-of-le-of-lt, zero-lt-suc, mul-one, one-mul, zero-mul, mul-comm, mul-assoc, mul-right-comm, mul-mul-mul-comm}
+use native.Mathlib.Nat.{le-trans, le-of-eq, lt-of-le-of-lt, zero-lt-suc, mul-one, one-mul, mul-comm, mul-assoc, mul-right-comm, mul-mul-mul-comm}
 use native.Mathlib.Nat.{mul-le-mul, mul-le-mul-right, le-of-mul-le-mul-right, mul-pos, mul-lt-mul-of-pos-right, add-mul, not-suc-le-zero}
 use native.Mathlib.Omega.{arith}
 use lib.IntN.{ℤ, pos}
@@ -16,7 +16,7 @@ use lib.Ieee.Exact.{HasValue}
 use lib.Ieee.Order.{round-mono}
 use lib.Ieee.Back.{round-whole}
 use lib.Ieee.Scale.{finite}
-use Rattle.numeric.proofs.Tests.{or-split}
+use mir.Facts.{or-yes}
 use Rattle.numeric.proofs.Values.{Number, at-most}
 use Rattle.numeric.proofs.Sign.{Signed, neg-round, round-signed}
 use Rattle.numeric.specs.Tenths.{InTenthsRange}
@@ -45,7 +45,7 @@ bounded-neg (fin s m e) B h = h
 -- ---- rounding
 -- m * ue / de ≤ n * ud / dd = B
 chain : (x de y dd B : ℕ) → 0 < dd → x * dd ≤ y * de → y * 1 ≡ B * dd → x ≤ B * de
-chain x de y dd B h p q = le-of-mul-le-mul-right (le-trans p (le-of-eq (ap (λ (z : ℕ). z * de) (sym (mul-one y) ∙ q) ∙ mul-right-comm B dd de))) h
+chain x de y dd B h p q = let e : y ≡ B * dd = rw mul-one at q in le-of-mul-le-mul-right (rw (e, mul-right-comm B dd de) at p) h
 
 under : (x y : Float) (B : ℕ) → Signed x false → T (le x y) → HasValue y false B 1 → Bounded x B
 unfolding le
@@ -69,7 +69,7 @@ round-up num den B D k h =
 pub round-bounded : (s : Bool) (num den B : ℕ) → 0 < den → B ≤ 2 ^ 53 → num ≤ B * den → Bounded (round binary64 s num den) B
 round-bounded false num den B D k h = round-up num den B D k h
 round-bounded true num den B D k h =
-    subst (λ (z : Float). Bounded z B) (neg-round num den) (bounded-neg (round binary64 false num den) B (round-up num den B D k h))
+    rw (neg-round num den) at (bounded-neg (round binary64 false num den) B (round-up num den B D k h))
 
 -- ---- the operations
 pub cond-bounded : (b : Bool) (x y : Float) (B : ℕ) → Bounded x B → Bounded y B → Bounded (cond b x y) B
@@ -128,8 +128,7 @@ mul-bounded (fin s m e) (fin t n d) B C k h g =
 div-opened : (s : Bool) (m : ℕ) (e : ℤ) (t : Bool) (n : ℕ) (d : ℤ)
     → div binary64 (fin s m e) (fin t (suc n) d) ≡ round binary64 (unlike s t) (m * up e * down d) (suc n * up d * down e)
 unfolding div
-div-opened s m e t n d =
-    ap (λ (b : Bool). cond b (cond (eqb m 0) nan (inf (unlike s t))) (round binary64 (unlike s t) (m * up e * down d) (suc n * up d * down e))) (eqb·suc-zero n)
+div-opened s m e t n d = rw (eqb·suc-zero n)
 
 -- y is no zero, and at least B / C in size
 abbrev Reaches : Float → ℕ → ℕ → Type 0
@@ -145,7 +144,7 @@ quotient (fin s m e) (inf t) B C k h g = absurd g
 quotient (fin s m e) (fin t zero d) B C k h g = absurd (not-suc-le-zero (g .0))
 quotient (fin s m e) (fin t (suc n) d) B C k h g =
     let N = suc n * up d in
-    subst (λ (z : Float). Bounded z C) (sym (div-opened s m e t n d))
+    rw (div-opened s m e t n d)
     (round-bounded (unlike s t) (m * up e * down d) (N * down e) C (mul-pos (mul-pos (zero-lt-suc n) (up-pos d)) (down-pos e)) k
     (le-trans (mul-le-mul-right (down d) h)
     (le-trans (le-of-eq (mul-right-comm B (down e) (down d))) (le-trans (mul-le-mul-right (down e) (g .1)) (le-of-eq (mul-assoc C N (down e)))))))
@@ -157,10 +156,7 @@ AtLeast (inf s) K = ⊥
 AtLeast (fin t n d) K = down d ≤ K * (n * up d)
 
 no-zero : (u d k : ℕ) → 0 < d → d ≤ k * (0 * u) → ⊥
-no-zero u d k h g = clash d (k * (0 * u)) h g (ap (λ (z : ℕ). k * z) (zero-mul u) ∙ mul-comm k 0 ∙ zero-mul k)
-  where
-    clash : (a b : ℕ) → 0 < a → a ≤ b → b ≡ 0 → ⊥
-    clash a b p q r = omega arith
+no-zero u d k h g = omega arith
 
 reaches : (y : Float) (B K : ℕ) → AtLeast y K → Reaches y B (B * K)
 reaches nan B K g = g
@@ -173,17 +169,14 @@ div-bounded x y B K k h g = quotient x y B (B * K) k h (reaches y B K g)
 
 -- by a whole number m: the mean of m values of which each is at most B in size
 whole-no-zero : (u m D : ℕ) → 0 < m * D → 0 * u * 1 ≡ m * D → ⊥
-whole-no-zero u m D h v = clash (0 * u * 1) (m * D) h v (mul-one (0 * u) ∙ zero-mul u)
-  where
-    clash : (a b : ℕ) → 0 < b → a ≡ b → a ≡ 0 → ⊥
-    clash a b p q r = omega arith
+whole-no-zero u m D h v = omega arith
 
 whole-reaches : (y : Float) (m B : ℕ) → 0 < m → HasValue y false m 1 → Reaches y (m * B) B
 whole-reaches nan m B l v = absurd v
 whole-reaches (inf t) m B l v = absurd v
 whole-reaches (fin t zero d) m B l v = absurd (whole-no-zero (up d) m (down d) (mul-pos l (down-pos d)) (v .1))
 whole-reaches (fin t (suc n) d) m B l v =
-    (zero-lt-suc n, le-of-eq (ap (λ (z : ℕ). z * down d) (mul-comm m B) ∙ mul-assoc B m (down d) ∙ ap (λ (z : ℕ). B * z) (sym (v .1) ∙ mul-one (suc n * up d))))
+    (zero-lt-suc n, le-of-eq (rw (mul-comm m B, mul-assoc B m (down d), ← v .1, mul-one (suc n * up d))))
 
 pub mean-bounded : (x : Float) (m B : ℕ) → 0 < m → m ≤ 2 ^ 53 → B ≤ 2 ^ 53 → Bounded x (m * B) → Bounded (div binary64 x (ofInt binary64 (pos m))) B
 unfolding ofInt
@@ -198,7 +191,7 @@ signs true a b l = (lt→ltb a b l, lt→ltb 0 (a + b) (pos-sums a b l .1))
 signs false a b l = (lt→ltb 0 (b + a) (pos-sums a b l .0), lt→ltb a b l)
 
 below-limit : (m : ℕ) (e : ℤ) (B : ℕ) → B < 2 ^ 53 → m * up e ≤ B * down e → m * up e * 1 < 1 * 2 ^ 53 * down e
-below-limit m e B h g = subst (λ (z : ℕ). z < 2 ^ 53 * down e) (sym (mul-one (m * up e))) (lt-of-le-of-lt g (mul-lt-mul-of-pos-right h (down-pos e)))
+below-limit m e B h g = rw (mul-one (m * up e)) (lt-of-le-of-lt g (mul-lt-mul-of-pos-right h (down-pos e)))
 
 limits : (x : Float) (B : ℕ) → B < 2 ^ 53 → Bounded x B → T (lt (fin true 1 (pos 53)) x) × T (lt x (fin false 1 (pos 53)))
 unfolding lt
@@ -218,7 +211,7 @@ leq-plus a b c p t = let q = at-most (a * 1) b t in omega arith
 
 leq-minus : (a b c : ℕ) → b ≡ c → T (ltb (a * 1) b || (eqb b (a * 1) && true)) → a ≤ c
 leq-minus a b c p t =
-    elim (or-split (ltb (a * 1) b) (eqb b (a * 1) && true) t) [
+    elim (or-yes (ltb (a * 1) b) (eqb b (a * 1) && true) t) [
       | inl y ↦ let q = ltb→lt (a * 1) b y in omega arith
       | inr y ↦ let q = eqb→eq b (a * 1) (and-l (eqb b (a * 1)) true y) in omega arith
     ]
@@ -228,5 +221,5 @@ unfolding le
 le-bounded nan k h g = absurd g
 le-bounded (inf true) k h g = absurd h
 le-bounded (inf false) k h g = absurd g
-le-bounded (fin true m e) k h g = leq-minus (m * up e) (1 * 2 ^ k * down e) (2 ^ k * down e) (ap (λ (z : ℕ). z * down e) (one-mul (2 ^ k))) h
-le-bounded (fin false m e) k h g = leq-plus (m * up e) (1 * 2 ^ k * down e) (2 ^ k * down e) (ap (λ (z : ℕ). z * down e) (one-mul (2 ^ k))) g
+le-bounded (fin true m e) k h g = leq-minus (m * up e) (1 * 2 ^ k * down e) (2 ^ k * down e) (rw (one-mul (2 ^ k))) h
+le-bounded (fin false m e) k h g = leq-plus (m * up e) (1 * 2 ^ k * down e) (2 ^ k * down e) (rw (one-mul (2 ^ k))) g

@@ -1,8 +1,9 @@
 -- The laws of this crate. Those that are public are for the crates above, or are results of their own; the others serve the proofs of this crate alone.
+pub mod Tests
 pub mod Values
 pub mod Monotone
 pub mod Bounded
 pub mod ConstantLaws
-mod Tests
+pub mod Minus
 mod Sign
 mod Units

@@ -1,15 +1,14 @@
 -- Rounded addition and subtraction keep the order.
 -- `Rounded x p q` says that x is p - q units of the smallest value, rounded to the format: a larger number of units rounds to a value that is no smaller.
---
-use mathlib.Core.Path.{_≡_, refl, sym, ap, _∙_, subst}
+use mathlib.Core.Path.{_≡_, refl}
 use mathlib.Core.Logic.{_⊎_, inl, inr}
 use mathlib.Core.Bool.{Bool, true, false, not, _&&_, cond}
 use Prim.Native.Nat.{ℕ, _+_, _-_, _≤_, _<_}
-use native.Mathlib.Nat.{mul-le-mul-right}
+use native.Mathlib.Nat.{le-of-lt, mul-le-mul-right}
 use native.Mathlib.Omega.{arith}
 use lib.Dec.{T, ltb, ltb→lt, nltb→le}
 use lib.Pow.{pow-pos}
-use lib.Ieee.{Float, nan, inf, fin, binary64, low, fits, le, round, neg, sum, add, sub}
+use lib.Ieee.{Float, nan, inf, fin, binary64, low, fits, le, round, sum, add, sub}
 use lib.Ieee.Order.{round-mono}
 use lib.Ieee.Scale.{finite}
 use Rattle.numeric.proofs.Values.{Number}
@@ -22,9 +21,7 @@ up-mono n k h = round-mono binary64 n L k L (pow-pos (low binary64)) (pow-pos (l
 
 down-mono : (n k : ℕ) → k ≤ n → T (le (round binary64 true n L) (round binary64 true k L))
 down-mono n k h =
-    subst (λ (z : Float). T (le z (round binary64 true k L))) (neg-round n L)
-    (subst (λ (z : Float). T (le (neg (round binary64 false n L)) z)) (neg-round k L)
-    (le-neg (round binary64 false k L) (round binary64 false n L) (up-mono k n h)))
+    rw (neg-round n L, neg-round k L) at (le-neg (round binary64 false k L) (round binary64 false n L) (up-mono k n h))
 
 zeros : T (le (round binary64 false 0 L) (round binary64 true 0 L))
 unfolding le round
@@ -35,7 +32,7 @@ abbrev pub Rounded : Float → ℕ → ℕ → Type 0
 Rounded x p q = ((n : ℕ) × (p ≡ q + n) × (x ≡ round binary64 false n L)) ⊎ ((n : ℕ) × (q ≡ p + n) × (x ≡ round binary64 true n L))
 
 both : {x y a b : Float} → x ≡ a → y ≡ b → T (le a b) → T (le x y)
-both {x} {y} {a} {b} p q h = subst (λ (z : Float). T (le z y)) (sym p) (subst (λ (z : Float). T (le a z)) (sym q) h)
+both p q h = rw (p, q) h
 
 more : (p q n p′ q′ k : ℕ) → p ≡ q + n → p′ ≡ q′ + k → p + q′ ≤ p′ + q → n ≤ k
 more p q n p′ q′ k a b h = omega arith
@@ -53,19 +50,13 @@ rounded-mono p q p′ q′ (inr a) (inl b) h =
     both (a .2) (b .2) (across (round binary64 true (a .0) L) (round binary64 false (b .0) L) (round-signed true (a .0) L) (round-signed false (b .0) L))
 rounded-mono p q p′ q′ (inl a) (inr b) h =
     let z = nothing p q (a .0) p′ q′ (b .0) (a .1) (b .1) h in
-    both (a .2 ∙ ap (λ (n : ℕ). round binary64 false n L) (z .0)) (b .2 ∙ ap (λ (n : ℕ). round binary64 true n L) (z .1)) zeros
+    both (rw (z .0) at (a .2)) (rw (z .1) at (b .2)) zeros
 
-over : (u v : ℕ) → u < v → v + 0 ≡ 0 + u + (v - u)
+over : (u v : ℕ) → u < v → 0 + v ≡ u + 0 + (v - u)
 over u v h = omega arith
-
-over′ : (u v : ℕ) → u < v → 0 + v ≡ u + 0 + (v - u)
-over′ u v h = omega arith
 
 under : (u v : ℕ) → v ≤ u → u + 0 ≡ 0 + v + (u - v)
 under u v h = omega arith
-
-under′ : (u v : ℕ) → v < u → u + 0 ≡ 0 + v + (u - v)
-under′ u v h = omega arith
 
 level-zero : (u v : ℕ) → v ≤ u → u ≤ v → 0 + v ≡ u + 0 + (u - v)
 level-zero u v h k = omega arith
@@ -80,17 +71,14 @@ rounded-sum true u true v = inr (u + v, same-sign u v, refl)
 rounded-sum false u true v = go (ltb u v) (ltb→lt u v) (nltb→le u v)
   where
     go : (b : Bool) → (T b → u < v) → (T (not b) → v ≤ u) → Rounded (cond b (round binary64 true (v - u) L) (round binary64 false (u - v) L)) (u + 0) (0 + v)
-    go true h k = inr (v - u, over′ u v (h tt), refl)
+    go true h k = inr (v - u, over u v (h tt), refl)
     go false h k = inl (u - v, under u v (k tt), refl)
 rounded-sum true u false v = go (ltb u v) (ltb→lt u v) (nltb→le u v) (ltb v u) (ltb→lt v u) (nltb→le v u)
   where
     go : (b : Bool) → (T b → u < v) → (T (not b) → v ≤ u) → (c : Bool) → (T c → v < u) → (T (not c) → u ≤ v)
         → Rounded (cond b (round binary64 false (v - u) L) (round binary64 (true && c) (u - v) L)) (0 + v) (u + 0)
-    go true h k c i j = inl (v - u, plain u v (h tt), refl)
-      where
-        plain : (u v : ℕ) → u < v → 0 + v ≡ u + 0 + (v - u)
-        plain u v h = omega arith
-    go false h k true i j = inr (u - v, under′ u v (i tt), refl)
+    go true h k c i j = inl (v - u, over u v (h tt), refl)
+    go false h k true i j = inr (u - v, under u v (le-of-lt (i tt)), refl)
     go false h k false i j = inl (u - v, level-zero u v (k tt) (j tt), refl)
 
 -- ---- the sum grows with its first term

@@ -3,13 +3,14 @@ use mathlib.Core.Path.{_≡_, refl, sym, ap, _∙_, subst}
 use mathlib.Core.Logic.{inl, inr}
 use mathlib.Core.Bool.{Bool, true, false, not, _&&_, _||_, Bool·beq, cond, true≢false, false≢true}
 use Prim.Native.Nat.{ℕ, zero, suc, _+_, _-_, _*_, _/_, _^_}
-use native.Mathlib.Omega.{arith}
+use native.Mathlib.Nat.{add-comm}
 use lib.Dec.{T, ltb, eqb, lt→ltb, eqb→eq}
 use lib.Ieee.{Float, nan, inf, fin, binary64, prec, emax, low, up, down, size, odd, units, le, below, level, round, neg}
 use lib.Ieee.Fits.{and-l, and-r, and-i, eq→eqb, round-is, neg-fits}
 use lib.Ieee.Nearest.{closest}
 use lib.Ieee.Scale.{finite}
-use Rattle.numeric.proofs.Tests.{or-split, or-l, or-r}
+use mir.Facts.{or-yes}
+use Rattle.numeric.proofs.Tests.{or-l, or-r}
 use Rattle.numeric.proofs.Values.{Number}
 use Rattle.numeric.proofs.Units.{sum-pos}
 
@@ -45,24 +46,21 @@ or-zero : (a b : ℕ) (s t : Bool) → T (eqb a b && (Bool·beq s t || eqb a 0))
 or-zero a b s t h =
     let e = eqb→eq a b (and-l (eqb a b) (Bool·beq s t || eqb a 0) h) in
     and-i (eqb b a) (Bool·beq (not t) (not s) || eqb b 0) (eq→eqb (sym e))
-    (elim (or-split (Bool·beq s t) (eqb a 0) (and-r (eqb a b) (Bool·beq s t || eqb a 0) h)) [
+    (elim (or-yes (Bool·beq s t) (eqb a 0) (and-r (eqb a b) (Bool·beq s t || eqb a 0) h)) [
       | inl x ↦ or-l (Bool·beq (not t) (not s)) (eqb b 0) (subst T (beq-sym s t) x)
-      | inr x ↦ or-r (Bool·beq (not t) (not s)) (eqb b 0) (subst (λ (z : ℕ). T (eqb z 0)) e x)
+      | inr x ↦ or-r (Bool·beq (not t) (not s)) (eqb b 0) (rw e at x)
     ])
 
 below-flip : (s : Bool) (a : ℕ) (t : Bool) (b : ℕ) → T (below s a t b) → T (below (not t) b (not s) a)
 below-flip false a false b h = h
 below-flip false a true b h = absurd h
-below-flip true a false b h = subst (λ (z : ℕ). T (ltb 0 z)) (swap a b) h
-  where
-    swap : (x y : ℕ) → x + y ≡ y + x
-    swap x y = omega arith
+below-flip true a false b h = rw (add-comm b a) h
 below-flip true a true b h = h
 
 pub le-neg : (x y : Float) → T (le x y) → T (le (neg y) (neg x))
 unfolding le neg
 le-neg nan y h = absurd h
-le-neg (inf s) nan h = absurd (elim (or-split false false h) [ inl z ↦ z | inr z ↦ z ])
+le-neg (inf s) nan h = absurd (elim (or-yes false false h) [ inl z ↦ z | inr z ↦ z ])
 le-neg (inf true) (inf true) h = tt
 le-neg (inf true) (inf false) h = tt
 le-neg (inf false) (inf true) h = absurd h
@@ -76,7 +74,7 @@ le-neg (fin s m e) (inf false) h = tt
 le-neg (fin s m e) (fin t n d) h =
     let a = m * up e * down d in
     let b = n * up d * down e in
-    elim (or-split (below s a t b) (level s a t b) h) [
+    elim (or-yes (below s a t b) (level s a t b) h) [
       | inl x ↦ or-l (below (not t) b (not s) a) (level (not t) b (not s) a) (below-flip s a t b x)
       | inr x ↦ or-r (below (not t) b (not s) a) (level (not t) b (not s) a) (or-zero a b s t x)
     ]
@@ -104,7 +102,7 @@ pub round-signed : (s : Bool) (a b : ℕ) → Signed (round binary64 s a b) s
 round-signed s a b =
     let n = a * 2 ^ low binary64 in
     let k = size (n / b) - prec binary64 in
-    subst (λ (z : Float). Signed z s) (sym (round-is binary64 s a b)) (units-signed s (closest n (b * 2 ^ k)) k)
+    rw (round-is binary64 s a b) (units-signed s (closest n (b * 2 ^ k)) k)
 
 pub across : (x y : Float) → Signed x true → Signed y false → T (le x y)
 unfolding le

@@ -1,9 +1,9 @@
 -- Two finite values that fit, each as a sign and a whole number of units of the smallest value: the order, and the sum.
 -- A signed number is a pair of naturals, what is above zero and what is below: `plus s u` and `minus s u`, one of which is 0.
 -- So that x ≤ y is plus x + minus y ≤ plus y + minus x, which `omega` reads.
-use mathlib.Core.Path.{_≡_, refl, sym, ap, _∙_}
+use mathlib.Core.Path.{_≡_, refl, sym, _∙_}
 use mathlib.Core.Logic.{_⊎_, inl, inr}
-use mathlib.Core.Bool.{Bool, true, false, _&&_, _||_, Bool·beq, cond}
+use mathlib.Core.Bool.{Bool, true, false, _&&_, _||_, cond}
 use Prim.Native.Nat.{ℕ, zero, suc, _+_, _-_, _*_, _^_, _≤_, _<_}
 use native.Mathlib.Nat.{le-of-lt, le-of-eq, add-mul, mul-comm, mul-sub, mul-pos, zero-mul, eq-of-mul-eq-mul-right}
 use native.Mathlib.Omega.{arith}
@@ -13,8 +13,9 @@ use lib.Pow.{pow-pos}
 use lib.Ieee.{fin, binary64, low, up, down, fits, le, below, level, round, sum, add}
 use lib.Ieee.Fits.{and-l, and-r, down-pos}
 use lib.Ieee.Scale.{round-same}
-use Rattle.numeric.proofs.Tests.{or-split, same-test}
-use Rattle.numeric.proofs.order.Rank.{ex, held, cross, lt-to, lt-from, eq-to}
+use mir.Facts.{or-yes}
+use Rattle.numeric.proofs.Tests.{same-test}
+use Rattle.numeric.proofs.order.Rank.{ex, in-format, cross, lt-to, lt-from, eq-to}
 
 abbrev pub L : ℕ
 L = 2 ^ low binary64
@@ -56,10 +57,10 @@ module _ (s : Bool) (m : ℕ) (e : ℤ) (t : Bool) (n : ℕ) (d : ℤ) (f : T (f
   P-pos = mul-pos (down-pos e) (down-pos d)
 
   at-a : a * L ≡ unitsOf m e * P
-  at-a = cross (low binary64) m e d (held s m e f .low-enough)
+  at-a = cross (low binary64) m e d (in-format s m e f .low-enough)
 
   at-b : b * L ≡ unitsOf n d * P
-  at-b = cross (low binary64) n d e (held t n d g .low-enough) ∙ ap (λ (z : ℕ). unitsOf n d * z) (mul-comm (down d) (down e))
+  at-b = rw (mul-comm (down e) (down d)) (cross (low binary64) n d e (in-format t n d g .low-enough))
 
   abbrev u : ℕ
   u = unitsOf m e
@@ -103,8 +104,8 @@ module _ (s : Bool) (m : ℕ) (e : ℤ) (t : Bool) (n : ℕ) (d : ℤ) (f : T (f
   sum-units =
       let both = rounds s (a + b) (u + v) sum-is in
       let second = rounds t (b - a) (v - u) (diff-is b a v u at-b at-a) in
-      let first = rounds (s && ltb b a) (a - b) (u - v) (diff-is a b u v at-a at-b) ∙ ap (λ (z : Bool). round binary64 (s && z) (u - v) L) gt-units in
-      λ i. cond (Bool·beq s t) (both i) (cond (lt-units i) (second i) (first i))
+      let first = rounds (s && ltb b a) (a - b) (u - v) (diff-is a b u v at-a at-b) in
+      rw (both, second, first, lt-units, gt-units)
 
   -- le, in units
   pub leq-units : T (le (fin s m e) (fin t n d)) → plus s u + minus t v ≤ plus t v + minus s u
@@ -112,18 +113,18 @@ module _ (s : Bool) (m : ℕ) (e : ℤ) (t : Bool) (n : ℕ) (d : ℤ) (f : T (f
   leq-units h = carry s t u v to-lt to-gt (eq-to a b u v L P at-a at-b L-pos P-pos) (zero-to a u at-a) h
     where
       zero-to : (x k : ℕ) → x * L ≡ k * P → x ≡ 0 → k ≡ 0
-      zero-to x k p z = eq-of-mul-eq-mul-right P P-pos k 0 (sym p ∙ ap (λ (y : ℕ). y * L) z ∙ zero-mul L ∙ sym (zero-mul P))
+      zero-to x k p z = eq-of-mul-eq-mul-right P P-pos k 0 (rw (← p, z, zero-mul L, zero-mul P))
 
       carry : (s t : Bool) (u v : ℕ) → (a < b → u < v) → (b < a → v < u) → (a ≡ b → u ≡ v) → (a ≡ 0 → u ≡ 0) → T (leq s a t b)
           → plus s u + minus t v ≤ plus t v + minus s u
       carry false false u v l g q z h =
-          let k : u ≤ v = elim (or-split (ltb a b) (eqb a b && true) h) [
+          let k : u ≤ v = elim (or-yes (ltb a b) (eqb a b && true) h) [
             | inl x ↦ le-of-lt (l (ltb→lt a b x))
             | inr x ↦ le-of-eq (q (eqb→eq a b (and-l (eqb a b) true x)))
           ] in
           omega arith
       carry true true u v l g q z h =
-          let k : v ≤ u = elim (or-split (ltb b a) (eqb a b && true) h) [
+          let k : v ≤ u = elim (or-yes (ltb b a) (eqb a b && true) h) [
             | inl x ↦ le-of-lt (g (ltb→lt b a x))
             | inr x ↦ le-of-eq (sym (q (eqb→eq a b (and-l (eqb a b) true x))))
           ] in

@@ -1,17 +1,19 @@
 -- What fitting the format says of a value's digits and exponent, and when a value is zero.
-use mathlib.Core.Path.{_≡_, refl, sym, ap, _∙_}
+use mathlib.Core.Path.{_≡_, refl, sym, _∙_}
 use mathlib.Core.Logic.{inl, inr}
 use mathlib.Core.Bool.{true, false, not, _&&_, _||_}
 use Prim.Native.Nat.{ℕ, zero, suc, _*_, _^_, _≤_, _<_}
 use native.Mathlib.Nat.{zero-mul, mul-one, one-mul, mul-pos, zero-lt-suc, pow-succ', le-of-lt, le-of-eq, eq-or-lt-of-le}
 use native.Mathlib.Omega.{arith}
+use borrow.Author.Tests.{ltb-false}
 use lib.IntN.{ℤ, pos, negsuc}
 use lib.Dec.{T, ltb, eqb, ltb→lt, lt→ltb, eqb→eq}
 use lib.Pow.{pow-pos}
 use lib.Ieee.{Float, nan, inf, fin, binary64, up, down, fits, isNan, le}
 use lib.Ieee.Fits.{and-l, and-i, up-pos, down-pos, eq→eqb}
 use lib.Ieee.Scale.{finite}
-use Rattle.numeric.proofs.Tests.{or-split, or-l, or-r}
+use mir.Facts.{or-yes}
+use Rattle.numeric.proofs.Tests.{or-l, or-r}
 
 -- a finite value of the format
 pub record Number (x : Float) : Type 0 where
@@ -26,7 +28,7 @@ pub cross-pos : (m : ℕ) (e d : ℤ) → 0 < suc m * up e * down d
 cross-pos m e d = mul-pos (mul-pos (zero-lt-suc m) (up-pos e)) (down-pos d)
 
 pub cross-zero : (e d : ℤ) → 0 * up e * down d ≡ 0
-cross-zero e d = ap (λ (z : ℕ). z * down d) (zero-mul (up e)) ∙ zero-mul (down d)
+cross-zero e d = rw (zero-mul (up e), zero-mul (down d))
 
 two-up : (p : ℕ) → 0 < p → 2 * p ≡ 1 → ⊥
 two-up p h e = omega arith
@@ -39,7 +41,7 @@ flat (negsuc k) h = absurd (two-up (2 ^ k) (pow-pos k) (sym (pow-succ' 2 k) ∙ 
 
 -- a ≤ b, as the comparison of two values with the sign + tests it
 pub at-most : (a b : ℕ) → T (ltb a b || (eqb a b && true)) → a ≤ b
-at-most a b t = elim (or-split (ltb a b) (eqb a b && true) t) [ inl x ↦ le-of-lt (ltb→lt a b x) | inr x ↦ le-of-eq (eqb→eq a b (and-l (eqb a b) true x)) ]
+at-most a b t = elim (or-yes (ltb a b) (eqb a b && true) t) [ inl x ↦ le-of-lt (ltb→lt a b x) | inr x ↦ le-of-eq (eqb→eq a b (and-l (eqb a b) true x)) ]
 
 pub of-at-most : (a b : ℕ) → a ≤ b → T (ltb a b || (eqb a b && true))
 of-at-most a b h =
@@ -47,6 +49,13 @@ of-at-most a b h =
       | inl p ↦ or-r (ltb a b) (eqb a b && true) (and-i (eqb a b) true (eq→eqb p) tt)
       | inr q ↦ or-l (ltb a b) (eqb a b && true) (lt→ltb a b q)
     ]
+
+-- and of a size a / c with a whole number b, as the comparison with the value b tests it
+pub below-whole : (a b c : ℕ) → T (ltb (a * 1) (1 * b * c)) → a < b * c
+below-whole a b c t = omega (arith, ltb→lt (a * 1) (1 * b * c) t)
+
+pub from-whole : (a b c : ℕ) → ltb (a * 1) (1 * b * c) ≡ false → b * c ≤ a
+from-whole a b c e = omega (arith, ltb-false (a * 1) (1 * b * c) e)
 
 -- what lies between two finite values is finite
 pub finite-between : (lo x hi : Float) → T (finite lo) → T (finite hi) → T (le lo x) → T (le x hi) → T (finite x)

@@ -9,3 +9,4 @@ pub mod Logistic
 pub mod LogisticRule
 pub mod LogisticNearest
 pub mod ExponentialSum
+pub mod passes

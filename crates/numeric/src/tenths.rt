@@ -1,7 +1,8 @@
-// Ten times an f64, as the largest whole number not above it, by integer arithmetic on its bits: nothing is rounded.
+// The tenths of an f64, cut downwards: whole numbers made of its bits, so that the product with ten is exact.
 ghost use mathlib.Core.Path.{_≡_};
 ghost use Prim.Native.Nat.{_*_, _/_, _^_, _<_};
-ghost use Rattle.numeric.specs.Tenths.{tenthsOf, ceiling, InTenthsRange, ScaledOf, CutTo};
+ghost use Rattle.numeric.specs.Tenths.{tenthsOf, ceiling, InTenthsRange};
+ghost use Rattle.numeric.specs.passes.Tenths.{ScaledOf, CutTo};
 
 // The size of a float: digits / 2^shift.
 pub struct Scaled {

@@ -10,10 +10,11 @@ use lib.Dec.{T}
 use lib.ListN.{length, getD}
 use lib.Ieee.{Float, nan}
 use Rattle.numeric.specs.TotalOrder.{totalOrder}
+use Rattle.numeric.proofs.Tests.{le-or-lt}
 use Rattle.numeric.proofs.Values.{Number}
 use Rattle.numeric.proofs.order.Laws.{trans}
 use Rattle.numeric_sort.specs.Ordered.{insert, ordered}
-use Rattle.numeric_sort.proofs.InsertLaws.{either, rank, of-rank, Numbers, none, also, insert-here, insert-past}
+use Rattle.numeric_sort.proofs.InsertLaws.{rank, of-rank, Numbers, none, also, insert-here, insert-past}
 use Rattle.numeric_sort.proofs.OrderedLaws.{length-ordered, numbers-ordered, ordered-same}
 
 -- ---- the values
@@ -91,7 +92,7 @@ ascending-insert {x} p (also {x = y} {xs = ys} q n) (before f a) =
     ⊎-elim
     (λ h. rw (insert-here p q ys h) (before (λ z m. ahead (of-rank p q h) z (List·Memᴰ·cases-cons m)) (before f a)))
     (λ h. rw (insert-past p q ys h) (before (λ z m. behind (of-rank q p (le-of-lt h)) z (insert-only ys m)) (ascending-insert p n a)))
-    (either (rank x) (rank y))
+    (le-or-lt (rank x) (rank y))
   where
     ahead : T (totalOrder x y) → (z : Float) → (z ≡ y) ⊎ List·Memᴰ z ys → T (totalOrder x z)
     ahead t z m = ⊎-elim (λ e. rw e t) (λ k. trans p q (number-in n k) t (f z k)) m

@@ -9,19 +9,13 @@ use native.Mathlib.Omega.{arith}
 use lib.Dec.{T, leb, eqb}
 use lib.ListN.{length}
 use lib.Ieee.{Float}
-use borrow.Author.Tests.{leb-true, leb-false, le-leb, lt-leb, eqb-true, eqb-false}
+use borrow.Author.Tests.{leb-false, le-leb, lt-leb, eqb-true, eqb-false}
 use Rattle.numeric.specs.TotalOrder.{totalOrder}
+use Rattle.numeric.proofs.Tests.{le-or-lt}
 use Rattle.numeric.proofs.Values.{Number}
 use Rattle.numeric.proofs.order.Rank.{key, keyed, key-inj}
 use Rattle.numeric.proofs.order.Laws.{to-key, of-key}
 use Rattle.numeric_sort.specs.Ordered.{insert}
-
-pub either : (a b : ℕ) → (a ≤ b) ⊎ (b < a)
-either a b = go (leb a b) (leb-true a b) (leb-false a b)
-  where
-    go : (t : Bool) → (t ≡ true → a ≤ b) → (t ≡ false → b < a) → (a ≤ b) ⊎ (b < a)
-    go true h k = inl (h refl)
-    go false h k = inr (k refl)
 
 pub equal : (a b : ℕ) → (a ≡ b) ⊎ (a ≢ b)
 equal a b = go (eqb a b) (eqb-true a b) (eqb-false a b)
@@ -84,7 +78,7 @@ numbers-insert {x} p (also {x = y} {xs = ys} q r) =
     ⊎-elim
     (λ h. rw (insert-here p q ys h) (also p (also q r)))
     (λ h. rw (insert-past p q ys h) (also q (numbers-insert p r)))
-    (either (rank x) (rank y))
+    (le-or-lt (rank x) (rank y))
 
 pub length-insert : (x : Float) (ys : List Float) → length (insert x ys) ≡ suc (length ys)
 unfolding insert
@@ -105,9 +99,9 @@ module _ {x y : Float} (p : Number x) (q : Number y) where
       (λ h. ⊎-elim
       (λ k. let e : x ≡ y = one-rank p q (le-antisymm h k) in λ i. insert (e i) (sym e i ∷ zs))
       (λ k. insert-here p q zs h ∙ ap (λ (l : List Float). x ∷ l) (sym hy) ∙ sym (insert-past q p zs k))
-      (either (rank y) (rank x)))
+      (le-or-lt (rank y) (rank x)))
       (λ h. insert-past p q zs h ∙ ap (λ (l : List Float). y ∷ l) hx ∙ sym (insert-here q p zs (le-of-lt h)))
-      (either (rank x) (rank y))
+      (le-or-lt (rank x) (rank y))
 
   -- x comes before z, and y behind it
   one-here : {z : Float} → Number z → (zs : List Float) → rank x ≤ rank z → rank z < rank y → insert x (insert y (z ∷ zs)) ≡ insert y (insert x (z ∷ zs))
@@ -129,7 +123,7 @@ insert-commute {x} {y} p q (also {x = z} {xs = zs} r s) =
     ∙ both-here p q (z ∷ zs) (insert-here p r zs h) (insert-here q r zs k)
     ∙ ap (insert y) (sym (insert-here p r zs h)))
     (λ k. one-here p q r zs h k)
-    (either (rank y) (rank z)))
+    (le-or-lt (rank y) (rank z)))
     (λ h. ⊎-elim
     (λ k. sym (one-here q p r zs k h))
     (λ k.
@@ -138,8 +132,8 @@ insert-commute {x} {y} p q (also {x = z} {xs = zs} r s) =
     ∙ ap (λ (l : List Float). z ∷ l) (insert-commute p q s)
     ∙ sym (insert-past q r (insert x zs) k)
     ∙ ap (insert y) (sym (insert-past p r zs h)))
-    (either (rank y) (rank z)))
-    (either (rank x) (rank z))
+    (le-or-lt (rank y) (rank z)))
+    (le-or-lt (rank x) (rank z))
 
 -- ---- an insertion undone
 
@@ -166,9 +160,9 @@ insert-undo {x} p none (also {x = w} {xs = ws} s n) e = absurd (omega (arith, ap
 insert-undo {x} p (also {x = u} {xs = us} r m) none e = absurd (omega (arith, ap length e, length-insert x [], length-insert x (u ∷ us)))
 insert-undo {x} p (also {x = u} {xs = us} r m) (also {x = w} {xs = ws} s n) e =
     ⊎-elim
-    (λ h. ⊎-elim (λ k. undo-here us ws p r s e h k) (λ k. absurd (undo-never us ws p r s e h k)) (either (rank x) (rank w)))
+    (λ h. ⊎-elim (λ k. undo-here us ws p r s e h k) (λ k. absurd (undo-never us ws p r s e h k)) (le-or-lt (rank x) (rank w)))
     (λ h. ⊎-elim
     (λ k. absurd (undo-never ws us p s r (sym e) k h))
     (λ k. let d = undo-past us ws p r s e h k in λ i. d .0 i ∷ insert-undo p m n (d .1) i)
-    (either (rank x) (rank w)))
-    (either (rank x) (rank u))
+    (le-or-lt (rank x) (rank w)))
+    (le-or-lt (rank x) (rank u))

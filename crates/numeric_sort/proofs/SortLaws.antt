@@ -6,9 +6,10 @@ use Prim.Native.Nat.{ℕ, suc, _-_, _≤_, _<_}
 use native.Mathlib.Omega.{arith}
 use lib.ListN.{length, getD}
 use lib.Ieee.{Float, nan}
+use Rattle.numeric.proofs.Tests.{le-or-lt}
 use Rattle.numeric_sort.specs.Ordered.{ordered}
 use Rattle.numeric_sort.specs.passes.Heap.{Before, swapped, Shuffled, same, more, Heap, Two, Sinkable, Sunk, Heaped}
-use Rattle.numeric_sort.proofs.InsertLaws.{either, equal, Numbers}
+use Rattle.numeric_sort.proofs.InsertLaws.{equal, Numbers}
 use Rattle.numeric_sort.proofs.OrderedLaws.{all-finite, numbers-swapped, ordered-same}
 use Rattle.numeric_sort.proofs.ShuffleLaws.{before-by, length-swapped, swapped-second, swapped-other, length-shuffled, shuffled-on}
 use Rattle.numeric_sort.proofs.ShuffleLaws.{shuffled-wider, shuffled-drawn, shuffled-kept, numbers-shuffled, ordered-shuffled}
@@ -82,7 +83,7 @@ module _ {old values : List Float} {end : ℕ} (x : Sorting old values (suc end)
         (λ g.
         let d = shuffled-drawn all-moves r i g in
         before-by (d .there) k (x .settled (d .place) j (omega (arith, d .inside)) (omega arith) (omega arith)))
-        (either (suc end) i))
+        (le-or-lt (suc end) i))
         (equal j end)
 
     turn : Sorting old new end

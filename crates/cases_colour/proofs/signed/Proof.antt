@@ -2,7 +2,8 @@
 use Prim.Native.Nat.{_-_}
 use native.Mathlib.Omega.{arith}
 use borrow.Author.Needs.{needs}
-use Rattle.cases_colour.proofs.StretchLaws.{minus-room, signed-low, signed-high}
+use Rattle.numeric.proofs.Minus.{minus-fits}
+use Rattle.cases_colour.proofs.StretchLaws.{signed-low, signed-high}
 use Rattle.cases_colour.proofs.signed.Statement.{statement}
 use Rattle.cases_colour.proofs.signed.Tie as tie
 
@@ -10,7 +11,7 @@ returns : tie.Need-returns
 returns c = signed-low _ (c .if1 .taken)
 
 sub-result-2 : tie.Need-sub-result-2
-sub-result-2 c = minus-room (4294967296 - c .before .args .x) (omega arith)
+sub-result-2 c = minus-fits (4294967296 - c .before .args .x) (omega arith)
 
 returns-2 : tie.Need-returns-2
 returns-2 c = signed-high _ (c .if1 .left)

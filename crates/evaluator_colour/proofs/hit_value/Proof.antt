@@ -1,15 +1,13 @@
 -- `hit_value` meets its contract: each literal computes to its value, and `logistic` is T.
-use mathlib.Core.Path.{ap}
 use borrow.Author.Needs.{needs}
-use lib.Ieee.{Float, binary64, ofBits, sub, mul}
-use Rattle.numeric.specs.Constants.{one64, two64}
+use lib.Ieee.{ofBits}
 use Rattle.evaluator_colour.specs.Formulas.{hitValue}
 use Rattle.evaluator_colour.proofs.hit_value.Statement.{statement}
 use Rattle.evaluator_colour.proofs.hit_value.Tie as tie
 
 returns : tie.Need-returns
 unfolding hitValue ofBits
-returns c = ap (λ (t : Float). mul binary64 two64 (sub binary64 one64 t)) (c .logistic .ensures)
+returns c = rw (c .logistic .ensures)
 
 pub hit-value-spec : {M : Type 1} → statement M
 hit-value-spec = tie.close (tie.spec (λ c κs. search needs) returns)

@@ -1,5 +1,5 @@
 -- `walk` meets its contract, by which own interval is the first that is absent, and by k where none is.
-use mathlib.Core.Path.{_≡_, refl, sym, subst, _∙_}
+use mathlib.Core.Path.{_≡_, refl, _∙_}
 use Prim.Native.Nat.{ℕ}
 use borrow.Author.Needs.{needs}
 use native.Mathlib.Omega.{arith}
@@ -13,7 +13,7 @@ use Rattle.evaluator_rhythm.proofs.walk.Tie as tie
 -- a walk whose k is known
 known : (threshold r : Float) (owns : Recent) (k n : ℕ) → k ≡ n → r ≡ walkPenalty threshold n (newestFirst owns)
     → r ≡ walkPenalty threshold k (newestFirst owns)
-known threshold r owns k n e = subst (λ (j : ℕ). r ≡ walkPenalty threshold j (newestFirst owns)) (sym e)
+known threshold r owns k n e h = rw e h
 
 returns : tie.Need-returns
 unfolding newestFirst ofBits

@@ -7,7 +7,7 @@ use lib.ListN.{length, drop, getD}
 use lib.Ieee.{Float, nan}
 use Rattle.numeric.specs.Near.{isNear}
 
--- how many of the values run on within the margin of `first`
+-- how many values, from the front, are near `first` without a break
 unfoldable pub running : Float → Float → List Float → ℕ
 running margin first [] = 0
 running margin first (v ∷ values) = cond (isNear margin v first) (suc (running margin first values)) 0

@@ -5,30 +5,26 @@ use Prim.Native.Nat.{ℕ, zero, suc, _-_, _≤_, _<_}
 use mathlib.Core.List.{List, [], _∷_, _++_}
 use lib.ListN.{length, getD}
 use lib.Ieee.{Float}
-use Rattle.lent.specs.Over.{over, part}
+use Rattle.lent.specs.Over.{part}
 use Rattle.grouping_marks.specs.Marks.{groupCount}
 use Rattle.grouping_marks.specs.Parted.{parted}
-use Rattle.numeric_sort.specs.Ordered.{ordered, AllFinite}
-use Rattle.grouping_normalizer.specs.Normalizer.{distinct}
+use Rattle.numeric_sort.specs.Ordered.{AllFinite}
+use Rattle.grouping_normalizer.specs.Normalizer.{distinctInFront}
 use Rattle.grouping_interval.specs.IntervalGrouping.{intervalMarks}
 use Rattle.grouping_same_rhythm.specs.Own.{modalDelta, ownsOf, recentOf}
 use Rattle.grouping_same_rhythm.specs.declared.own.Own.{Own}
 use Rattle.grouping_same_rhythm.specs.declared.owns.Recent.{Recent}
 use Rattle.grouping_same_rhythm.specs.declared.owns.Reached.{Reached}
 
--- a group's deltas after they were put in order, the distinct ones in front
-unfoldable pub settled : List Float → List Float
-settled deltas = over (distinct deltas) (ordered deltas)
-
 pub record Modal (margin : Float) (deltas₀ deltas : List Float) (r : Own) : Type 0 where
   pub own : r ≡ modalDelta margin deltas₀
-  pub left : deltas ≡ settled deltas₀
+  pub left : deltas ≡ distinctInFront deltas₀
 
--- the deltas of groups, of which the first k were put in order
+-- the deltas of groups, of which the first k were put in order, the distinct ones in front
 unfoldable pub settledUpTo : ℕ → List (List Float) → List Float
 settledUpTo k [] = []
 settledUpTo zero (group ∷ groups) = group ++ settledUpTo zero groups
-settledUpTo (suc k) (group ∷ groups) = settled group ++ settledUpTo k groups
+settledUpTo (suc k) (group ∷ groups) = distinctInFront group ++ settledUpTo k groups
 
 -- the own intervals once that of a further group is known
 abbrev pub recentWith : Own → Recent → Recent

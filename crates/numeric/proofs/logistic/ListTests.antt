@@ -1,10 +1,10 @@
 -- Tests of all elements of a list, or of each two neighbours, computed once over the whole list, and what they say at each place.
 -- And the value of a list that is mapped, at a place within it.
-use mathlib.Core.Path.{_≡_, refl, sym, _∙_, subst}
+use mathlib.Core.Path.{_≡_, refl}
 use mathlib.Core.Bool.{Bool, true, _&&_}
 use mathlib.Core.List.{List, [], _∷_, map}
 use Prim.Native.Nat.{ℕ, zero, suc, _+_, _<_}
-use native.Mathlib.Nat.{le-of-suc-le-suc, not-suc-le-zero, add-zero, add-suc, suc-add}
+use native.Mathlib.Nat.{le-of-suc-le-suc, not-suc-le-zero, zero-add, add-zero, add-suc, suc-add}
 use lib.Dec.{T}
 use lib.ListN.{length, getD}
 use lib.Ieee.Fits.{and-l, and-r}
@@ -14,12 +14,15 @@ abbrev pub every : (ℕ → ℕ → Bool) → ℕ → List ℕ → Bool
 every f i [] = true
 every f i (x ∷ xs) = f i x && every f (suc i) xs
 
-pub every-at : (f : ℕ → ℕ → Bool) (xs : List ℕ) (i : ℕ) → T (every f i xs) → (k : ℕ) → k < length xs → T (f (i + k) (getD xs k 0))
+every-at : (f : ℕ → ℕ → Bool) (xs : List ℕ) (i : ℕ) → T (every f i xs) → (k : ℕ) → k < length xs → T (f (i + k) (getD xs k 0))
 every-at f [] i t k h = absurd (not-suc-le-zero h)
 every-at f (x ∷ xs) i t zero h = rw add-zero (and-l (f i x) (every f (suc i) xs) t)
 every-at f (x ∷ xs) i t (suc k) h =
-    subst (λ (m : ℕ). T (f m (getD xs k 0))) (suc-add i k ∙ sym (add-suc i k))
+    rw (add-suc i k, ← suc-add i k)
     (every-at f xs (suc i) (and-r (f i x) (every f (suc i) xs) t) k (le-of-suc-le-suc h))
+
+pub every-here : (f : ℕ → ℕ → Bool) (xs : List ℕ) → T (every f 0 xs) → (k : ℕ) → k < length xs → T (f k (getD xs k 0))
+every-here f xs t k h = rw zero-add at (every-at f xs 0 t k h)
 
 -- a test that goes by the element alone, and that the 0 past the list's end passes too
 pub at-or-past : (f : ℕ → Bool) (xs : List ℕ) (i : ℕ) → T (every (λ _. f) i xs) → T (f 0) → (k : ℕ) → T (f (getD xs k 0))

@@ -1,10 +1,10 @@
 -- T(n) is 1 ÷ (1 + x^(n − 2)) rounded to f64, for every x around e^e. Rounding keeps the order, so it is enough that the value lies between two fractions
 -- that round to T(n): one test that antt computes over the whole table, at the two ends of the bracket.
-use mathlib.Core.Path.{_≡_, sym, ap, _∙_, subst}
+use mathlib.Core.Path.{_≡_, sym, ap, _∙_}
 use mathlib.Core.Logic.{inl, inr}
 use mathlib.Core.Bool.{Bool, true, false, _&&_, _||_}
 use Prim.Native.Nat.{ℕ, _+_, _-_, _*_, _^_, _<_}
-use native.Mathlib.Nat.{le-trans, le-of-eq, le-of-lt, mul-comm, mul-pos, zero-add}
+use native.Mathlib.Nat.{le-trans, le-of-eq, le-of-lt, mul-comm, mul-pos}
 use lib.Dec.{T, eqb, eqb→eq, leb→le}
 use lib.Pow.{pow-pos}
 use lib.ListN.{getD}
@@ -13,13 +13,14 @@ use lib.Ieee.Bits.{ofBits-toBits, ofBits-fits}
 use lib.Ieee.Fits.{and-i, and-l, and-r, round-fits}
 use lib.Ieee.Order.{round-mono}
 use lib.Ieee.Positive.{positive, positive-finite, between}
+use mir.Facts.{or-yes}
 use Rattle.numeric.specs.Logistic.{tableBits, logisticAt}
 use Rattle.numeric.specs.LogisticNearest.{Around, valueNum, valueDen}
 use Rattle.numeric.specs.TotalOrder.{negative, totalOrder}
-use Rattle.numeric.proofs.Tests.{or-split, or-l, or-r}
+use Rattle.numeric.proofs.Tests.{or-l, or-r}
 use Rattle.numeric.proofs.Values.{Number}
 use Rattle.numeric.proofs.order.Laws.{antisym}
-use Rattle.numeric.proofs.logistic.ListTests.{every, every-at}
+use Rattle.numeric.proofs.logistic.ListTests.{every, every-here}
 use Rattle.numeric.proofs.logistic.Between.{valueDen-pos, Inside}
 use Rattle.numeric.proofs.logistic.Bracket.{atEnds, inside-bracket}
 use Rattle.numeric.proofs.logistic.Nearest.{place, count}
@@ -33,7 +34,7 @@ in-order x (fin true m e) p h = absurd p
 in-order x (fin false m e) p h =
     let y = fin false m e in
     let s = negative x || true in
-    elim (or-split (lt x y) (eq x y) h) [
+    elim (or-yes (lt x y) (eq x y) h) [
       | inl a ↦ or-l (lt x y) (eq x y && s) a
       | inr b ↦ or-r (lt x y) (eq x y && s) (and-i (eq x y) s b (or-r (negative x) true tt))
     ]
@@ -80,13 +81,9 @@ passes : T (every bitTest 0 tableBits)
 unfolding tableBits ofBits toBits round
 passes = tt
 
-entry : (n : ℕ) → n < 264 → T (bitTest n (getD tableBits n 0))
-unfolding tableBits
-entry n h = subst (λ (m : ℕ). T (bitTest m (getD tableBits n 0))) (zero-add n) (every-at bitTest tableBits 0 passes n h)
-
 pub logistic-rounded : (n p q : ℕ) → n < 264 → Around p q → round binary64 false (valueNum p q n) (valueDen p q n) ≡ logisticAt n
-unfolding logisticAt
-logistic-rounded n p q h x = go (getD tableBits n 0) (entry n h)
+unfolding logisticAt tableBits
+logistic-rounded n p q h x = go (getD tableBits n 0) (every-here bitTest tableBits passes n h)
   where
     go : (b : ℕ) → T (bitTest n b) → round binary64 false (valueNum p q n) (valueDen p q n) ≡ ofBits binary64 b
     go b t =

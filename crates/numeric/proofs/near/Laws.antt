@@ -37,9 +37,9 @@ zeros m ue de n ud dd i uj dj D J h t =
     let c = i * uj * dd in
     let y : n * ud ≡ 0 = no-factor (n * ud) dj J (eqb→eq b 0 (and-r (eqb b c) (eqb b 0) t)) in
     let z : i * uj ≡ 0 = no-factor (i * uj) dd D (sym (eqb→eq b c (and-l (eqb b c) (eqb b 0) t)) ∙ eqb→eq b 0 (and-r (eqb b c) (eqb b 0) t)) in
-    let x : m * ue ≡ 0 = no-factor (m * ue) dd D (none-left (m * ue * dd) (n * ud * de) h (ap (λ (k : ℕ). k * de) y ∙ zero-mul de)) in
-    let p : m * ue * dj ≡ 0 = ap (λ (k : ℕ). k * dj) x ∙ zero-mul dj in
-    let q : i * uj * de ≡ 0 = ap (λ (k : ℕ). k * de) z ∙ zero-mul de in
+    let x : m * ue ≡ 0 = no-factor (m * ue) dd D (none-left (m * ue * dd) (n * ud * de) h (rw (y, zero-mul de))) in
+    let p : m * ue * dj ≡ 0 = rw (x, zero-mul dj) in
+    let q : i * uj * de ≡ 0 = rw (z, zero-mul de) in
     and-i (eqb (m * ue * dj) (i * uj * de)) (eqb (m * ue * dj) 0) (eq→eqb (p ∙ sym q)) (eq→eqb p)
 
 le-trans-plus : (x y z : Float) → Signed x false → Signed y false → T (le x y) → T (le y z) → T (le x z)
@@ -78,8 +78,8 @@ abs-neg (fin s m e) = refl
 abs-plus : (x : Float) → Signed x false → absOf x ≡ x
 unfolding absOf
 abs-plus nan h = absurd h
-abs-plus (inf s) h = ap inf (sym h)
-abs-plus (fin s m e) h = ap (λ (b : Bool). fin b m e) (sym h)
+abs-plus (inf s) h = rw h
+abs-plus (fin s m e) h = rw h
 
 abs-round : (s : Bool) (n : ℕ) → absOf (round binary64 s n L) ≡ round binary64 false n L
 abs-round false n = abs-plus (round binary64 false n L) (round-signed false n L)
@@ -101,8 +101,8 @@ abs-mixed s t u v = go (ltb u v) (ltb→lt u v) (nltb→le u v)
   where
     go : (b : Bool) → (T b → u < v) → (T (not b) → v ≤ u)
         → absOf (cond b (round binary64 t (v - u) L) (round binary64 (s && ltb v u) (u - v) L)) ≡ round binary64 false (dist u v) L
-    go true h k = abs-round t (v - u) ∙ ap (λ (n : ℕ). round binary64 false n L) (over u v (h tt))
-    go false h k = abs-round (s && ltb v u) (u - v) ∙ ap (λ (n : ℕ). round binary64 false n L) (under u v (k tt))
+    go true h k = abs-round t (v - u) ∙ rw (← over u v (h tt))
+    go false h k = abs-round (s && ltb v u) (u - v) ∙ rw (← under u v (k tt))
 
 dist-ff : (u v : ℕ) → dist u v ≡ dist (u + 0) (v + 0)
 dist-ff u v = omega arith
@@ -119,10 +119,10 @@ dist-tf u v = omega arith
 -- the difference of ±u and ±v
 abs-diff : (s : Bool) (u : ℕ) (t : Bool) (v : ℕ) → absOf (sum binary64 s u (not t) v L) ≡ round binary64 false (distance s u t v) L
 unfolding sum
-abs-diff false u false v = abs-mixed false true u v ∙ ap (λ (n : ℕ). round binary64 false n L) (dist-ff u v)
-abs-diff true u true v = abs-mixed true false u v ∙ ap (λ (n : ℕ). round binary64 false n L) (dist-tt u v)
-abs-diff false u true v = abs-round false (u + v) ∙ ap (λ (n : ℕ). round binary64 false n L) (dist-ft u v)
-abs-diff true u false v = abs-round true (u + v) ∙ ap (λ (n : ℕ). round binary64 false n L) (dist-tf u v)
+abs-diff false u false v = abs-mixed false true u v ∙ rw (← dist-ff u v)
+abs-diff true u true v = abs-mixed true false u v ∙ rw (← dist-tt u v)
+abs-diff false u true v = abs-round false (u + v) ∙ rw (← dist-ft u v)
+abs-diff true u false v = abs-round true (u + v) ∙ rw (← dist-tf u v)
 
 -- ---- near, by the distance
 sub-opened : (s : Bool) (m : ℕ) (e : ℤ) (t : Bool) (n : ℕ) (d : ℤ) → sub binary64 (fin s m e) (fin t n d) ≡ add binary64 (fin s m e) (fin (not t) n d)
@@ -151,8 +151,7 @@ module _ (margin : Float) where
       → isNear margin (fin s m e) (fin t n d) ≡ le (round binary64 false (distance s (unitsOf m e) t (unitsOf n d)) L) margin
   unfolding isNear
   near-units s m e t n d f g =
-      ap (λ (z : Float). le (absOf z) margin) (sub-opened s m e t n d ∙ sum-units s m e (not t) n d f (flipped t n d g))
-      ∙ ap (λ (z : Float). le z margin) (abs-diff s (unitsOf m e) t (unitsOf n d))
+      rw (sub-opened s m e t n d, sum-units s m e (not t) n d f (flipped t n d g), abs-diff s (unitsOf m e) t (unitsOf n d))
 
   -- what rounds a smaller distance is no larger
   le-less : (n k : ℕ) → n ≤ k → T (le (round binary64 false k L) margin) → T (le (round binary64 false n L) margin)
@@ -167,9 +166,7 @@ module _ (margin : Float) where
   sym-fin (fin s m e) (inf t) p q f g = absurd q
   sym-fin (fin s m e) (fin t n d) p q f g =
       near-units s m e t n d f g
-      ∙ ap (λ (k : ℕ). le (round binary64 false k L) margin)
-      (swap (plus s (unitsOf m e) + minus t (unitsOf n d)) (plus t (unitsOf n d) + minus s (unitsOf m e)))
-      ∙ sym (near-units t n d s m e g f)
+      ∙ rw (swap (plus s (unitsOf m e) + minus t (unitsOf n d)) (plus t (unitsOf n d) + minus s (unitsOf m e))) (sym (near-units t n d s m e g f))
 
   between-fin : (x y z : Float) → T (finite x) → T (finite y) → T (finite z) → T (fits binary64 x) → T (fits binary64 y) → T (fits binary64 z) → T (le x y)
       → T (le y z) → T (isNear margin z x) → T (isNear margin y x)
@@ -199,9 +196,7 @@ module _ (margin : Float) where
   self-fin (inf s) p f t = absurd p
   self-fin (fin s m e) p f t =
       near-units s m e s m e f f
-      ∙ ap (λ (k : ℕ). le (round binary64 false k L) margin) (nowhere (plus s (unitsOf m e) + minus s (unitsOf m e)))
-      ∙ ap (λ (z : Float). le z margin) zero-rounded
-      ∙ is-true (le zero64 margin) t
+      ∙ rw (nowhere (plus s (unitsOf m e) + minus s (unitsOf m e)), zero-rounded) (is-true (le zero64 margin) t)
 
   pub near-self : {x : Float} → Number x → T (le zero64 margin) → isNear margin x x ≡ true
   near-self {x} p t = self-fin x (p .is-finite) (p .is-held) t

@@ -1,30 +1,31 @@
--- The four answers of `total_order`.
-use mathlib.Core.Path.{_≡_, refl, sym, ap, _∙_, subst}
+-- The four answers of `total_order`: of two values that are equal and no zeros the signs are equal too, and of two zeros 1 ÷ x tells the signs apart.
+use mathlib.Core.Path.{_≡_, refl, sym, _∙_, subst}
 use mathlib.Core.Logic.{inl, inr}
-use mathlib.Core.Bool.{Bool, true, false, not, _&&_, _||_, Bool·beq, true≢false, false≢true}
+use mathlib.Core.Bool.{Bool, true, false, not, _||_, Bool·beq, true≢false, false≢true}
 use Prim.Native.Nat.{zero, suc, _*_}
 use lib.IntN.{ℤ, pos}
 use lib.Dec.{T, eqb, eqb→eq}
 use lib.Ieee.{Float, nan, inf, fin, binary64, up, down, lt, le, eq, div}
 use lib.Ieee.Fits.{and-l, and-r, and-i, eq→eqb}
+use mir.Facts.{or-yes}
 use Rattle.numeric.specs.Constants.{zero64, one64}
 use Rattle.numeric.specs.TotalOrder.{negative, totalOrder}
-use Rattle.numeric.proofs.Tests.{or-split, or-r}
+use Rattle.numeric.proofs.Tests.{or-r}
 use Rattle.numeric.proofs.Values.{not-zero, cross-pos, cross-zero}
 use lib.Ieee.Bits.{is-true}
 
 -- ---- the arms
 pub less : (x y : Float) → lt x y ≡ true → true ≡ totalOrder x y
 unfolding totalOrder
-less x y h = sym (ap (λ (b : Bool). b || (eq x y && (negative x || not (negative y)))) h)
+less x y h = rw h
 
 pub neither : (x y : Float) → lt x y ≡ false → eq x y ≡ false → false ≡ totalOrder x y
 unfolding totalOrder
-neither x y h k = sym (ap (λ (b : Bool). b || (eq x y && (negative x || not (negative y)))) h ∙ ap (λ (b : Bool). b && (negative x || not (negative y))) k)
+neither x y h k = rw (h, k)
 
 equal : (x y : Float) → lt x y ≡ false → eq x y ≡ true → totalOrder x y ≡ (negative x || not (negative y))
 unfolding totalOrder
-equal x y h k = ap (λ (b : Bool). b || (eq x y && (negative x || not (negative y)))) h ∙ ap (λ (b : Bool). b && (negative x || not (negative y))) k
+equal x y h k = rw (h, k)
 
 recip : (s t : Bool) (e d : ℤ) → le (div binary64 one64 (fin s 0 e)) (div binary64 one64 (fin t 0 d)) ≡ (s || not t)
 unfolding le div
@@ -75,7 +76,7 @@ signs (fin s zero e) (fin t n d) k z = absurd (true≢false (sym (is-true (eq (f
 signs (fin s (suc m) e) (fin t n d) k z =
     let a = suc m * up e * down d in
     let b = n * up d * down e in
-    elim (or-split (Bool·beq s t) (eqb a 0) (and-r (eqb a b) (Bool·beq s t || eqb a 0) (subst T (sym k) tt))) [
+    elim (or-yes (Bool·beq s t) (eqb a 0) (and-r (eqb a b) (Bool·beq s t || eqb a 0) (subst T (sym k) tt))) [
       | inl p ↦ same-sign s t p
       | inr q ↦ absurd (not-zero a (cross-pos m e d) (eqb→eq a 0 q))
     ]

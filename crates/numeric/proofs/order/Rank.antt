@@ -1,23 +1,24 @@
 -- A natural number for each finite value that fits, in the total order: `key`.
 -- A value that is not negative has `mid` plus its size in units of the smallest value, and a negative one lies as far below.
 -- `keyed`: totalOrder x y is the test key x ≤ key y. `key-inj`: two values with one key are one value.
-use mathlib.Core.Path.{_≡_, refl, sym, ap, _∙_, subst}
+use mathlib.Core.Path.{_≡_, refl, sym, ap, _∙_}
 use mathlib.Core.Logic.{inl, inr}
 use mathlib.Core.Bool.{Bool, true, false, not, _&&_, _||_}
 use Prim.Native.Nat.{ℕ, zero, suc, _+_, _-_, _*_, _%_, _^_, _≤_, _<_, zero-le}
 use native.Mathlib.Nat.{le-of-lt, le-of-eq, le-of-suc-le-suc, eq-or-lt-of-le, lt-of-lt-of-le, lt-of-not-le, lt-irrefl, zero-lt-suc, zero-mul, mul-one}
 use native.Mathlib.Nat.{mul-pos, mul-comm, mul-assoc, mul-left-comm, mul-right-comm, mul-lt-mul-of-pos-right, lt-of-mul-lt-mul-right}
-use native.Mathlib.Nat.{eq-of-mul-eq-mul-right, pow-succ', pow-suc}
+use native.Mathlib.Nat.{eq-of-mul-eq-mul-right, pow-succ', pow-suc, add-left-cancel, add-right-cancel}
 use native.Mathlib.Omega.{arith}
 use lib.IntN.{ℤ, pos, negsuc}
 use lib.Dec.{T, leb, ltb, eqb, leb→le, le→leb, ltb→lt, lt→ltb, eqb→eq}
 use lib.Pow.{pow-add, pow-pos, pow-lt}
 use lib.Ieee.{Float, nan, inf, fin, binary64, prec, emax, low, up, down, fits, lt, eq, below, level}
-use lib.Ieee.Fits.{and-l, and-r, down-pos, eq→eqb}
+use lib.Ieee.Fits.{and-l, and-r, and-i, down-pos, eq→eqb}
 use lib.Ieee.Scale.{finite}
 use lib.Ieee.Digits.{back}
+use mir.Facts.{or-yes}
 use Rattle.numeric.specs.TotalOrder.{totalOrder}
-use Rattle.numeric.proofs.Tests.{or-split, or-l, or-r, same-test}
+use Rattle.numeric.proofs.Tests.{or-l, or-r, same-test}
 use Rattle.numeric.proofs.Values.{flat}
 
 -- ---- the exponent, counted from 2 ^ -l
@@ -29,14 +30,8 @@ pub pow-le-back : (a l : ℕ) → 2 ^ a ≤ 2 ^ l → a ≤ l
 pow-le-back a l h = le-of-suc-le-suc (lt-of-not-le (λ (g : suc l ≤ a). lt-irrefl (2 ^ l) (lt-of-lt-of-le (pow-lt g) h)))
 
 pub ex-val : (l m : ℕ) (e : ℤ) → down e ≤ 2 ^ l → m * 2 ^ ex l e * down e ≡ m * up e * 2 ^ l
-ex-val l m (pos k) h = mul-one (m * 2 ^ (k + l)) ∙ ap (λ (z : ℕ). m * z) (pow-add 2 k l) ∙ sym (mul-assoc m (2 ^ k) (2 ^ l))
-ex-val l m (negsuc k) h =
-    mul-assoc m (2 ^ (l - suc k)) (2 ^ suc k)
-    ∙ ap (λ (z : ℕ). m * z) (sym (pow-add 2 (l - suc k) (suc k)) ∙ ap (λ (z : ℕ). 2 ^ z) (back l (suc k) (pow-le-back (suc k) l h)))
-    ∙ ap (λ (z : ℕ). z * 2 ^ l) (sym (mul-one m))
-
-shift-inj : (a b l : ℕ) → a + l ≡ b + l → a ≡ b
-shift-inj a b l h = omega arith
+ex-val l m (pos k) h = rw (mul-one, pow-add, mul-assoc)
+ex-val l m (negsuc k) h = rw (mul-one, mul-assoc, ← pow-add 2 (l - suc k) (suc k), back l (suc k) (pow-le-back (suc k) l h))
 
 apart-ex : (k j l : ℕ) → suc j ≤ l → k + l ≡ l - suc j → ⊥
 apart-ex k j l h e = omega arith
@@ -45,13 +40,13 @@ down-inj : (k j l : ℕ) → suc k ≤ l → suc j ≤ l → l - suc k ≡ l - s
 down-inj k j l h g e = omega arith
 
 ex-inj : (l : ℕ) (e d : ℤ) → down e ≤ 2 ^ l → down d ≤ 2 ^ l → ex l e ≡ ex l d → e ≡ d
-ex-inj l (pos k) (pos j) h g p = ap pos (shift-inj k j l p)
+ex-inj l (pos k) (pos j) h g p = ap pos (add-right-cancel l p)
 ex-inj l (pos k) (negsuc j) h g p = absurd (apart-ex k j l (pow-le-back (suc j) l g) p)
 ex-inj l (negsuc k) (pos j) h g p = absurd (apart-ex j k l (pow-le-back (suc k) l h) (sym p))
 ex-inj l (negsuc k) (negsuc j) h g p = ap negsuc (down-inj k j l (pow-le-back (suc k) l h) (pow-le-back (suc j) l g) p)
 
--- ---- what fitting says
-pub record Held (m : ℕ) (e : ℤ) : Type 0 where
+-- ---- what fitting says of the digits m and the exponent e of a value
+pub record InFormat (m : ℕ) (e : ℤ) : Type 0 where
   pub short : m < 2 ^ prec binary64
   pub low-enough : down e ≤ 2 ^ low binary64
   pub below-top : m * 2 ^ ex (low binary64) e < 2 ^ suc (emax binary64) * 2 ^ low binary64
@@ -63,21 +58,20 @@ suc-not-zero m h = omega arith
 under-top : (m : ℕ) (e : ℤ) (t l : ℕ) → down e ≤ 2 ^ l → m * up e < t * down e → m * 2 ^ ex l e < t * 2 ^ l
 under-top m e t l h g =
     lt-of-mul-lt-mul-right (down e)
-    (subst (λ (z : ℕ). z < t * 2 ^ l * down e) (sym (ex-val l m e h))
-    (subst (λ (z : ℕ). m * up e * 2 ^ l < z) (mul-right-comm t (down e) (2 ^ l)) (mul-lt-mul-of-pos-right g (pow-pos l))))
+    (rw (ex-val l m e h, mul-right-comm t (2 ^ l) (down e)) (mul-lt-mul-of-pos-right g (pow-pos l)))
 
-pub held : (s : Bool) (m : ℕ) (e : ℤ) → T (fits binary64 (fin s m e)) → Held m e
+pub in-format : (s : Bool) (m : ℕ) (e : ℤ) → T (fits binary64 (fin s m e)) → InFormat m e
 unfolding fits
-held s zero e t =
+in-format s zero e t =
     let p : e ≡ pos 0 = flat e (eqb→eq (up e * down e) 1 t) in
-    subst (λ (z : ℤ). Held zero z) (sym p)
+    rw p
     record {
       short = pow-pos (prec binary64);
       low-enough = pow-pos (low binary64);
       below-top = mul-pos (pow-pos (suc (emax binary64))) (pow-pos (low binary64));
       one-way = ((λ _. refl), (λ h. absurd (h refl)));
     }
-held s (suc m) e t =
+in-format s (suc m) e t =
     let A = eqb (suc m % 2) 1 in
     let B = ltb (suc m) (2 ^ prec binary64) in
     let C = leb (down e) (2 ^ low binary64) in
@@ -94,19 +88,19 @@ held s (suc m) e t =
 -- ---- the comparison's products are in the order of the sizes in units
 module _ (a b u v L P : ℕ) (p : a * L ≡ u * P) (q : b * L ≡ v * P) (hL : 0 < L) (hP : 0 < P) where
   pub lt-to : a < b → u < v
-  lt-to h = lt-of-mul-lt-mul-right P (subst (λ (z : ℕ). z < v * P) p (subst (λ (z : ℕ). a * L < z) q (mul-lt-mul-of-pos-right h hL)))
+  lt-to h = lt-of-mul-lt-mul-right P (rw (p, q) at (mul-lt-mul-of-pos-right h hL))
 
   pub lt-from : u < v → a < b
-  lt-from h = lt-of-mul-lt-mul-right L (subst (λ (z : ℕ). z < b * L) (sym p) (subst (λ (z : ℕ). u * P < z) (sym q) (mul-lt-mul-of-pos-right h hP)))
+  lt-from h = lt-of-mul-lt-mul-right L (rw (p, q) (mul-lt-mul-of-pos-right h hP))
 
   pub eq-to : a ≡ b → u ≡ v
-  eq-to h = eq-of-mul-eq-mul-right P hP u v (sym p ∙ ap (λ (z : ℕ). z * L) h ∙ q)
+  eq-to h = eq-of-mul-eq-mul-right P hP u v (cc)
 
   pub eq-from : u ≡ v → a ≡ b
-  eq-from h = eq-of-mul-eq-mul-right L hL a b (p ∙ ap (λ (z : ℕ). z * P) h ∙ sym q)
+  eq-from h = eq-of-mul-eq-mul-right L hL a b (cc)
 
 pub cross : (l m : ℕ) (e d : ℤ) → down e ≤ 2 ^ l → m * up e * down d * 2 ^ l ≡ m * 2 ^ ex l e * (down e * down d)
-cross l m e d h = mul-right-comm (m * up e) (down d) (2 ^ l) ∙ ap (λ (z : ℕ). z * down d) (sym (ex-val l m e h)) ∙ mul-assoc (m * 2 ^ ex l e) (down e) (down d)
+cross l m e d h = rw (mul-right-comm (m * up e) (down d) (2 ^ l), ← ex-val l m e h, mul-assoc (m * 2 ^ ex l e) (down e) (down d))
 
 -- ---- the key of a sign and a size below c
 abbrev pub signed : ℕ → Bool → ℕ → ℕ
@@ -115,10 +109,6 @@ signed c true u = c - suc u
 
 abbrev ord : Bool → ℕ → Bool → ℕ → Bool
 ord s a t b = below s a t b || (level s a t b && (s || not t))
-
-true-and : (x y : Bool) → T x → T y → T (x && y)
-true-and true y t u = u
-true-and false y t u = absurd t
 
 neg-order : (c u v : ℕ) → u < c → v < c → v ≤ u → c - suc u ≤ c - suc v
 neg-order c u v h k l = omega arith
@@ -129,8 +119,8 @@ neg-order-back c u v h k l = omega arith
 across : (c u v : ℕ) → u < c → c - suc u ≤ c + v
 across c u v h = omega arith
 
-never : (c u v : ℕ) → v < c → c + u ≤ c - suc v → ⊥
-never c u v h k = omega arith
+plus-not-le-minus : (c u v : ℕ) → v < c → c + u ≤ c - suc v → ⊥
+plus-not-le-minus c u v h k = omega arith
 
 add-le : (c u v : ℕ) → u ≤ v → c + u ≤ c + v
 add-le c u v h = omega arith
@@ -145,27 +135,27 @@ module _ (a b u v c : ℕ) (lt-uv : a < b → u < v) (lt-ab : u < v → a < b) (
     (eq-ab : u ≡ v → a ≡ b) (hu : u < c) (hv : v < c) where
   up-to : T (ord false a false b) → u ≤ v
   up-to t =
-      elim (or-split (ltb a b) (eqb a b && true && true) t) [
+      elim (or-yes (ltb a b) (eqb a b && true && true) t) [
         | inl x ↦ le-of-lt (lt-uv (ltb→lt a b x))
         | inr x ↦ le-of-eq (eq-uv (eqb→eq a b (and-l (eqb a b) true (and-l (eqb a b && true) true x))))
       ]
 
   up-from : u ≤ v → T (ord false a false b)
   up-from h = elim (eq-or-lt-of-le h) [
-    | inl e ↦ or-r (ltb a b) (eqb a b && true && true) (true-and (eqb a b && true) true (true-and (eqb a b) true (eq→eqb (eq-ab e)) tt) tt)
+    | inl e ↦ or-r (ltb a b) (eqb a b && true && true) (and-i (eqb a b && true) true (and-i (eqb a b) true (eq→eqb (eq-ab e)) tt) tt)
     | inr l ↦ or-l (ltb a b) (eqb a b && true && true) (lt→ltb a b (lt-ab l))
   ]
 
   down-to : T (ord true a true b) → v ≤ u
   down-to t =
-      elim (or-split (ltb b a) (eqb a b && true && true) t) [
+      elim (or-yes (ltb b a) (eqb a b && true && true) t) [
         | inl x ↦ le-of-lt (gt-uv (ltb→lt b a x))
         | inr x ↦ le-of-eq (sym (eq-uv (eqb→eq a b (and-l (eqb a b) true (and-l (eqb a b && true) true x)))))
       ]
 
   down-from : v ≤ u → T (ord true a true b)
   down-from h = elim (eq-or-lt-of-le h) [
-    | inl e ↦ or-r (ltb b a) (eqb a b && true && true) (true-and (eqb a b && true) true (true-and (eqb a b) true (eq→eqb (eq-ab (sym e))) tt) tt)
+    | inl e ↦ or-r (ltb b a) (eqb a b && true && true) (and-i (eqb a b && true) true (and-i (eqb a b) true (eq→eqb (eq-ab (sym e))) tt) tt)
     | inr l ↦ or-l (ltb b a) (eqb a b && true && true) (lt→ltb b a (gt-ab l))
   ]
 
@@ -174,7 +164,7 @@ module _ (a b u v c : ℕ) (lt-uv : a < b → u < v) (lt-ab : u < v → a < b) (
     | inl e ↦
         let z = both-zero a b (le-of-eq (sym e)) in
         or-r (ltb 0 (a + b)) (eqb a b && (false || eqb a 0) && true)
-        (true-and (eqb a b && eqb a 0) true (true-and (eqb a b) (eqb a 0) (eq→eqb (z .0 ∙ sym (z .1))) (eq→eqb (z .0))) tt)
+        (and-i (eqb a b && eqb a 0) true (and-i (eqb a b) (eqb a 0) (eq→eqb (z .0 ∙ sym (z .1))) (eq→eqb (z .0))) tt)
     | inr l ↦ or-l (ltb 0 (a + b)) (eqb a b && (false || eqb a 0) && true) (lt→ltb 0 (a + b) l)
   ]
 
@@ -190,7 +180,7 @@ module _ (a b u v c : ℕ) (lt-uv : a < b → u < v) (lt-ab : u < v → a < b) (
       (λ x. down-from (neg-order-back c u v hu hv (leb→le (c - suc u) (c - suc v) x)))
   ord-key true false = same-test (ord true a false b) (leb (c - suc u) (c + v)) (λ x. le→leb (c - suc u) (c + v) (across c u v hu)) (λ x. minus-plus)
   ord-key false true =
-      same-test (ord false a true b) (leb (c + u) (c - suc v)) (λ x. absurd (plus-minus x)) (λ x. absurd (never c u v hv (leb→le (c + u) (c - suc v) x)))
+      same-test (ord false a true b) (leb (c + u) (c - suc v)) (λ x. absurd (plus-minus x)) (λ x. absurd (plus-not-le-minus c u v hv (leb→le (c + u) (c - suc v) x)))
 
 -- ---- the key of a value
 unfoldable pub mid : ℕ
@@ -213,15 +203,15 @@ keyed (fin s m e) nan p q f g = absurd q
 keyed (fin s m e) (inf t) p q f g = absurd q
 keyed (fin s m e) (fin t n d) p q f g =
     let l = low binary64 in
-    let hx = held s m e f in
-    let hy = held t n d g in
+    let hx = in-format s m e f in
+    let hy = in-format t n d g in
     let a = m * up e * down d in
     let b = n * up d * down e in
     let u = m * 2 ^ ex l e in
     let v = n * 2 ^ ex l d in
     let P = down e * down d in
     let pa : a * 2 ^ l ≡ u * P = cross l m e d (hx .low-enough) in
-    let pb : b * 2 ^ l ≡ v * P = cross l n d e (hy .low-enough) ∙ ap (λ (z : ℕ). v * z) (mul-comm (down d) (down e)) in
+    let pb : b * 2 ^ l ≡ v * P = rw (mul-comm (down e) (down d)) (cross l n d e (hy .low-enough)) in
     let hL : 0 < 2 ^ l = pow-pos l in
     let hP : 0 < P = mul-pos (down-pos e) (down-pos d) in
     opened s m e t n d
@@ -235,17 +225,17 @@ even-odd m t o h = omega arith
 
 odd-pow : (m n a b : ℕ) → m % 2 ≡ 1 → n % 2 ≡ 1 → m * 2 ^ a ≡ n * 2 ^ b → (m ≡ n) × (a ≡ b)
 odd-pow m n zero zero o p h = (sym (mul-one m) ∙ h ∙ mul-one n, refl)
-odd-pow m n zero (suc b) o p h = absurd (even-odd m (n * 2 ^ b) o (sym (mul-one m) ∙ h ∙ ap (λ (x : ℕ). n * x) (pow-succ' 2 b) ∙ mul-left-comm n 2 (2 ^ b)))
-odd-pow m n (suc a) zero o p h = absurd (even-odd n (m * 2 ^ a) p (sym (mul-one n) ∙ sym h ∙ ap (λ (x : ℕ). m * x) (pow-succ' 2 a) ∙ mul-left-comm m 2 (2 ^ a)))
+odd-pow m n zero (suc b) o p h = absurd (even-odd m (n * 2 ^ b) o (sym (mul-one m) ∙ h ∙ rw (pow-succ' 2 b, mul-left-comm n 2 (2 ^ b))))
+odd-pow m n (suc a) zero o p h = absurd (even-odd n (m * 2 ^ a) p (sym (mul-one n) ∙ sym h ∙ rw (pow-succ' 2 a, mul-left-comm m 2 (2 ^ a))))
 odd-pow m n (suc a) (suc b) o p h =
     let r = odd-pow m n a b o p (eq-of-mul-eq-mul-right 2 (zero-lt-suc 1) (m * 2 ^ a) (n * 2 ^ b)
-    (mul-assoc m (2 ^ a) 2 ∙ ap (λ (x : ℕ). m * x) (sym (pow-suc 2 a)) ∙ h ∙ ap (λ (x : ℕ). n * x) (pow-suc 2 b) ∙ sym (mul-assoc n (2 ^ b) 2))) in
+    (rw (mul-assoc m (2 ^ a) 2, mul-assoc n (2 ^ b) 2, ← pow-suc 2 a, ← pow-suc 2 b) h)) in
     (r .0, ap suc (r .1))
 
 not-zero : (m a : ℕ) → suc m * 2 ^ a ≡ 0 → ⊥
-not-zero m a h = lt-irrefl 0 (subst (λ (x : ℕ). 0 < x) h (mul-pos (zero-lt-suc m) (pow-pos a)))
+not-zero m a h = lt-irrefl 0 (rw h at (mul-pos (zero-lt-suc m) (pow-pos a)))
 
-pub size-inj : (m : ℕ) (e : ℤ) (n : ℕ) (d : ℤ) → Held m e → Held n d → m * 2 ^ ex (low binary64) e ≡ n * 2 ^ ex (low binary64) d → (m ≡ n) × (e ≡ d)
+pub size-inj : (m : ℕ) (e : ℤ) (n : ℕ) (d : ℤ) → InFormat m e → InFormat n d → m * 2 ^ ex (low binary64) e ≡ n * 2 ^ ex (low binary64) d → (m ≡ n) × (e ≡ d)
 size-inj zero e zero d h k p = (refl, h .one-way .0 refl ∙ sym (k .one-way .0 refl))
 size-inj zero e (suc n) d h k p = absurd (not-zero n (ex (low binary64) d) (sym p ∙ zero-mul (2 ^ ex (low binary64) e)))
 size-inj (suc m) e zero d h k p = absurd (not-zero m (ex (low binary64) e) (p ∙ zero-mul (2 ^ ex (low binary64) d)))
@@ -256,17 +246,11 @@ size-inj (suc m) e (suc n) d h k p =
 neg-inj : (c u v : ℕ) → u < c → v < c → c - suc u ≡ c - suc v → u ≡ v
 neg-inj c u v h k e = omega arith
 
-add-inj : (c u v : ℕ) → c + u ≡ c + v → u ≡ v
-add-inj c u v e = omega arith
-
-sides : (c u v : ℕ) → v < c → c + u ≡ c - suc v → ⊥
-sides c u v h e = omega arith
-
 signed-inj : (c : ℕ) (s t : Bool) (u v : ℕ) → u < c → v < c → signed c s u ≡ signed c t v → (s ≡ t) × (u ≡ v)
 signed-inj c true true u v h k e = (refl, neg-inj c u v h k e)
-signed-inj c false false u v h k e = (refl, add-inj c u v e)
-signed-inj c false true u v h k e = absurd (sides c u v k e)
-signed-inj c true false u v h k e = absurd (sides c v u h (sym e))
+signed-inj c false false u v h k e = (refl, add-left-cancel c e)
+signed-inj c false true u v h k e = absurd (plus-not-le-minus c u v k (le-of-eq e))
+signed-inj c true false u v h k e = absurd (plus-not-le-minus c v u h (le-of-eq (sym e)))
 
 pub key-inj : (x y : Float) → T (finite x) → T (finite y) → T (fits binary64 x) → T (fits binary64 y) → key x ≡ key y → x ≡ y
 unfolding mid
@@ -275,8 +259,8 @@ key-inj (inf s) y p q f g h = absurd p
 key-inj (fin s m e) nan p q f g h = absurd q
 key-inj (fin s m e) (inf t) p q f g h = absurd q
 key-inj (fin s m e) (fin t n d) p q f g h =
-    let hx = held s m e f in
-    let hy = held t n d g in
+    let hx = in-format s m e f in
+    let hy = in-format t n d g in
     let r = signed-inj mid s t (m * 2 ^ ex (low binary64) e) (n * 2 ^ ex (low binary64) d) (hx .below-top) (hy .below-top) h in
     let w = size-inj m e n d hx hy (r .1) in
     λ i. fin (r .0 i) (w .0 i) (w .1 i)

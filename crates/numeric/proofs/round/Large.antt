@@ -1,22 +1,23 @@
 -- A value of 2 ^ 52 or more in size is whole, and rounding to a whole number changes nothing.
-use mathlib.Core.Path.{_≡_, refl, sym, ap, _∙_, subst}
+use mathlib.Core.Path.{_≡_, refl, sym, _∙_}
 use mathlib.Core.Bool.{Bool, true, false, _&&_, false≢true}
-use Prim.Native.Nat.{ℕ, zero, suc, _+_, _*_, _%_, _^_, _≤_, _<_, zero-le, compare}
+use Prim.Native.Nat.{ℕ, zero, suc, _+_, _*_, _%_, _^_, _≤_, _<_, zero-le}
 use native.Mathlib.Nat.{le-trans, le-of-eq, mul-one, mul-comm, mul-assoc, mul-lt-mul-of-pos-right, div-one, mod-one, zero-mul, zero-lt-suc}
 use native.Mathlib.Omega.{arith}
 use lib.IntN.{ℤ, pos, negsuc}
 use lib.Dec.{T, leb, ltb, eqb, ltb→lt}
 use lib.Pow.{pow-add, pow-pos, pow-mono}
-use lib.Ieee.{Float, nan, inf, fin, binary64, low, up, down, nearest, round, lt, fits, below}
+use lib.Ieee.{Float, nan, inf, fin, binary64, low, up, down, round, lt, fits, below}
 use lib.Ieee.Fits.{and-l, and-r, round-fits}
 use lib.Ieee.Exact.{round-exact}
 use lib.Ieee.Back.{whole-unique}
 use lib.Ieee.Nearest.{closest}
-use borrow.Author.Tests.{ltb-false, le-ltb}
+use borrow.Author.Tests.{le-ltb}
 use Rattle.numeric.specs.RoundTiesEven.{wholeFloat, roundTiesEven}
+use Rattle.numeric.proofs.Values.{from-whole}
 
 closest-whole : (a : ℕ) → closest a 1 ≡ a
-closest-whole a = ap (λ (z : ℕ). nearest z (compare (a % 1 * 2) 1)) (div-one a) ∙ ap (λ (z : ℕ). nearest a (compare (z * 2) 1)) (mod-one a)
+closest-whole a = rw (div-one a, mod-one a)
 
 -- a whole number of the format, rounded
 whole-kept : (s : Bool) (m k : ℕ) → T (fits binary64 (fin s (suc m) (pos k))) → suc m < 2 ^ 53 → suc m * 2 ^ k < 2 ^ 1024
@@ -24,11 +25,10 @@ whole-kept : (s : Bool) (m k : ℕ) → T (fits binary64 (fin s (suc m) (pos k))
 whole-kept s m k f h g =
     let l = low binary64 in
     let c = suc m * 2 ^ k in
-    let e : suc m * 2 ^ (k + l) ≡ c * 2 ^ l = ap (λ (z : ℕ). suc m * z) (pow-add 2 k l) ∙ sym (mul-assoc (suc m) (2 ^ k) (2 ^ l)) in
+    let e : suc m * 2 ^ (k + l) ≡ c * 2 ^ l = rw (pow-add 2 k l, mul-assoc (suc m) (2 ^ k) (2 ^ l)) in
     whole-unique binary64 (round binary64 s c 1) (fin s (suc m) (pos k)) s c (round-fits binary64 s c 1) f
     (round-exact binary64 s c 1 (suc m) (k + l) (zero-lt-suc 0) h
-    (subst (λ (z : ℕ). z < 2 ^ (l + 1024)) (sym e)
-    (subst (λ (z : ℕ). c * 2 ^ l < z) (mul-comm (2 ^ 1024) (2 ^ l) ∙ sym (pow-add 2 l 1024)) (mul-lt-mul-of-pos-right g (pow-pos l))))
+    (rw (e, pow-add 2 l 1024, mul-comm (2 ^ l) (2 ^ 1024)) (mul-lt-mul-of-pos-right g (pow-pos l)))
     (sym e ∙ sym (mul-one (suc m * 2 ^ (k + l)))))
     (refl, refl)
 
@@ -60,13 +60,9 @@ large s zero (pos k) f h = absurd (no-size 1 (le-trans h (le-of-eq (zero-mul (2 
 large s zero (negsuc k) f h = absurd (no-size (2 ^ suc k) h (pow-pos (suc k)))
 large s (suc m) (pos k) f h =
     let d = digits-lt s m (pos k) f in
-    sym (ap (λ (z : ℕ). round binary64 s z 1) (closest-whole (suc m * 2 ^ k))
-    ∙ whole-kept s m k f (d .0) (subst (λ (z : ℕ). suc m * 2 ^ k < z) (mul-one (2 ^ 1024)) (d .1)))
+    rw (closest-whole (suc m * 2 ^ k)) (sym (whole-kept s m k f (d .0) (rw (mul-one (2 ^ 1024)) at (d .1))))
 large s (suc m) (negsuc k) f h =
     absurd (too-large (suc m) (2 ^ 52 * 2 ^ suc k) (digits-lt s m (negsuc k) f .0) (le-trans h (le-of-eq (mul-one (suc m)))) (doubled k))
-
-over : (a b : ℕ) → ltb a b ≡ false → b ≤ a
-over a b h = ltb-false a b h
 
 pub large-above : (x : Float) → T (fits binary64 x) → lt (fin false 0 (pos 0)) x ≡ true → lt x (fin false 1 (pos 52)) ≡ false → x ≡ roundTiesEven x
 unfolding lt
@@ -74,8 +70,7 @@ large-above nan f h k = absurd (false≢true h)
 large-above (inf true) f h k = absurd (false≢true h)
 large-above (inf false) f h k = unfold roundTiesEven in refl
 large-above (fin true m e) f h k = absurd (false≢true h)
-large-above (fin false m e) f h k =
-    large false m e f (subst (λ (z : ℕ). 2 ^ 52 * down e ≤ z) (mul-one (m * up e)) (ltb-false (m * up e * 1) (1 * 2 ^ 52 * down e) k))
+large-above (fin false m e) f h k = large false m e f (from-whole (m * up e) (2 ^ 52) (down e) k)
 
 pub large-below : (x : Float) → T (fits binary64 x) → lt x (fin false 0 (pos 0)) ≡ true → lt (fin true 1 (pos 52)) x ≡ false → x ≡ roundTiesEven x
 unfolding lt
@@ -86,5 +81,4 @@ large-below (fin false m e) f h k = absurd (false≢true (sym (positive-not m e)
   where
     positive-not : (m : ℕ) (e : ℤ) → below false (m * up e * 1) false (0 * 1 * down e) ≡ false
     positive-not m e = le-ltb (m * up e * 1) (0 * 1 * down e) (le-trans (le-of-eq (zero-mul (down e))) zero-le)
-large-below (fin true m e) f h k =
-    large true m e f (subst (λ (z : ℕ). 2 ^ 52 * down e ≤ z) (mul-one (m * up e)) (ltb-false (m * up e * 1) (1 * 2 ^ 52 * down e) k))
+large-below (fin true m e) f h k = large true m e f (from-whole (m * up e) (2 ^ 52) (down e) k)

@@ -3,8 +3,8 @@ use mathlib.Core.Path.{_≡_, refl, sym, ap, _∙_}
 use mathlib.Core.List.{List}
 use borrow.Author.Needs.{needs}
 use native.Mathlib.Omega.{arith}
-use lib.ListN.{length, getD, List·getD-eq-default}
-use lib.Ieee.{Float, nan, binary64, ofBits}
+use lib.ListN.{length, List·getD-eq-default}
+use lib.Ieee.{nan, binary64, ofBits}
 use Rattle.numeric.specs.Logistic.{tableBits, logisticTable, logisticAt}
 use Rattle.numeric.proofs.logistic.ListTests.{mapped-at}
 use Rattle.numeric.proofs.logistic.logistic.Statement.{statement}
@@ -20,8 +20,7 @@ shared-slice-read-result c = omega (arith, ap length (c .before .before .pre) �
 returns : tie.Need-returns
 unfolding logisticTable logisticAt tableBits
 returns c =
-    ap (λ (t : List Float). getD t (c .before .before .args .n) nan) (c .before .before .pre)
-    ∙ mapped-at (ofBits binary64) 0 nan tableBits (c .before .before .args .n) (search needs)
+    rw (c .before .before .pre) (mapped-at (ofBits binary64) 0 nan tableBits (c .before .before .args .n) (search needs))
 
 returns-2 : tie.Need-returns-2
 unfolding logisticAt tableBits

@@ -3,11 +3,11 @@ use mathlib.Core.Path.{sym, subst}
 use borrow.Author.Needs.{needs}
 use lib.Dec.{T}
 use lib.Ieee.{binary64, fits}
-use Rattle.numeric.proofs.tenths.Size.{Within, range-within, no-nan, scaled-low, scaled-high, exp-room}
+use Rattle.numeric.proofs.tenths.Size.{SizeBelow, range-within, no-nan, scaled-low, scaled-high, exp-room}
 use Rattle.numeric.proofs.tenths.size_of.Statement.{statement}
 use Rattle.numeric.proofs.tenths.size_of.Tie as tie
 
-near : (c : tie.Start) → Within (c .args .x)
+near : (c : tie.Start) → SizeBelow (c .args .x)
 near c = range-within (c .args .x) (c .pre)
 
 held : (c : tie.Start) → T (fits binary64 (c .args .x))

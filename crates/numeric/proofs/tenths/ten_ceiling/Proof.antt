@@ -1,14 +1,13 @@
--- `tenths::ten_ceiling` meets its contract.
-use mathlib.Core.Path.{_≡_, refl, sym, ap, subst}
-use Prim.Native.Nat.{ℕ, _+_, _-_, _*_, _/_, _^_, _≤_, _<_}
+-- `tenths::ten_ceiling` meets its contract: ten times the digits is below 2 ^ 57, so from a shift of 57 on the quotient is at most 1, and below that the sum
+-- that is shifted has room.
+use mathlib.Core.Path.{_≡_, refl, sym}
+use Prim.Native.Nat.{ℕ, _+_, _-_, _*_, _^_, _≤_, _<_}
 use native.Mathlib.Nat.{le-of-lt, lt-of-le-of-lt, div-le-self}
 use native.Mathlib.Omega.{arith}
 use borrow.Author.Needs.{needs}
 use lib.Dec.{lit<}
 use lib.Pow.{pow-pos}
-use mir.Syntax.{w64}
-use mir.Val.{Fits}
-use Rattle.numeric.specs.Tenths.{ceiling, CutTo}
+use Rattle.numeric.specs.Tenths.{ceiling}
 use Rattle.numeric.proofs.tenths.Tens.{ten-lt, ceiling-zero, ceiling-one, unit-is, unit-le}
 use Rattle.numeric.proofs.tenths.ten_ceiling.Statement.{statement}
 use Rattle.numeric.proofs.tenths.ten_ceiling.Tie as tie
@@ -24,7 +23,7 @@ returns : tie.Need-returns
 returns c =
     record {
       equal = sym (ceiling-zero (10 * c .before .args .digits) (2 ^ c .before .args .shift) (pow-pos (c .before .args .shift))
-          (ap (λ (z : ℕ). 10 * z) (c .if1 .taken)));
+          (rw (c .if1 .taken)));
       small = lit< tt;
     }
 
@@ -40,13 +39,13 @@ returns-2 c =
 sub-result : tie.Need-sub-result
 sub-result c =
     let s = c .before .before .args .shift in
-    subst (λ (z : ℕ). 1 ≤ z) (sym (unit-is s (c .if2 .left))) (pow-pos s)
+    rw (unit-is s (c .if2 .left)) (pow-pos s)
 
 add-result : tie.Need-add-result
 add-result c =
     let d = c .before .before .args .digits in
     let s = c .before .before .args .shift in
-    subst (λ (z : ℕ). Fits w64 (10 * d + (z - 1))) (sym (unit-is s (c .if2 .left)))
+    rw (unit-is s (c .if2 .left))
     record { fits = wide (10 * d + (2 ^ s - 1)) (sum-lt d (2 ^ s) (c .before .before .pre) (unit-le s (c .if2 .left))) }
   where
     wide : (n : ℕ) → n < 2 ^ 58 → n < 2 ^ 64
@@ -57,7 +56,7 @@ unfolding ceiling
 returns-3 c =
     let d = c .before .before .args .digits in
     let s = c .before .before .args .shift in
-    subst (λ (z : ℕ). CutTo (ceiling (10 * d) (2 ^ s)) ((10 * d + (z - 1)) / 2 ^ s)) (sym (unit-is s (c .if2 .left)))
+    rw (unit-is s (c .if2 .left))
     record {
       equal = refl;
       small = lt-of-le-of-lt (div-le-self (10 * d + (2 ^ s - 1)) (2 ^ s))

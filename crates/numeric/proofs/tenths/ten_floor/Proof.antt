@@ -1,4 +1,4 @@
--- `tenths::ten_floor` meets its contract.
+-- `tenths::ten_floor` meets its contract: ten times the digits is below 2 ^ 57, so from a shift of 57 on nothing is left.
 use mathlib.Core.Path.{refl, sym}
 use borrow.Author.Needs.{needs}
 use native.Mathlib.Nat.{div-eq-of-lt}
