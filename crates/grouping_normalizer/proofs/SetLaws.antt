@@ -1,5 +1,5 @@
 -- The sets of the normaliser, by where each ends: `sets-at`. With it the walk from set to set, and the loops that look for a set's end and for a value.
-use mathlib.Core.Path.{_≡_, refl, sym, ap, _∙_}
+use mathlib.Core.Path.{_≡_, refl, sym, _∙_}
 use mathlib.Core.Bool.{Bool, true, false, cond, _||_}
 use mathlib.Core.List.{List, [], _∷_, _++_, append-nil}
 use Prim.Native.Nat.{ℕ, suc, _+_, _-_, _/_, _%_, _≤_, _<_}
@@ -103,21 +103,21 @@ module _ {values : List Float} {x : Float} {i : ℕ} (s : Seeking values x i) wh
 
   pub seeking-end : length values ≤ i → false ≡ holds x values
   unfolding holds
-  seeking-end h = sym (ap (holds x) (drop-of-length-le values h)) ∙ s .same
+  seeking-end h = rw (drop-of-length-le values h) at (s .same)
 
 -- ---- from set to set
 
 sets-after : (margin first : Float) (set values : List Float)
     → setsAfter margin first set values ≡ (set ++ take (running margin first values) values) ∷ sets margin (drop (running margin first values) values)
 unfolding setsAfter sets running
-sets-after margin first set [] = ap (λ (l : List Float). l ∷ []) (sym (append-nil set))
+sets-after margin first set [] = rw (append-nil set)
 sets-after margin first set (v ∷ values) = by (isNear margin v first) (running margin first values) (sets-after margin first (set ++ (v ∷ [])) values)
   where
     by : (t : Bool) (k : ℕ) → setsAfter margin first (set ++ (v ∷ [])) values ≡ ((set ++ (v ∷ [])) ++ take k values) ∷ sets margin (drop k values)
         → cond t (setsAfter margin first (set ++ (v ∷ [])) values) (set ∷ setsAfter margin v (v ∷ []) values)
         ≡ (set ++ take (cond t (suc k) 0) (v ∷ values)) ∷ sets margin (drop (cond t (suc k) 0) (v ∷ values))
-    by true k e = e ∙ ap (λ (l : List Float). l ∷ sets margin (drop k values)) (append-snoc set v (take k values))
-    by false k e = ap (λ (l : List Float). l ∷ setsAfter margin v (v ∷ []) values) (sym (append-nil set))
+    by true k e = e ∙ rw append-snoc
+    by false k e = rw (append-nil set)
 
 module _ (margin : Float) (values : List Float) (at : ℕ) (h : at < length values) where
   -- the set that starts at `at`, and the sets from its end on
@@ -126,14 +126,9 @@ module _ (margin : Float) (values : List Float) (at : ℕ) (h : at < length valu
   sets-at =
       let v : Float = getD values at nan in
       let k : ℕ = running margin v (drop (at + 1) values) in
-      let d : drop at values ≡ v ∷ drop (at + 1) values = drop-cons values at nan h ∙ ap (λ (n : ℕ). v ∷ drop n values) (sym (add-one at)) in
+      let d : drop at values ≡ v ∷ drop (at + 1) values = rw (add-one, drop-cons values at nan h) in
       let m : at + 1 + k - at ≡ suc k = omega arith in
-      ap (sets margin) d
-      ∙ sets-after margin v (v ∷ []) (drop (at + 1) values)
-      ∙ ap (λ (l : List Float). (v ∷ take k (drop (at + 1) values)) ∷ sets margin l) (drop-drop k (at + 1) values)
-      ∙ sym
-      (ap (λ (n : ℕ). take n (drop at values) ∷ sets margin (drop (at + 1 + k) values)) m
-      ∙ ap (λ (l : List Float). take (suc k) l ∷ sets margin (drop (at + 1 + k) values)) d)
+      rw (m, d, ← drop-drop k (at + 1) values) (sets-after margin v (v ∷ []) (drop (at + 1) values))
 
 -- the loop of `middle_of`: no set before `at` holds x
 pub record Looking (margin : Float) (values : List Float) (x : Float) (at : ℕ) : Type 0 where
@@ -152,7 +147,7 @@ module _ {margin : Float} {values : List Float} {x : Float} {at : ℕ} (s : Look
     here t f =
         let g : sets margin (drop at values) ≡ take (end - at) (drop at values) ∷ sets margin (drop end values) =
         rw (e .position) (sets-at margin values at h) in
-        ap (λ (b : Bool). cond b (middle (take (end - at) (drop at values))) (middleOf x (sets margin (drop end values)))) f ∙ ap (middleOf x) (sym g) ∙ s .same
+        rw (f, ← (s .same), g)
 
     pub looking-found : (t : Bool) → t ≡ holds x (take (end - at) (drop at values)) → t ≡ true
         → middle (take (end - at) (drop at values)) ≡ middleOf x (sets margin values)
@@ -163,4 +158,4 @@ module _ {margin : Float} {values : List Float} {x : Float} {at : ℕ} (s : Look
 
   pub looking-end : length values ≤ at → x ≡ middleOf x (sets margin values)
   unfolding middleOf sets
-  looking-end h = sym (ap (λ (l : List Float). middleOf x (sets margin l)) (drop-of-length-le values h)) ∙ s .same
+  looking-end h = rw (drop-of-length-le values h) at (s .same)

@@ -64,8 +64,7 @@ module _ (margin : Float) (starts : List Float) (objects : List ℕ) where
       let b : suc k - 1 ≡ k = omega arith in
       rw b
       (interval-after margin (startsOf starts objects) k (omega (arith, length-starts starts objects))
-      ∙ ap (λ (x : Float). between margin x (getD (startsOf starts objects) (suc k) nan)) (start-at starts objects k (omega arith))
-      ∙ ap (λ (x : Float). between margin (getD starts (getD objects k 0) nan) x) (start-at starts objects (suc k) h))
+      ∙ rw (start-at starts objects k (omega arith), start-at starts objects (suc k) h))
 
 -- ---- the first objects
 

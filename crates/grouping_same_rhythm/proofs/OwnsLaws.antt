@@ -40,14 +40,11 @@ known-turn {margin} {owns} {k} {recent} {group} {groups} x own m new e =
     by o d e =
         let z : k + 0 ≡ k = omega arith in
         let n : o ≡ getD owns k Absent =
-        sym (ap (λ (l : List Own). getD l 0 Absent) d) ∙ getD-drop k owns 0 Absent ∙ ap (λ (i : ℕ). getD owns i Absent) z in
+        (rw d at (getD-drop k owns 0 Absent)) ∙ rw z in
         record {
-          four = e ∙ ap (λ (p : Own). recentWith p recent) n ∙ ap (λ (q : Recent). recentWith (getD owns k Absent) q) (x .four);
+          four = e ∙ rw (n, x .four);
           next =
-              ap (λ (i : ℕ). drop i owns) (sym (add-one k))
-              ∙ sym (drop-drop 1 k owns)
-              ∙ ap (drop 1) d
-              ∙ ap (λ (q : Recent). ownsAfter margin (q .newest) groups) (sym e);
+              rw (← add-one k, ← drop-drop 1 k owns, d, e);
         }
 
 pub known-end : {margin : Float} {owns : List Own} {g : ℕ} {recent : Recent} {groups : List (List Float)}

@@ -12,6 +12,7 @@ use Rattle.grouping_marks.specs.Parted.{parted}
 use Rattle.lent.proofs.OverLaws.{length-part, getD-part}
 use Rattle.lent.proofs.PieceLaws.{part-pieces}
 use Rattle.numeric_sort.specs.Ordered.{AllFinite}
+use Rattle.grouping_normalizer.specs.Normalizer.{distinctInFront}
 use Rattle.grouping_interval.specs.IntervalGrouping.{intervalMarks}
 use Rattle.grouping_interval.specs.GroupEnd.{groupEnd}
 use Rattle.grouping_interval.proofs.EndLaws.{end-after, end-within, end-same}
@@ -19,7 +20,6 @@ use Rattle.grouping_same_rhythm.specs.declared.own.Own.{Own}
 use Rattle.grouping_same_rhythm.specs.declared.own.Own.the-variants.{Absent}
 use Rattle.grouping_same_rhythm.specs.declared.owns.Recent.{Recent}
 use Rattle.grouping_same_rhythm.specs.Own.{modalDelta, snapped, ownsOf}
-use Rattle.grouping_normalizer.specs.Normalizer.{distinctInFront}
 use Rattle.grouping_same_rhythm.specs.passes.Owns.{Modal, settledUpTo, recentWith, GroupThere, ReachedIs}
 use Rattle.grouping_same_rhythm.proofs.OwnsLaws.{Known, known-start, known-turn, known-end}
 use Rattle.grouping_same_rhythm.proofs.OwnsWalk.{groupsFrom, groups-all, groups-next, as-they-are, Notes, Walk, walk-start, walk-open, walk-turn}
@@ -47,7 +47,7 @@ reaching-start margin deltas g p =
       long = refl;
       same = refl;
       known = rw a (known-start margin (groupsFrom margin deltas deltas 0));
-      left = ap (settledUpTo (suc g)) a ∙ ap (λ (n : ℕ). settledUpTo n (groupsFrom margin deltas deltas 0)) (sym z);
+      left = rw (a, z);
     }
 
 -- the next group lies from `end` to `new`, and its deltas are as they were lent
@@ -68,7 +68,7 @@ part-finite deltas at n h f = record {
 drop-later : (a b : ℕ) (xs ys : List Float) → a ≤ b → drop a xs ≡ drop a ys → drop b xs ≡ drop b ys
 drop-later a b xs ys h e =
     let s : a + (b - a) ≡ b = omega arith in
-    ap (λ (n : ℕ). drop n xs) (sym s) ∙ sym (drop-drop (b - a) a xs) ∙ ap (drop (b - a)) e ∙ drop-drop (b - a) a ys ∙ ap (λ (n : ℕ). drop n ys) s
+    cc (drop-drop (b - a) a xs, drop-drop (b - a) a ys)
 
 -- what stands before the end of a part that was put back
 take-mid : (a b : ℕ) (xs ys : List Float) → a ≤ b → b ≤ length xs → length ys ≡ b - a → take b (putMid a (b - a) xs ys) ≡ take a xs ++ ys
@@ -116,12 +116,7 @@ module _ {margin : Float} {deltas₀ deltas : List Float} {g : ℕ} {recent : Re
         long = same-len-mid end (new - end) deltas group l ∙ x .long;
         same = drop-put end new deltas group (omega (arith, o .on)) (o .upto) size ∙ drop-later end new deltas deltas₀ (omega (arith, o .on)) (x .same);
         known = known-turn (rw u at (x .known)) own (m .own ∙ ap (modalDelta margin) (o .notes)) newest r;
-        left = x .left
-            ∙ ap (λ (groups : List (List Float)). take end deltas ++ settledUpTo (suc g - k) groups) u
-            ∙ ap (λ (i : ℕ). take end deltas ++ settledUpTo i (first ∷ rest)) n
-            ∙ ap (λ (ds : List Float). take end deltas ++ (ds ++ settledUpTo (suc g - suc k) rest)) f
-            ∙ sym (append-assoc (take end deltas) group (settledUpTo (suc g - suc k) rest))
-            ∙ ap (λ (ds : List Float). ds ++ settledUpTo (suc g - suc k) rest) (sym (take-mid end new deltas group (omega (arith, o .on)) (o .upto) size));
+        left = x .left ∙ rw (u, n, f, take-mid end new deltas group (omega (arith, o .on)) (o .upto) size, append-assoc);
       }
 
   -- group g was the last turn's
@@ -135,10 +130,5 @@ module _ {margin : Float} {deltas₀ deltas : List Float} {g : ℕ} {recent : Re
         from = w .from;
         upto = x .walk .upto;
         notes = w .here;
-        left = sym (
-            x .left
-            ∙ ap (λ (n : ℕ). take end deltas ++ settledUpTo n (groupsFrom margin deltas₀ deltas₀ end)) z
-            ∙ ap (λ (ds : List Float). take end deltas ++ ds) (as-they-are margin deltas₀ end ∙ sym (x .same))
-            ∙ take-append-drop end deltas
-            );
+        left = sym (x .left ∙ rw (z, as-they-are margin deltas₀ end, ← (x .same)) (take-append-drop end deltas));
       }

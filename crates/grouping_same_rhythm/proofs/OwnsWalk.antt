@@ -1,7 +1,7 @@
 -- The walk over the groups' ends: the groups from a position on, and the invariant that k groups are behind `end`, of which the last lies from `at` to `end`.
-use mathlib.Core.Path.{_≡_, refl, sym, ap, _∙_}
+use mathlib.Core.Path.{_≡_, refl, ap, _∙_}
 use mathlib.Core.Bool.{Bool, true, false}
-use mathlib.Core.List.{List, [], _∷_, _++_}
+use mathlib.Core.List.{List, [], _∷_}
 use Prim.Native.Nat.{ℕ, zero, suc, _+_, _-_, _≤_, _<_}
 use native.Mathlib.Numerals.{add-one}
 use native.Mathlib.Omega.{arith}
@@ -28,7 +28,7 @@ groupsFrom margin values xs at = parted (marksFrom margin (ltb 2 (length values)
 module _ {A : Type 0} (margin : Float) (values : List Float) (xs : List A) where
   pub groups-all : parted (intervalMarks margin values) xs ≡ groupsFrom margin values xs 0
   unfolding groupsFrom
-  groups-all = ap (λ (marks : List ℕ). parted marks xs) (marks-all margin values)
+  groups-all = rw (marks-all margin values)
 
   -- the group that opens there, and those from its end on
   pub groups-next : length xs ≡ length values → (at : ℕ) → at < length values
@@ -36,18 +36,16 @@ module _ {A : Type 0} (margin : Float) (values : List Float) (xs : List A) where
   unfolding groupsFrom
   groups-next l at h =
       parted-end margin values xs at h l
-      ∙ ap (λ (g : List A). g ∷ groupsFrom margin values xs (groupEnd margin values at)) (part-pieces at (groupEnd margin values at - at) xs)
+      ∙ rw (part-pieces at (groupEnd margin values at - at) xs)
 
   pub groups-past : (at : ℕ) → length values ≤ at → groupsFrom margin values xs at ≡ []
   unfolding groupsFrom
-  groups-past at h =
-      ap (λ (l : List Float). parted (marksFrom margin (ltb 2 (length values)) l) (drop at xs)) (drop-of-length-le values h)
-      ∙ parted-past margin (ltb 2 (length values)) (drop at xs)
+  groups-past at h = rw (drop-of-length-le values h) (parted-past margin (ltb 2 (length values)) (drop at xs))
 
 module _ (margin : Float) (deltas : List Float) where
   none-left : (at : ℕ) → length deltas ≤ at → settledUpTo 0 (groupsFrom margin deltas deltas at) ≡ drop at deltas
   unfolding settledUpTo
-  none-left at h = ap (settledUpTo 0) (groups-past margin deltas deltas at h) ∙ sym (drop-of-length-le deltas h)
+  none-left at h = rw (groups-past margin deltas deltas at h, drop-of-length-le deltas h)
 
   within : (n at : ℕ) → length deltas ≤ at + n → settledUpTo 0 (groupsFrom margin deltas deltas at) ≡ drop at deltas
   unfolding settledUpTo
@@ -63,9 +61,7 @@ module _ (margin : Float) (deltas : List Float) where
           let a : at < end = rw e at (end-after margin deltas at k) in
           let u : groupsFrom margin deltas deltas at ≡ part at (end - at) deltas ∷ groupsFrom margin deltas deltas end =
           rw e at (groups-next margin deltas deltas refl at k) in
-          ap (settledUpTo 0) u
-          ∙ ap (λ (l : List Float). part at (end - at) deltas ++ l) (f (omega arith))
-          ∙ part-rest at end deltas (omega arith)
+          rw (u, f (omega arith)) (part-rest at end deltas (omega arith))
 
   -- groups none of which is put in order are their items
   pub as-they-are : (at : ℕ) → settledUpTo 0 (groupsFrom margin deltas deltas at) ≡ drop at deltas
@@ -106,7 +102,7 @@ module _ {margin : Float} {deltas : List Float} {at end k : ℕ} (x : Walk margi
           let many : Bool = ltb 2 (length deltas) in
           let p : length deltas ≤ end = ltb-false end (length deltas) t in
           let z : groupCount (marksFrom margin many (drop end deltas)) ≡ 0 =
-          ap (λ (l : List Float). groupCount (marksFrom margin many l)) (drop-of-length-le deltas p) ∙ count-past margin many in
+          rw (drop-of-length-le deltas p) (count-past margin many) in
           absurd (omega (arith, x .count))
 
   pub walk-turn : end < length deltas → Walk margin deltas end (groupEnd margin deltas end) (suc k)
@@ -119,13 +115,11 @@ module _ {margin : Float} {deltas : List Float} {at end k : ℕ} (x : Walk margi
         few = omega arith;
         count = omega (arith, x .count, count-from margin deltas end h);
         rest = λ xs l.
-            ap (λ (i : ℕ). drop i (parted (intervalMarks margin deltas) xs)) (sym (add-one k)) ∙ sym (drop-drop 1 k (parted (intervalMarks margin deltas) xs))
-            ∙ ap (drop 1) (x .rest xs l ∙ groups-next margin deltas xs l end h);
+            rw (← add-one k, ← drop-drop 1 k (parted (intervalMarks margin deltas) xs), x .rest xs l, groups-next margin deltas xs l end h);
         last = λ j e. record {
           from = a;
           here = λ xs l.
               let z : k + 0 ≡ j = omega arith in
-              ap (λ (i : ℕ). getD (parted (intervalMarks margin deltas) xs) i []) (sym z) ∙ sym (getD-drop k (parted (intervalMarks margin deltas) xs) 0 [])
-              ∙ ap (λ (groups : List (List ℕ)). getD groups 0 []) (x .rest xs l ∙ groups-next margin deltas xs l end h);
+              rw (← z, ← getD-drop k (parted (intervalMarks margin deltas) xs) 0 [], x .rest xs l, groups-next margin deltas xs l end h);
         };
       }

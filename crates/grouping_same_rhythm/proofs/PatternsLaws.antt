@@ -1,6 +1,6 @@
 -- The pattern of a group: a pattern's interval, and the walk over the patterns' ends up to the pattern that holds the group.
 -- Its invariant: the walk stands at pattern `number`, which starts at `at`, and where there is a pattern before, it lies from `before` to `at`.
-use mathlib.Core.Path.{_≡_, refl, sym, ap, _∙_, subst}
+use mathlib.Core.Path.{_≡_, refl, sym, ap, _∙_}
 use mathlib.Core.List.{List, [], _∷_}
 use Prim.Native.Nat.{ℕ, zero, suc, _+_, _-_, _≤_, _<_}
 use native.Mathlib.Omega.{arith}
@@ -45,8 +45,7 @@ module _ (intervals : List Float) (at end : ℕ) (h : at < end) (u : end ≤ len
   pub interval-one : end ≤ at + 1 → getD intervals at nan ≡ patternInterval (part at (end - at) intervals)
   interval-one t =
       let z : at ≡ at + 0 = omega arith in
-      ap (λ (i : ℕ). getD intervals i nan) z
-      ∙ sym (getD-part at (end - at) intervals 0 nan (omega arith))
+      (rw (← z) at (sym (getD-part at (end - at) intervals 0 nan (omega arith))))
       ∙ interval-only (part at (end - at) intervals) (omega (arith, long))
 
 -- ---- the walk
@@ -80,7 +79,7 @@ pub found-start : (margin : Float) (intervals : List Float) (g : ℕ) → g < le
     → end ≡ groupEnd margin intervals 0 → Found margin intervals g 0 0 0 end
 found-start margin intervals g h end e = record {
   numbering = numbering-start margin intervals;
-  left = ap (λ (ms : List ℕ). parted ms intervals) (marks-all margin intervals);
+  left = rw (marks-all margin intervals);
   here = e;
   reached = omega arith;
   small = h;
@@ -103,11 +102,7 @@ module _ {margin : Float} {intervals : List Float} {g number before at end : ℕ
         from = rw (x .here) (end-after margin intervals at inside);
         upto = rw (x .here) (end-within margin intervals at inside);
         groups =
-            ap (λ (i : ℕ). getD (patterns margin intervals) i []) z
-            ∙ sym (getD-drop number (patterns margin intervals) 0 [])
-            ∙ ap (λ (l : List (List Float)). getD l 0 []) rest
-            ∙ ap (λ (n : ℕ). take n (drop at intervals)) k
-            ∙ lent-part at (end - at) intervals;
+            (rw (← z, rest, k) at (sym (getD-drop number (patterns margin intervals) 0 []))) ∙ lent-part at (end - at) intervals;
       }
 
   pub found-turn : end ≤ g → (next : ℕ) → next ≡ groupEnd margin intervals end → Found margin intervals g (number + 1) at end next
@@ -119,7 +114,7 @@ module _ {margin : Float} {intervals : List Float} {g number before at end : ℕ
         here = e;
         reached = h;
         small = x .small;
-        previous = λ _. subst (λ (p : ℕ). Lies margin intervals p at end) b found-lies;
+        previous = λ _. rw b at found-lies;
       }
 
   number-is : g < end → patternNumber margin intervals g ≡ number
@@ -138,4 +133,4 @@ module _ {margin : Float} {intervals : List Float} {g number before at end : ℕ
   unfolding patternOf
   pattern-later h n this previous t p =
       rw (number-is h, t, p, ← (found-lies .groups), ← (x .previous n .groups))
-      (ap (λ (r : Float). record { number = number; ratio = r }) (ratio-later (patterns margin intervals) number n))
+      (rw (ratio-later (patterns margin intervals) number n))

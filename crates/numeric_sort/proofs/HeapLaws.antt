@@ -1,6 +1,6 @@
 -- The later child, and the loops of `sink` and `heapify`. While a value sinks, all is a heap but for its place `at`, and what stands above `at` is not before
 -- what stands below it.
-use mathlib.Core.Path.{_≡_, refl, sym, ap, _∙_, subst}
+use mathlib.Core.Path.{_≡_, refl, sym, _∙_, subst}
 use mathlib.Core.Logic.{_≢_, ⊎-elim}
 use mathlib.Core.Bool.{true, false}
 use mathlib.Core.List.{List}
@@ -41,10 +41,10 @@ pub root-latest : {values : List Float} {end : ℕ} → Numbers values → Heap 
 root-latest {values} {end} n h r i l = climb i i (le-refl i) l
   where
     climb : (fuel i : ℕ) → i ≤ fuel → i < end → Before values i 0
-    climb zero i f l = subst (λ (k : ℕ). Before values k 0) (omega arith) (before-self n 0 (omega arith))
+    climb zero i f l = let z : i ≡ 0 = omega arith in rw z (before-self n 0 (omega arith))
     climb (suc fuel) i f l =
         ⊎-elim
-        (λ e. subst (λ (k : ℕ). Before values k 0) (sym e) (before-self n 0 (omega arith)))
+        (λ e. rw e (before-self n 0 (omega arith)))
         (λ d.
         let p : ℕ = (i - 1) / 2 in
         let up : Before values i p = h .parent p i record { low = omega arith; high = omega arith } (omega arith) l in
@@ -60,8 +60,8 @@ module _ {values : List Float} {at end : ℕ} (n : Numbers values) (a : Parent v
     child = ch;
     inside = h;
     later = λ c d g. ⊎-elim
-        (λ e. subst (λ (z : ℕ). Before values z r) (sym e) (before-self n r (omega (arith, a .room))))
-        (λ e. subst (λ (z : ℕ). Before values z r) (sym (two c d g e)) b)
+        (λ e. rw e (before-self n r (omega (arith, a .room))))
+        (λ e. rw (two c d g e) b)
         (equal c r);
   }
 
@@ -121,8 +121,8 @@ module _ {old values : List Float} {root end at : ℕ} (s : Sinking old values r
     heap = record {
       parent = λ p c ch l g. ⊎-elim
           (λ q.
-          let d : Child at c = subst (λ (z : ℕ). Child z c) q ch in
-          subst (λ (z : ℕ). Before values c z) (sym q)
+          let d : Child at c = rw q at ch in
+          rw q
           (before-trans (s .numbers) c child at (omega arith) (omega arith) (omega arith) (k .later c d g)
           (before-yes (getD values child nan) (getD values at nan) e)))
           (λ q. s .apart p c ch l g q)
@@ -142,16 +142,15 @@ module _ {old values : List Float} {root end at : ℕ} (s : Sinking old values r
     apart-after p c ch l h d =
         ⊎-elim
         (λ q.
-        let x : getD (swapped at child values) p nan ≡ getD values child nan = ap (λ (z : ℕ). getD (swapped at child values) z nan) q ∙ to-at in
+        let x : getD (swapped at child values) p nan ≡ getD values child nan = rw q to-at in
         ⊎-elim
-        (λ r. before-by (ap (λ (z : ℕ). getD (swapped at child values) z nan) r ∙ to-child) x (before-not (s .numbers) child at (omega arith) (omega arith) e))
-        (λ r. before-by (swapped-other at child values c (λ z. omega arith) r) x (k .later c (subst (λ (z : ℕ). Child z c) q ch) h))
+        (λ r. before-by (rw r to-child) x (before-not (s .numbers) child at (omega arith) (omega arith) e))
+        (λ r. before-by (swapped-other at child values c (λ z. omega arith) r) x (k .later c (rw q at ch) h))
         (equal c child))
         (λ q.
         let x : getD (swapped at child values) p nan ≡ getD values p nan = swapped-other at child values p q d in
         ⊎-elim
-        (λ r. before-by (ap (λ (z : ℕ). getD (swapped at child values) z nan) r ∙ to-at) x
-        (s .above p child (subst (λ (z : ℕ). Child p z) r ch) (k .child) l (k .inside)))
+        (λ r. before-by (rw r to-at) x (s .above p child (rw r at ch) (k .child) l (k .inside)))
         (λ r. before-by (swapped-other at child values c r (λ z. q (omega arith))) x (s .apart p c ch l h q))
         (equal c at))
         (equal p at)
@@ -159,17 +158,17 @@ module _ {old values : List Float} {root end at : ℕ} (s : Sinking old values r
     above-after : (p c : ℕ) → Child p child → Child child c → root ≤ p → c < end → Before (swapped at child values) c p
     above-after p c up down l h =
         let q : p ≡ at = omega arith in
-        before-by (swapped-other at child values c (λ z. omega arith) (λ z. omega arith)) (ap (λ (z : ℕ). getD (swapped at child values) z nan) q ∙ to-at)
+        before-by (swapped-other at child values c (λ z. omega arith) (λ z. omega arith)) (rw q to-at)
         (s .apart child c down (omega arith) h (λ z. omega arith))
 
     pub sinking-turn : (new : List Float) → new ≡ swapped at child values → Sinking old new root end child
-    sinking-turn new f = subst (λ (z : List Float). Sinking old z root end child) (sym f) record {
+    sinking-turn new f = rw f record {
       numbers = numbers-swapped at child (s .numbers) (omega arith) (omega arith);
       long = length-swapped at child values ∙ s .long;
       room = omega (arith, length-swapped at child values);
       from = omega arith;
       upto = le-of-lt (k .inside);
-      shuffled = more (s .shuffled) (omega arith) (k .inside);
+      shuffled = more {i = at} {j = child} (s .shuffled) (omega arith) (k .inside);
       apart = apart-after;
       above = above-after;
     }
@@ -197,11 +196,11 @@ heaping-start n e m = record {
 
 module _ {old values : List Float} {n root : ℕ} (x : Heaping old values n root) (h : 0 < root) where
   pub heaping-asks : Sinkable values (root - 1) n
-  heaping-asks = record {
+  heaping-asks = let z : root - 1 + 1 ≡ root = omega arith in record {
     room = omega arith;
     inside = omega (arith, x .upto);
     finite = all-finite (x .numbers);
-    below = subst (λ (z : ℕ). Heap values z n) (omega arith) (x .heap);
+    below = rw z (x .heap);
   }
 
   pub heaping-turn : (new : List Float) → Sunk values new (root - 1) n → Heaping old new n (root - 1)
@@ -215,7 +214,4 @@ module _ {old values : List Float} {n root : ℕ} (x : Heaping old values n root
   }
 
 pub heaping-end : {old values : List Float} {n root : ℕ} → Heaping old values n root → root ≤ 0 → Heaped old values
-heaping-end {old} {values} {n} {root} x h = record {
-  shuffled = subst (λ (z : ℕ). Shuffled z old values) (x .all) (x .shuffled);
-  heap = subst (λ (z : ℕ). Heap values z (length old)) (omega arith) (subst (λ (z : ℕ). Heap values root z) (x .all) (x .heap));
-}
+heaping-end {root} x h = let z : root ≡ 0 = omega arith in record { shuffled = rw (x .all) at (x .shuffled); heap = rw (x .all, z) at (x .heap) }

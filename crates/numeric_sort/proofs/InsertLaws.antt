@@ -62,6 +62,10 @@ pub data Numbers : List Float → Type 0 where
 
 -- ---- one insertion
 
+insert-none : (x : Float) → insert x [] ≡ x ∷ []
+unfolding insert
+insert-none x = refl
+
 module _ {x y : Float} (p : Number x) (q : Number y) (ys : List Float) where
   pub insert-here : rank x ≤ rank y → insert x (y ∷ ys) ≡ x ∷ y ∷ ys
   unfolding insert
@@ -98,40 +102,27 @@ module _ {x y : Float} (p : Number x) (q : Number y) where
       ⊎-elim
       (λ h. ⊎-elim
       (λ k. let e : x ≡ y = one-rank p q (le-antisymm h k) in λ i. insert (e i) (sym e i ∷ zs))
-      (λ k. insert-here p q zs h ∙ ap (λ (l : List Float). x ∷ l) (sym hy) ∙ sym (insert-past q p zs k))
+      (λ k. rw (insert-here p q zs h, insert-past q p zs k, hy))
       (le-or-lt (rank y) (rank x)))
-      (λ h. insert-past p q zs h ∙ ap (λ (l : List Float). y ∷ l) hx ∙ sym (insert-here q p zs (le-of-lt h)))
+      (λ h. rw (insert-past p q zs h, insert-here q p zs (le-of-lt h), hx))
       (le-or-lt (rank x) (rank y))
 
   -- x comes before z, and y behind it
   one-here : {z : Float} → Number z → (zs : List Float) → rank x ≤ rank z → rank z < rank y → insert x (insert y (z ∷ zs)) ≡ insert y (insert x (z ∷ zs))
   one-here {z} r zs h k =
-      ap (insert x) (insert-past q r zs k)
-      ∙ insert-here p r (insert y zs) h
-      ∙ ap (λ (l : List Float). x ∷ l) (sym (insert-past q r zs k))
-      ∙ sym (insert-past q p (z ∷ zs) (omega arith))
-      ∙ ap (insert y) (sym (insert-here p r zs h))
+      rw (insert-past q r zs k, insert-here p r (insert y zs) h, insert-here p r zs h, insert-past q p (z ∷ zs) (omega arith), insert-past q r zs k)
 
 pub insert-commute : {x y : Float} {zs : List Float} → Number x → Number y → Numbers zs → insert x (insert y zs) ≡ insert y (insert x zs)
-unfolding insert
-insert-commute p q none = both-here p q [] refl refl
+insert-commute {x} {y} p q none = rw (insert-none x, insert-none y) (both-here p q [] (insert-none x) (insert-none y))
 insert-commute {x} {y} p q (also {x = z} {xs = zs} r s) =
     ⊎-elim
     (λ h. ⊎-elim
-    (λ k.
-    ap (insert x) (insert-here q r zs k)
-    ∙ both-here p q (z ∷ zs) (insert-here p r zs h) (insert-here q r zs k)
-    ∙ ap (insert y) (sym (insert-here p r zs h)))
+    (λ k. rw (insert-here q r zs k, insert-here p r zs h) (both-here p q (z ∷ zs) (insert-here p r zs h) (insert-here q r zs k)))
     (λ k. one-here p q r zs h k)
     (le-or-lt (rank y) (rank z)))
     (λ h. ⊎-elim
     (λ k. sym (one-here q p r zs k h))
-    (λ k.
-    ap (insert x) (insert-past q r zs k)
-    ∙ insert-past p r (insert y zs) h
-    ∙ ap (λ (l : List Float). z ∷ l) (insert-commute p q s)
-    ∙ sym (insert-past q r (insert x zs) k)
-    ∙ ap (insert y) (sym (insert-past p r zs h)))
+    (λ k. rw (insert-past q r zs k, insert-past p r (insert y zs) h, insert-past p r zs h, insert-past q r (insert x zs) k, insert-commute p q s))
     (le-or-lt (rank y) (rank z)))
     (le-or-lt (rank x) (rank z))
 

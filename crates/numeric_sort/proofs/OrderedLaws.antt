@@ -1,6 +1,6 @@
 -- The laws of `ordered`. To exchange two values changes nothing of it, since to put v in the place of w is to insert v and undo the insertion of w; an
 -- ascending list is ordered.
-use mathlib.Core.Path.{_≡_, refl, sym, ap, _∙_}
+use mathlib.Core.Path.{_≡_, refl, ap, _∙_}
 use mathlib.Core.Logic.{⊎-elim}
 use mathlib.Core.List.{List, [], _∷_}
 use Prim.Native.Nat.{ℕ, zero, suc, _<_}
@@ -80,12 +80,12 @@ module _ (i j : ℕ) {xs : List Float} (n : Numbers xs) (h : i < length xs) (k :
       let ys : List Float = set xs i b in
       let m : Numbers ys = numbers-set i n (number-at j n k) in
       let e : getD ys j nan ≡ b = ⊎-elim
-      (λ e. ap (λ (l : ℕ). getD ys l nan) e ∙ getD-set-same xs i b nan h)
+      (λ e. cc (getD-set-same xs i b nan h))
       (λ d. getD-set-other xs i j b nan d)
       (equal j i) in
       let r : insert (getD ys j nan) (ordered (set ys j a)) ≡ insert a (ordered ys) = replaced j m (number-at i n h) (lt-length-set xs i b k) in
       let s : insert b (ordered (set ys j a)) ≡ insert b (ordered xs) =
-      ap (λ (z : Float). insert z (ordered (set ys j a))) (sym e) ∙ r ∙ replaced i n (number-at j n k) h in
+      (rw e at r) ∙ replaced i n (number-at j n k) h in
       insert-undo (number-at j n k) (numbers-ordered (numbers-set j m (number-at i n h))) (numbers-ordered n) s
 
 -- an ascending list

@@ -34,10 +34,8 @@ module _ (test : Float → Float → Bool) where
       let x : Float = getD values i nan in
       let y : Float = getD values (i + 1) nan in
       let d : drop (i + 1) values ≡ y ∷ drop (suc (i + 1)) values = drop-cons values (i + 1) nan h in
-      let f : drop i values ≡ x ∷ drop (i + 1) values = drop-cons values i nan (omega arith) ∙ ap (λ (n : ℕ). x ∷ drop n values) (sym (add-one i)) in
-      ap (neighbours test) (f ∙ ap (λ (l : List Float). x ∷ l) d)
-      ∙ ap (λ (b : Bool). b && neighbours test (y ∷ drop (suc (i + 1)) values)) e
-      ∙ ap (λ (l : List Float). t && neighbours test l) (sym d)
+      let f : drop i values ≡ x ∷ drop (i + 1) values = rw (add-one, drop-cons values i nan (omega arith)) in
+      rw (f, d, e)
 
 -- what the values from i on say is what all say
 pub record Testing (test : Float → Float → Bool) (values : List Float) (i : ℕ) : Type 0 where

@@ -1,6 +1,6 @@
 -- What exchanges of values do to a list: what stands at each place, that the values of the places below `end` stay among themselves, and that `ordered` stays
 -- as it is.
-use mathlib.Core.Path.{_≡_, refl, sym, ap, _∙_, subst}
+use mathlib.Core.Path.{_≡_, refl, _∙_}
 use mathlib.Core.Logic.{_≢_, ⊎-elim}
 use mathlib.Core.List.{List}
 use Prim.Native.Nat.{ℕ, _≤_, _<_}
@@ -18,7 +18,7 @@ use Rattle.numeric_sort.proofs.OrderedLaws.{numbers-swapped, ordered-sw
 
 -- the order of two values, for values equal to them
 pub before-by : {x y x′ y′ : Float} → x′ ≡ x → y′ ≡ y → T (totalOrder x y) → T (totalOrder x′ y′)
-before-by {x} {y′} e f h = subst (λ (z : Float). T (totalOrder z y′)) (sym e) (subst (λ (z : Float). T (totalOrder x z)) (sym f) h)
+before-by e f h = rw (e, f) h
 
 -- ---- one exchange
 
@@ -35,7 +35,7 @@ module _ (i j : ℕ) (xs : List Float) where
   unfolding swapped
   swapped-first h k =
       ⊎-elim
-      (λ e. ap (λ (l : ℕ). getD (swapped i j xs) l nan) e ∙ swapped-second k ∙ ap (λ (l : ℕ). getD xs l nan) e)
+      (λ e. cc (swapped-second k))
       (λ d. getD-set-other (set xs i (getD xs j nan)) j i (getD xs i nan) nan d ∙ getD-set-same xs i (getD xs j nan) nan h)
       (equal i j)
 
@@ -52,9 +52,9 @@ pub record Drawn (values : List Float) (end : ℕ) (v : Float) : Type 0 where
 swapped-drawn : (i j : ℕ) (xs : List Float) (end : ℕ) → end ≤ length xs → i < end → j < end → (k : ℕ) → k < end → Drawn xs end (getD (swapped i j xs) k nan)
 swapped-drawn i j xs end r h g k l =
     ⊎-elim
-    (λ e. record { place = j; inside = g; there = ap (λ (m : ℕ). getD (swapped i j xs) m nan) e ∙ swapped-first i j xs (omega arith) (omega arith) })
+    (λ e. record { place = j; inside = g; there = rw e (swapped-first i j xs (omega arith) (omega arith)) })
     (λ d. ⊎-elim
-    (λ e. record { place = i; inside = h; there = ap (λ (m : ℕ). getD (swapped i j xs) m nan) e ∙ swapped-second i j xs (omega arith) })
+    (λ e. record { place = i; inside = h; there = rw e (swapped-second i j xs (omega arith)) })
     (λ b. record { place = k; inside = l; there = swapped-other i j xs k d b })
     (equal k j))
     (equal k i)

@@ -1,5 +1,5 @@
 -- The loop of `heap_sort`: the first `end` places are a heap, and each value from place `end` on stands at or behind all before it.
-use mathlib.Core.Path.{_≡_, refl, sym, ap, _∙_, subst}
+use mathlib.Core.Path.{_≡_, refl, sym, _∙_}
 use mathlib.Core.Logic.{⊎-elim}
 use mathlib.Core.List.{List}
 use Prim.Native.Nat.{ℕ, suc, _-_, _≤_, _<_}
@@ -33,7 +33,7 @@ module _ {old mid : List Float} (n : Numbers old) (h : Heaped old mid) where
         long = refl;
         room = omega arith;
         same-order = refl;
-        heap = subst (λ (z : ℕ). Heap mid 0 z) (sym l) (h .heap);
+        heap = rw l (h .heap);
         settled = λ i j a b c. absurd (omega arith);
       }
 
@@ -50,7 +50,7 @@ module _ {old values : List Float} {end : ℕ} (x : Sorting old values (suc end)
 
   -- the root goes behind the heap, and what came for it may sink
   asks : (mid : List Float) → mid ≡ swapped 0 end values → Sinkable mid 0 end
-  asks mid q = subst (λ (z : List Float). Sinkable z 0 end) (sym q) record {
+  asks mid q = rw q record {
     room = omega (arith, x .room, length-swapped 0 end values);
     inside = omega arith;
     finite = all-finite (numbers-swapped 0 end (x .numbers) (omega (arith, x .room)) (omega (arith, x .room)));
@@ -75,7 +75,7 @@ module _ {old values : List Float} {end : ℕ} (x : Sorting old values (suc end)
         ⊎-elim
         (λ q.
         let d = shuffled-drawn all-moves r i (omega arith) in
-        before-by (d .there) (ap (λ (z : ℕ). getD new z nan) q ∙ last-is-root) (root-latest (x .numbers) (x .heap) r (d .place) (d .inside)))
+        before-by (d .there) (rw q last-is-root) (root-latest (x .numbers) (x .heap) r (d .place) (d .inside)))
         (λ q.
         let k : getD new j nan ≡ getD values j nan = shuffled-kept all-moves j (omega arith) in
         ⊎-elim
@@ -98,7 +98,7 @@ module _ {old values : List Float} {end : ℕ} (x : Sorting old values (suc end)
 
 module _ {old values : List Float} {end : ℕ} (x : Sorting old values end) (h : 1 < end) where
   one-less : Sorting old values (suc (end - 1))
-  one-less = subst (λ (z : ℕ). Sorting old values z) (omega arith) x
+  one-less = let z : suc (end - 1) ≡ end = omega arith in rw z x
 
   pub sorting-two : Two values 0 (end - 1)
   sorting-two = two one-less (omega arith)
@@ -107,4 +107,4 @@ module _ {old values : List Float} {end : ℕ} (x : Sorting old values end) (h :
   sorting-asks mid q = asks one-less (omega arith) mid q
 
   pub sorting-turn : (mid new : List Float) → mid ≡ swapped 0 (end - 1) values → Sunk mid new 0 (end - 1) → Sorting old new (end - 1)
-  sorting-turn mid new q s = turn one-less (omega arith) new (subst (λ (z : List Float). Sunk z new 0 (end - 1)) q s)
+  sorting-turn mid new q s = turn one-less (omega arith) new (rw q at s)

@@ -15,9 +15,6 @@ Inv-loop values₀ n k₀ i₀ values k i = Thinning values₀ values n k i
 abbrev μ-loop : tie.MeasureT-loop
 μ-loop values₀ n k₀ i₀ values k i = n - i
 
-sort-requires : tie.Need-sort-requires Inv-loop μ-loop
-sort-requires c κs = c .before .before .pre
-
 same-length : tie.Need-same-length Inv-loop μ-loop
 same-length c = long-as _ (c .before .before .before .sort .ensures)
 
@@ -52,7 +49,7 @@ distinct-values-spec =
     (tie.spec
     Inv-loop
     μ-loop
-    sort-requires
+    (λ c κs. c .before .before .pre)
     same-length
     returns
     loop-holds

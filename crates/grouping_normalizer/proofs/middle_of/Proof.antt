@@ -17,9 +17,6 @@ abbrev μ-loop : tie.MeasureT-loop
 loop-holds : tie.Need-loop-holds Inv-loop μ-loop
 loop-holds c = record { upto = omega arith; same = refl }
 
-set-end-requires : tie.Need-set-end-requires Inv-loop μ-loop
-set-end-requires c κs = c .loop-test .taken
-
 middle-value-requires : tie.Need-middle-value-requires Inv-loop μ-loop
 middle-value-requires c κs =
     let k = c .before .before .before .before in
@@ -47,7 +44,7 @@ middle-of-spec =
     Inv-loop
     μ-loop
     loop-holds
-    set-end-requires
+    (λ c κs. c .loop-test .taken)
     (λ c. omega arith)
     (λ c. omega arith)
     (λ c. omega arith)

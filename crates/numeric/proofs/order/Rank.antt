@@ -180,7 +180,8 @@ module _ (a b u v c : ℕ) (lt-uv : a < b → u < v) (lt-ab : u < v → a < b) (
       (λ x. down-from (neg-order-back c u v hu hv (leb→le (c - suc u) (c - suc v) x)))
   ord-key true false = same-test (ord true a false b) (leb (c - suc u) (c + v)) (λ x. le→leb (c - suc u) (c + v) (across c u v hu)) (λ x. minus-plus)
   ord-key false true =
-      same-test (ord false a true b) (leb (c + u) (c - suc v)) (λ x. absurd (plus-minus x)) (λ x. absurd (plus-not-le-minus c u v hv (leb→le (c + u) (c - suc v) x)))
+      same-test (ord false a true b) (leb (c + u) (c - suc v)) (λ x. absurd (plus-minus x))
+      (λ x. absurd (plus-not-le-minus c u v hv (leb→le (c + u) (c - suc v) x)))
 
 -- ---- the key of a value
 unfoldable pub mid : ℕ

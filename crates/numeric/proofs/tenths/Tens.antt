@@ -3,7 +3,8 @@ use mathlib.Core.Path.{_≡_, refl, sym, ap, _∙_}
 use mathlib.Core.Bool.{true, false}
 use Prim.Native.Nat.{ℕ, zero, suc, _+_, _-_, _*_, _/_, _%_, _^_, _≤_, _<_}
 use native.Mathlib.Nat.{le-refl, le-trans, le-of-eq, le-of-suc-le-suc, le-antisymm, lt-of-lt-of-le, lt-of-le-of-lt, mul-one, one-mul, mul-assoc, mul-right-comm}
-use native.Mathlib.Nat.{mul-le-mul-right, le-of-mul-le-mul-right, zero-mul, suc-mul, add-comm, mul-pos, div-le-self, div-eq-of-lt, div-lt-iff-lt-mul, zero-lt-suc}
+use native.Mathlib.Nat.{add-comm, mul-le-mul-right, le-of-mul-le-mul-right, zero-mul, suc-mul, mul-pos, zero-lt-suc}
+use native.Mathlib.Nat.{div-le-self, div-eq-of-lt, div-lt-iff-lt-mul}
 use native.Mathlib.Omega.{arith}
 use lib.IntN.{pos, negℤ}
 use lib.Dec.{ltb, lit<}

@@ -25,9 +25,6 @@ interval-at-requires c κs = (c .loop-test .taken, c .before .before .before .be
 loop-again : tie.Need-loop-again Inv-loop μ-loop
 loop-again c = fill-turn-front nan (c .before .before .loop .inv) (c .before .loop-test .taken) (c .interval-at .ensures)
 
-same-length : tie.Need-same-length Inv-loop μ-loop
-same-length c = c .before .loop .inv .long
-
 returns : tie.Need-returns Inv-loop μ-loop
 returns c = fill-end-front (c .before .loop .inv) (c .loop-test .left)
 
@@ -44,5 +41,5 @@ fill-intervals-spec =
     (λ c. omega arith)
     (λ c. omega arith)
     loop-again
-    same-length
+    (λ c. c .before .loop .inv .long)
     returns)

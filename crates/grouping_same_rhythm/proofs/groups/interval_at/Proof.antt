@@ -1,4 +1,4 @@
--- The first group's interval, and a later one's.
+-- The first group has none before it, so its interval is the infinity that 1.0 / 0.0 gives; a later one's is read off two neighbouring starts.
 use mathlib.Core.Path.{sym, _∙_}
 use Prim.Native.Nat.{_-_}
 use native.Mathlib.Omega.{arith}

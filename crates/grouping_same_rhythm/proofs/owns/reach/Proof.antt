@@ -51,9 +51,6 @@ loop-again c =
     (c .further .ensures)
     (c .before .before .deltas .given .0))
 
-same-length : tie.Need-same-length Inv-loop μ-loop
-same-length c = c .before .loop .inv .long
-
 returns : tie.Need-returns Inv-loop μ-loop
 returns c = reaching-end (c .before .loop .inv) (c .loop-test .left)
 
@@ -74,5 +71,5 @@ reach-spec =
     (λ c. omega arith)
     (λ c. omega arith)
     loop-again
-    same-length
+    (λ c. c .before .loop .inv .long)
     returns)

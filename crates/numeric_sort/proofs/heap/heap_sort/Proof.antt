@@ -11,9 +11,6 @@ Inv-loop values₀ end₀ values end = Sorting values₀ values end
 abbrev μ-loop : tie.MeasureT-loop
 μ-loop values₀ end₀ values end = end
 
-heapify-requires : tie.Need-heapify-requires Inv-loop μ-loop
-heapify-requires c κs = c .before .before .pre
-
 loop-holds : tie.Need-loop-holds Inv-loop μ-loop
 loop-holds c =
     let s = c .before .before .before .before in
@@ -51,7 +48,7 @@ heap-sort-spec =
     (tie.spec
     Inv-loop
     μ-loop
-    heapify-requires
+    (λ c κs. c .before .before .pre)
     loop-holds
     (λ c. omega arith)
     swap-requires

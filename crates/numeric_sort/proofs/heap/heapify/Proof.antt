@@ -23,9 +23,6 @@ loop-again c =
     let l = c .before .before .before .before in
     heaping-turn (l .before .loop .inv) (l .loop-test .taken) _ (c .before .before .sink .ensures)
 
-same-length : tie.Need-same-length Inv-loop μ-loop
-same-length c = c .before .loop .inv .long
-
 returns : tie.Need-returns Inv-loop μ-loop
 returns c = heaping-end (c .before .loop .inv) (c .loop-test .left)
 
@@ -40,5 +37,5 @@ heapify-spec =
     sink-requires
     (λ c. omega arith)
     loop-again
-    same-length
+    (λ c. c .before .loop .inv .long)
     returns)

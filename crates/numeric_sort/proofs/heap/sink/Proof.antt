@@ -50,9 +50,6 @@ loop-again c =
     sinking-turn (k .before .before .before .loop .inv) (k .later-child .result) (k .later-child .ensures)
     (sym (i .before .total-order .ensures) ∙ i .if1 .left) _ (c .before .before .swap .ensures)
 
-same-length-2 : tie.Need-same-length-2 Inv-loop μ-loop
-same-length-2 c = c .before .loop .inv .long
-
 returns-2 : tie.Need-returns-2 Inv-loop μ-loop
 returns-2 c = sinking-low (c .before .loop .inv) (c .loop-test .left)
 
@@ -76,5 +73,5 @@ sink-spec =
     swap-requires
     loop-less
     loop-again
-    same-length-2
+    (λ c. c .before .loop .inv .long)
     returns-2)
