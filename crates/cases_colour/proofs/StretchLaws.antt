@@ -1,7 +1,6 @@
 -- The stored answer of a stretch: its four bytes of tenths as a signed number, and the comparison of mean and tenths.
 use mathlib.Core.Path.{_≡_, sym, ap, subst, _∙_}
 use mathlib.Core.Bool.{false}
-use mathlib.Core.List.{List}
 use Prim.Native.Nat.{ℕ, _-_, _^_, _≤_, _<_}
 use native.Mathlib.Nat.{lt-of-lt-of-le}
 use native.Mathlib.Omega.{arith}
@@ -19,10 +18,9 @@ use Rattle.numeric.proofs.Minus.{minus-is}
 use Rattle.grouping_chart.specs.declared.object.ObjectIndex.{ObjectIndex}
 use Rattle.call_colour.specs.declared.Stretching.{Stretching}
 use Rattle.call_colour.specs.declared.Stretching.the-variants.{Done, Refused}
-use Rattle.vectors.specs.Case.{pairAt, quadAt, wordAt}
 use Rattle.vectors.specs.Held.{Tells}
 use Rattle.vectors.proofs.TellsLaws.{denied, tells-as, tells-eqb}
-use Rattle.cases_colour.specs.Colour.{signedOf, stretchOf, MeanIs}
+use Rattle.cases_colour.specs.Colour.{signedOf, MeanIs}
 use Rattle.cases_colour.specs.declared.StoredStretch.{StoredStretch}
 
 -- ---- a number with a sign
@@ -36,13 +34,6 @@ unfolding signedOf
 signed-high x h =
     let q : 4294967296 - x < 2 ^ 63 = omega arith in
     minus-is (4294967296 - x) q ∙ rw (le-ltb x 2147483648 h)
-
--- ---- what is stored
-
-pub stretch-is : (part : List ℕ) (a b mean tenths : ℕ) → a ≡ pairAt part 0 → b ≡ pairAt part 2 → mean ≡ wordAt part 4 → tenths ≡ quadAt part 12
-    → _≡_ {A = StoredStretch} (record { a = a; b = b; mean = mean; tenths = tenths }) (stretchOf part)
-unfolding stretchOf
-stretch-is part a b mean tenths p q r t = rw (p, q, r, t)
 
 -- ---- the comparison
 

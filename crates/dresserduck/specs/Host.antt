@@ -14,7 +14,6 @@ use Rattle.grouping_same_rhythm.specs.declared.own.Own.{Own}
 use Rattle.grouping_same_rhythm.specs.declared.own.Own.the-variants.{Absent, Millis}
 use Rattle.call_rhythm.specs.declared.Grouping.{Grouping}
 use Rattle.call_rhythm.specs.declared.Grouping.the-variants as grouping
-use Rattle.call_record.specs.declared.GroupRecord.{GroupRecord}
 use Rattle.call_record.specs.declared.Recording.{Recording}
 use Rattle.call_record.specs.declared.Recording.the-variants as record-answer
 use Rattle.dresserduck.specs.declared.Encoded.{Encoded}
@@ -49,27 +48,21 @@ unfoldable pub ownBits : Own → ℕ
 ownBits Absent = 0
 ownBits (Millis x) = toBits binary64 x
 
--- a group's record with these bits for its floats
-abbrev pub recordWith : GroupRecord → ℕ → ℕ → ℕ → ℕ → ℕ → ℕ → Recorded
-recordWith r has own ratio interval penalty pattern = record {
+-- a float leaves as its bits: a NaN as 7FF8000000000000
+unfoldable pub recordedOf : Recording → Recorded
+recordedOf (record-answer.Done r) = record {
   refusal = 0;
   place = 0;
   firstnote = r .first .0;
   notecount = r .notes;
-  hasown = has;
-  ownbits = own;
-  ratiobits = ratio;
-  intervalbits = interval;
-  penaltybits = penalty;
+  hasown = hasOwn (r .own);
+  ownbits = ownBits (r .own);
+  ratiobits = toBits binary64 (r .ratio);
+  intervalbits = toBits binary64 (r .interval);
+  penaltybits = toBits binary64 (r .penalty);
   patterngroup = r .pattern;
-  patternratiobits = pattern;
+  patternratiobits = toBits binary64 (r .patternratio);
 }
-
--- a float leaves as its bits: a NaN as 7FF8000000000000
-unfoldable pub recordedOf : Recording → Recorded
-recordedOf (record-answer.Done r) =
-    recordWith r (hasOwn (r .own)) (ownBits (r .own)) (toBits binary64 (r .ratio)) (toBits binary64 (r .interval))
-    (toBits binary64 (r .penalty)) (toBits binary64 (r .patternratio))
 recordedOf (record-answer.Refused number place) = record {
   refusal = number;
   place = place .0;

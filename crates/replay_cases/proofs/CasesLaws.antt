@@ -1,11 +1,9 @@
 -- A case is of one call only, so that what tells of that call's cases tells of all.
 use mathlib.Core.Path.{_≡_}
-use mathlib.Core.Bool.{Bool, true, false, _&&_}
+use mathlib.Core.Bool.{Bool, true}
 use mathlib.Core.List.{List}
 use Prim.Native.Nat.{ℕ}
 use native.Mathlib.Omega.{arith}
-use borrow.Author.Tests.{eq-eqb, ne-eqb}
-use lib.Dec.{eqb}
 use Rattle.vectors.specs.Held.{Tells}
 use Rattle.vectors.specs.declared.case.Head.{Head}
 use Rattle.cases_encode.specs.Encode.{EncodeHolds}
@@ -16,8 +14,7 @@ use Rattle.cases_rhythm.specs.Rhythm.{RhythmHolds}
 use Rattle.cases_rhythm.proofs.RhythmLaws.{rhythm-call}
 use Rattle.cases_record.specs.Record.{RecordHolds}
 use Rattle.cases_record.proofs.RecordLaws.{record-call}
-use Rattle.replay_cases.specs.Cases.{followsIn, ChartHolds, encode, colour, rhythm, PartHolds, stretch, group}
-use Rattle.replay_cases.specs.declared.Next.the-variants.{Body, Part, Nothing}
+use Rattle.replay_cases.specs.Cases.{ChartHolds, encode, colour, rhythm, PartHolds, stretch, group}
 
 module _ (h : Head) (body : List ℕ) (spare : ℕ) {r : Bool} where
   pub of-encode : h .call ≡ 1 → Tells r (EncodeHolds h body spare) → Tells r (ChartHolds h body spare)
@@ -58,23 +55,3 @@ module _ (chart : Head) (body : List ℕ) (h : Head) (part : List ℕ) (spare : 
       back : PartHolds chart body h part spare → r ≡ true
       back (stretch p) = absurd (e (stretch-call chart body h part spare p))
       back (group p) = t .1 p
-
--- ---- what follows a head
-
-module _ (call : ℕ) (h : Head) where
-  pub own-follows : h .call ≡ call → Body ≡ followsIn call h
-  unfolding followsIn
-  own-follows e = rw (eq-eqb (h .call) call e)
-
-  module _ (n : h .call ≡ call → ⊥) {a : Bool} (p : a ≡ (eqb call 2 && eqb (h .call) 3)) where
-    pub stretch-follows : a ≡ true → Part ≡ followsIn call h
-    unfolding followsIn
-    stretch-follows e = rw (ne-eqb (h .call) call n, ← p, e)
-
-    pub record-follows : {b : Bool} → b ≡ (eqb call 4 && eqb (h .call) 5) → a ≡ false → b ≡ true → Part ≡ followsIn call h
-    unfolding followsIn
-    record-follows q e f = rw (ne-eqb (h .call) call n, ← p, ← q, e, f)
-
-    pub none-follows : {b : Bool} → b ≡ (eqb call 4 && eqb (h .call) 5) → a ≡ false → b ≡ false → Nothing ≡ followsIn call h
-    unfolding followsIn
-    none-follows q e f = rw (ne-eqb (h .call) call n, ← p, ← q, e, f)

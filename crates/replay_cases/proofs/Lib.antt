@@ -1,4 +1,3 @@
 -- The laws of this crate.
 pub mod CasesLaws
 pub mod CountLaws
-pub mod TallyLaws

@@ -1,4 +1,4 @@
--- `coloured_of` meets its contract, answer by answer.
+-- Each variant is made into the record that the definition has for it.
 use mathlib.Core.Path.{sym, ap}
 use Rattle.dresserduck.specs.Host.{colouredOf}
 use borrow.Author.Needs.{needs}

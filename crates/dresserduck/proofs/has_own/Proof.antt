@@ -1,4 +1,4 @@
--- `has_own` meets its contract, case by case.
+-- Either variant gives what the definition has for it: 0 or 1.
 use mathlib.Core.Path.{sym, ap}
 use Rattle.dresserduck.specs.Host.{hasOwn}
 use borrow.Author.Needs.{needs}

@@ -1,4 +1,4 @@
--- `own_bits` meets its contract, case by case.
+-- Either variant gives what the definition has for it: 0, or the bits that `bits` ensures.
 use mathlib.Core.Path.{sym, ap, _∙_}
 use Rattle.dresserduck.specs.Host.{ownBits}
 use borrow.Author.Needs.{needs}

@@ -1,4 +1,4 @@
--- `refused_record` meets its contract: the definition's fields, one by one.
+-- The definition has the same fields for a refusal.
 use mathlib.Core.Path.{refl}
 use Rattle.dresserduck.specs.Host.{recordedOf}
 use Rattle.dresserduck.proofs.refused_record.Statement.{statement}

@@ -1,23 +1,16 @@
--- `stretched_of` meets its contract, answer by answer.
-use mathlib.Core.Path.{sym, ap, _∙_}
-use lib.IntN.{ℤ}
-use lib.Ieee.{Float}
+-- Each variant is made into the record that the definition has for it; the tenths fit 64 bits, so they leave as they came.
+use mathlib.Core.Path.{sym, ap}
 use mir.Facts.{toZ-ofZ}
-use Rattle.dresserduck.specs.declared.Stretched.{Stretched}
 use Rattle.dresserduck.specs.Host.{stretchedOf}
 use borrow.Author.Needs.{needs}
 use Rattle.dresserduck.proofs.stretched_of.Statement.{statement}
 use Rattle.dresserduck.proofs.stretched_of.Tie as tie
 
--- the record of a mean and its tenths, which leave as they came
-abbrev done : Float → ℤ → Stretched
-done mean tenths = record { refusal = 0; place = 0; mean = mean; tenths = tenths }
-
 returns : tie.Need-returns
 unfolding stretchedOf
 returns c =
     let known = c .before .answer .given in
-    ap (done (known .0 .0)) (toZ-ofZ (record { sfits = c .known-told .given .1 .0 .1 })) ∙ ap stretchedOf (sym (known .1))
+    rw (toZ-ofZ (record { sfits = c .known-told .given .1 .0 .1 })) (ap stretchedOf (sym (known .1)))
 
 returns-2 : tie.Need-returns-2
 unfolding stretchedOf

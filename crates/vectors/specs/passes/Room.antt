@@ -1,4 +1,4 @@
--- How long the slices may be that are read, filled and compared.
+-- What the passes ask of the slices that they read, fill and compare, and what each place is to hold.
 use mathlib.Core.Bool.{cond}
 use mathlib.Core.List.{List}
 use Prim.Native.Nat.{ℕ, _+_, _^_, _<_, _≤_}

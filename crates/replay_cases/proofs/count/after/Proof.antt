@@ -1,20 +1,21 @@
 -- Each variant makes the fields that the definition has for it; a case was left, so that now fewer are.
 use native.Mathlib.Omega.{arith}
-use Rattle.replay_cases.proofs.CountLaws.{after-chart, after-part, after-broken, after-end}
+use Rattle.replay_cases.proofs.CountLaws.{after-broken, after-end}
+use Rattle.replay_cases.specs.Count.{afterCase}
 use Rattle.replay_cases.proofs.count.after.Statement.{statement}
 use Rattle.replay_cases.proofs.count.after.Tie as tie
 
 returns : tie.Need-returns
+unfolding afterCase
 returns c =
     let told = c .before .before .before .before in
-    let start = told .before .before .before .before .before in
-    after-chart (start .pre) _ _ _ _ (told .c .given .1) (c .before .wrapping-add-u64 .ensures) (c .counted .ensures)
+    record { counted = rw (told .c .given .1, c .before .wrapping-add-u64 .ensures, c .counted .ensures); fewer = omega arith }
 
 returns-2 : tie.Need-returns-2
+unfolding afterCase
 returns-2 c =
     let told = c .before .before .before in
-    let start = told .before .before .before .before .before in
-    after-part (start .pre) _ _ (told .c2 .given .1) (c .counted2 .ensures)
+    record { counted = rw (told .c2 .given .1, c .counted2 .ensures); fewer = omega arith }
 
 returns-3 : tie.Need-returns-3
 returns-3 c =

@@ -1,18 +1,18 @@
 -- Whether the case held picks the definition's branch, and the counts wrap as there.
 use native.Mathlib.Omega.{arith}
-use Rattle.replay_cases.proofs.TallyLaws.{counted-held, counted-differing}
+use Rattle.replay_cases.specs.Tally.{oneMore}
 use Rattle.replay_cases.proofs.tally.counted.Statement.{statement}
 use Rattle.replay_cases.proofs.tally.counted.Tie as tie
 
 returns : tie.Need-returns
-returns c = counted-held _ _ _ (c .before .wrapping-add-u64 .ensures) (c .if1 .taken)
+unfolding oneMore
+returns c = rw (c .if1 .taken, c .before .wrapping-add-u64 .ensures)
 
 returns-2 : tie.Need-returns-2
+unfolding oneMore
 returns-2 c =
     let test = c .before .before in
-    counted-differing _ _ _ (test .before .wrapping-add-u64 .ensures) _ _ (test .if1 .left)
-    (c .before .wrapping-add-u642 .ensures)
-    (c .first-differing .ensures)
+    rw (test .if1 .left, test .before .wrapping-add-u64 .ensures, c .before .wrapping-add-u642 .ensures, c .first-differing .ensures)
 
 pub counted-spec : {M : Type 1} → statement M
 counted-spec =

@@ -1,13 +1,16 @@
 -- The code branches at the definition's own test.
-use Rattle.replay_cases.proofs.TallyLaws.{this-first, that-first}
+use borrow.Author.Tests.{eq-eqb, ne-eqb}
+use Rattle.replay_cases.specs.Tally.{firstDiffering}
 use Rattle.replay_cases.proofs.tally.first_differing.Statement.{statement}
 use Rattle.replay_cases.proofs.tally.first_differing.Tie as tie
 
 returns : tie.Need-returns
-returns c = this-first _ (c .if1 .taken)
+unfolding firstDiffering
+returns c = rw (eq-eqb _ _ (c .if1 .taken))
 
 returns-2 : tie.Need-returns-2
-returns-2 c = that-first _ (c .if1 .left)
+unfolding firstDiffering
+returns-2 c = rw (ne-eqb _ _ (c .if1 .left))
 
 pub first-differing-spec : {M : Type 1} → statement M
 first-differing-spec = tie.close (tie.spec returns returns-2)

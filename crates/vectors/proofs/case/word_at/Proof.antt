@@ -1,11 +1,12 @@
 -- Two numbers of four bytes are the eight.
 use native.Mathlib.Omega.{arith}
-use Rattle.vectors.proofs.CaseLaws.{word-is}
+use Rattle.vectors.specs.Case.{wordAt}
 use Rattle.vectors.proofs.case.word_at.Statement.{statement}
 use Rattle.vectors.proofs.case.word_at.Tie as tie
 
 returns : tie.Need-returns
-returns c = word-is _ _ _ _ (c .before .quad-at .ensures .0) (c .quad-at2 .ensures .0)
+unfolding wordAt
+returns c = rw (c .before .quad-at .ensures .0, c .quad-at2 .ensures .0)
 
 pub word-at-spec : {M : Type 1} → statement M
 word-at-spec =
