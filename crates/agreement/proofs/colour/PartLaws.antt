@@ -29,7 +29,7 @@ use Rattle.grouping_preprocessor.proofs.BoundLaws.{intervalOf-looked}
 use Rattle.grouping_colour.proofs.StreakListLaws.{streakOf-made}
 use Rattle.grouping_preprocessor.proofs.MadeLaws.{coupledPatterns-made, hitsOpen-made, hitCount-made, hitSizes-made, hitFirsts-made, hitSeconds-made}
 use Rattle.grouping_preprocessor.proofs.MadeLaws.{hitIntervals-made}
-use Rattle.agreement.specs.colour.Agreement.{FirstAlike, HitsCut, Agree}
+use Rattle.agreement.specs.passes.Agreement.{FirstAlike, HitsCut, Agree}
 
 -- what stands behind the cut: the marks of each level, and the patterns' first lengths
 pub record Back : Type 0 where

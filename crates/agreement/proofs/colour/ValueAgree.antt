@@ -13,7 +13,7 @@ use Rattle.evaluator_values.specs.Colour.{isFirst, standingAt, colourAt}
 use Rattle.evaluator_values.proofs.StandingLaws.{change-first}
 use Rattle.evaluator_values.proofs.AlikeLaws.{standing-alike, colour-alike}
 use Rattle.agreement.specs.CommonTail.{Counterparts, SameLast}
-use Rattle.agreement.specs.colour.Agreement.{FirstAlike, Agree}
+use Rattle.agreement.specs.passes.Agreement.{FirstAlike, Agree}
 use Rattle.agreement.proofs.TailLaws.{same-at}
 
 -- object 0 apart, an object is first exactly when it is not of the group of the object before
