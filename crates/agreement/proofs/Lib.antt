@@ -1,4 +1,5 @@
 -- The laws of this crate: the theorem whole, and the rooms `colour` and `rhythm`, which prove its parts. Those that are public are results of their own; the
+-- others serve these.
 pub mod TailsAgree
 pub mod TestLaws
 pub mod TailLaws

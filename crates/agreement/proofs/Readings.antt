@@ -9,7 +9,7 @@ use lib.Dec.{eqb, ltb}
 use lib.ListN.{length, getD, length-append}
 use lib.Seq.{drop-at}
 use borrow.Author.Tests.{ltb-true, eqb-true, eq-eqb, not-true, not-false}
-use Rattle.agreement.specs.Tests.{allTrue, anyBelow}
+use Rattle.agreement.specs.passes.Tests.{allTrue, anyBelow}
 use Rattle.agreement.specs.CommonTail.{Counterparts, lastOf, SameLast}
 use Rattle.agreement.specs.SameGroups.{groups, OpensAt, SameGroups}
 use Rattle.agreement.proofs.TestLaws.{all-first, all-rest, any-found, found-none}

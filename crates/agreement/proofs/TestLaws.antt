@@ -7,7 +7,7 @@ use Prim.Native.Nat.{ℕ, zero, suc, _<_}
 use native.Mathlib.Nat.{not-suc-le-zero, eq-or-lt-of-le, le-of-suc-le-suc}
 use native.Mathlib.Omega.{arith}
 use Rattle.lent.proofs.NeverLaws.{never}
-use Rattle.agreement.specs.Tests.{allTrue, anyBelow}
+use Rattle.agreement.specs.passes.Tests.{allTrue, anyBelow}
 
 pub not-of : (a : Bool) → a ≡ false → not a ≡ true
 not-of a e = rw e

@@ -1,4 +1,4 @@
--- How two lists that end alike are laid side by side: counterparts, and the last m.
+-- How two lists that end alike are laid side by side (scope: "Landmarks"): counterparts, and the last m.
 use Prim.Native.Nat.{ℕ, _+_, _-_, _≤_}
 use mathlib.Core.Path.{_≡_}
 use mathlib.Core.List.{List}

@@ -1,5 +1,5 @@
--- When two groupings agree: groups open at the same objects, and these groups hold the same objects.
--- For hit patterns and for rhythm groups, whose objects are notes.
+-- When two groupings agree, counted from the end (scope: "Landmarks"): of hit patterns, and of rhythm groups, whose
+-- objects are notes.
 use Prim.Native.Nat.{ℕ, _≤_, _<_}
 use mathlib.Core.Path.{_≡_}
 use mathlib.Core.Logic.{_↔_}
@@ -34,9 +34,9 @@ pub record SameObjects (g : Groups) (i : ℕ) (g′ : Groups) (i′ : ℕ) : Typ
 
 -- from object p of the one grouping and object p′ of the other on
 pub record SameGroups (g : Groups) (p : ℕ) (g′ : Groups) (p′ : ℕ) : Type 0 where
-  -- these two are counterparts
+  -- the two are counterparts themselves
   pub start : Counterparts (g .count) (g′ .count) p p′
-  -- a group opens at an object exactly when one opens at its counterpart
+  -- further on, an object begins a group in both groupings or in neither
   pub opens : (i i′ : ℕ) → p ≤ i → Counterparts (g .count) (g′ .count) i i′ → OpensAt g i ↔ OpensAt g′ i′
-  -- and the two hold the same objects
+  -- and where it begins one, neither group has an object that the other lacks
   pub same : (i i′ : ℕ) → p ≤ i → Counterparts (g .count) (g′ .count) i i′ → OpensAt g i → SameObjects g i g′ i′

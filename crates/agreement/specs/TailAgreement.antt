@@ -2,8 +2,8 @@
 --
 -- Two charts are accepted, and their last m objects are alike. What stands before these may change how the first of
 -- them are grouped. But some places of the common tail are landmarks, and from a landmark on both charts get the same
--- answers. This file is the claim whole: demand 3. `tails-agree`, in proofs/TailsAgree.antt, proves it
--- of every two such charts, for every set of settings.
+-- answers. This file is the claim whole: demand 3 (scope: "Landmarks"). `tails-agree`, in proofs/TailsAgree.antt,
+-- proves it of every two such charts, for every set of settings.
 use Prim.Native.Nat.{ℕ, _+_, _≤_, _<_}
 use mathlib.Core.Logic.{_⊎_}
 use Rattle.grouping_chart.specs.Chart.{Chart, size}
@@ -14,7 +14,7 @@ use Rattle.agreement.specs.colour.Landmark.{ColourLandmark}
 use Rattle.agreement.specs.colour.Claim.{ColourClaim}
 use Rattle.agreement.specs.rhythm.Claim.{noteCount, rhythmGroups, LandmarkNote, SameNote}
 
--- The common tail: the last m objects of both charts are alike in kind, delta and ratio. When they start may differ.
+-- What the charts have in common: m objects at the end, with the same kinds, deltas and ratios. No start is asked for.
 pub record AlikeTails (c c′ : Chart) (m : ℕ) : Type 0 where
   pub kinds : SameLast m (c .kinds) (c′ .kinds)
   pub deltas : SameLast m (c .deltas) (c′ .deltas)

@@ -18,7 +18,7 @@ use Rattle.grouping_interval.specs.Notes.{noteObjects, ofNotes}
 use Rattle.grouping_chart.proofs.ObjectLaws.{notes-few}
 use Rattle.grouping_interval.proofs.NoteLaws.{object-below, of-notes-all, length-note-objects}
 use Rattle.grouping_interval.specs.IntervalGrouping.{intervalMarks}
-use Rattle.grouping_interval.specs.Notes.{NotesListed}
+use Rattle.grouping_interval.specs.passes.Rooms.{NotesListed}
 use Rattle.grouping_same_rhythm.specs.SameRhythm.{groupObjects, groupDeltas}
 use Rattle.grouping_same_rhythm.specs.Own.{ownsOf}
 use Rattle.grouping_same_rhythm.specs.Own.{recentOf}

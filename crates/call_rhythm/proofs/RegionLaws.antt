@@ -19,7 +19,8 @@ use Rattle.grouping_marks.proofs.MarksLaws.{length-numbers, count-le, count-non
 use Rattle.grouping_marks.proofs.MarksLaws.{length-firsts as length-firsts-of}
 use Rattle.grouping_marks.proofs.NumberLaws.{number-last}
 use Rattle.grouping_interval.specs.IntervalGrouping.{intervalMarks}
-use Rattle.grouping_interval.specs.GroupByInterval.{Places, GroupedByInterval}
+use Rattle.grouping_interval.specs.GroupByInterval.{GroupedByInterval}
+use Rattle.grouping_interval.specs.passes.Rooms.{ValuesRoom}
 use Rattle.grouping_interval.proofs.IntervalLaws.{length-marks}
 use Rattle.grouping_same_rhythm.specs.SameRhythm.{firstsOf, startsOf, intervalsOf}
 use Rattle.grouping_same_rhythm.specs.passes.Groups.{IntervalsRoom}
@@ -173,7 +174,7 @@ module _ {starts : List Float} {n groups : ℕ} {work : List ℕ} {scratch₀ : 
       pub values-lent : groups ≤ length scratch
       values-lent = omega (arith, ap length written, length-over intervals scratch₀ (omega (arith, length-all, r .most, r .floats)), r .most, r .floats)
 
-      pub groups-places : Places (take groups scratch) (take (3 * n + groups - 3 * n) (drop (3 * n) work))
+      pub groups-places : ValuesRoom (take groups scratch) (take (3 * n + groups - 3 * n) (drop (3 * n) work))
       groups-places =
           let l : length (take groups scratch) ≡ groups = length-take-le groups scratch values-lent in
           let p : length (take (3 * n + groups - 3 * n) (drop (3 * n) work)) ≡ groups =

@@ -19,7 +19,7 @@ use Rattle.grouping_chart.proofs.ObjectLaws.{notes-few}
 use Rattle.grouping_interval.proofs.NoteLaws.{length-note-objects, length-of-notes, object-below}
 use Rattle.grouping_interval.specs.IntervalGrouping.{intervalMarks}
 use Rattle.grouping_interval.proofs.IntervalLaws.{length-marks}
-use Rattle.grouping_interval.specs.Notes.{NotesListed}
+use Rattle.grouping_interval.specs.passes.Rooms.{NotesListed}
 use Rattle.grouping_same_rhythm.specs.SameRhythm.{firstsOf, startsOf, intervalsOf, rhythmMarks, groupObjects, groupIntervals}
 use Rattle.grouping_same_rhythm.proofs.MadeLaws.{rhythmMarks-made, groupObjects-made, groupIntervals-made}
 use Rattle.grouping_same_rhythm.proofs.GroupsLaws.{length-starts, length-intervals, length-firsts, firsts-inside}

@@ -1,11 +1,11 @@
 -- Sizes: every colour value of an accepted chart is finite, no NaN, and at most `largestColour` in size.
-use mathlib.Core.Path.{_≡_, sym, subst}
+use mathlib.Core.Path.{_≡_}
 use mathlib.Core.Bool.{not}
 use Prim.Native.Nat.{ℕ, _-_, _<_}
 use native.Mathlib.Omega.{arith}
 use lib.Dec.{T}
 use lib.ListN.{getD}
-use lib.Ieee.{Float, nan, binary64, fits, isNan, le, mul}
+use lib.Ieee.{nan, binary64, isNan, le, mul}
 use lib.Ieee.Fits.{mul-fits}
 use Rattle.numeric.specs.Range.{leastRatio, greatestRatio}
 use Rattle.numeric.proofs.Values.{Number, number-no-nan}
@@ -26,30 +26,29 @@ use Rattle.evaluator_values.proofs.StandingLaws.{value-of}
 abbrev pub largestColour : ℕ
 largestColour = 83886085
 
+value-is : (s : Settings) (c : Chart) (i : ℕ) → i < size c
+    → getD (valuesOf s c) i nan ≡ mul binary64 (objectSum (standingAt (s .limit) (c .kinds) i))
+    (ratioPenalty (s .tolerance) i (getD (c .ratios) i nan) (getD (c .ratios) (i - 2) nan))
+unfolding colourAt
+value-is s c i h = value-of (s .limit) (s .tolerance) (c .kinds) (c .ratios) i h
+
+ratio-at : {c : Chart} {beside : ℕ} → GoodChart c beside → (i : ℕ) → i < size c
+    → T (le leastRatio (getD (c .ratios) i nan)) × T (le (getD (c .ratios) i nan) greatestRatio)
+ratio-at {c} g i h = ratio-range (getD (c .ratios) i nan) (g .objects i nan h .ratio)
+
 module _ (s : Settings) (c : Chart) (beside : ℕ) (accepted : verdict c beside ≡ Accepted) where
-  good : GoodChart c beside
-  good = accepted-good c beside accepted
-
-  value-is : (i : ℕ) → i < size c
-      → getD (valuesOf s c) i nan ≡ mul binary64 (objectSum (standingAt (s .limit) (c .kinds) i))
-      (ratioPenalty (s .tolerance) i (getD (c .ratios) i nan) (getD (c .ratios) (i - 2) nan))
-  unfolding colourAt
-  value-is i h = value-of (s .limit) (s .tolerance) (c .kinds) (c .ratios) i h
-
-  ratio-at : (i : ℕ) → i < size c → T (le leastRatio (getD (c .ratios) i nan)) × T (le (getD (c .ratios) i nan) greatestRatio)
-  ratio-at i h = ratio-range (getD (c .ratios) i nan) (good .objects i nan h .ratio)
-
   pub value-bounded : (i : ℕ) → i < size c → Bounded (getD (valuesOf s c) i nan) largestColour
   value-bounded i h =
-      let r = ratio-at i h in
-      let p = ratio-at (i - 2) (omega arith) in
-      subst (λ (x : Float). Bounded x largestColour) (sym (value-is i h))
+      let good = accepted-good c beside accepted in
+      let r = ratio-at good i h in
+      let p = ratio-at good (i - 2) (omega arith) in
+      rw (value-is s c i h)
       (formulas.colour-bounded (s .tolerance) i (getD (c .ratios) i nan) (getD (c .ratios) (i - 2) nan) (r .0) (r .1) (p .0) (p .1)
       (standingAt (s .limit) (c .kinds) i))
 
   pub value-number : (i : ℕ) → i < size c → Number (getD (valuesOf s c) i nan)
   value-number i h =
-      bounded-number (getD (valuesOf s c) i nan) largestColour (subst (λ (x : Float). T (fits binary64 x)) (sym (value-is i h)) (mul-fits binary64 _ _))
+      bounded-number (getD (valuesOf s c) i nan) largestColour (rw (value-is s c i h) (mul-fits binary64 _ _))
       (value-bounded i h)
 
   pub value-no-nan : (i : ℕ) → i < size c → T (not (isNan (getD (valuesOf s c) i nan)))

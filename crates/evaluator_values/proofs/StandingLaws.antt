@@ -9,8 +9,7 @@ use lib.ListN.{length, getD}
 use lib.Ieee.{Float, nan}
 use Rattle.lent.proofs.FillLaws.{length-tabulate, getD-tabulate}
 use Rattle.evaluator_colour.specs.declared.Standing.{Standing}
-use Rattle.evaluator_values.specs.Colour.{isFirst, standingAt, colourAt, colourValues}
-use Rattle.evaluator_values.specs.passes.Tables.{StandingIs}
+use Rattle.evaluator_values.specs.Colour.{isFirst, colourAt, colourValues}
 
 -- ---- the first object of a group
 pub start-first : (numbers : List ℕ) (i : ℕ) → i ≡ 0 → true ≡ isFirst numbers i
@@ -21,9 +20,17 @@ pub change-first : (numbers : List ℕ) (i x y : ℕ) → (i ≡ 0 → ⊥) → 
 unfolding isFirst
 change-first numbers i x y h p q = rw (ne-eqb i 0 h) (λ t. not (eqb (p t) (q t)))
 
-pub standing-is : {limit : ℕ} {kinds : List ℕ} {i : ℕ} {r : Standing} → StandingIs limit kinds i r → r ≡ standingAt limit kinds i
-unfolding standingAt
-standing-is e t = record {
+-- ---- two standings, number by number
+pub record SameStanding (o p : Standing) : Type 0 where
+  pub interval : o .interval ≡ p .interval
+  pub patternPlace : o .«pattern_place» ≡ p .«pattern_place»
+  pub streakPlace : o .«streak_place» ≡ p .«streak_place»
+  pub streak : o .streak ≡ p .streak
+  pub pattern : o .pattern ≡ p .pattern
+  pub hit : o .hit ≡ p .hit
+
+pub same-standing : {o p : Standing} → SameStanding o p → o ≡ p
+same-standing e t = record {
   interval = e .interval t;
   «pattern_place» = e .patternPlace t;
   «streak_place» = e .streakPlace t;

@@ -5,8 +5,8 @@ ghost use lib.ListN.{length, getD};
 ghost use lib.Ieee.{nan};
 ghost use Rattle.lent.specs.Slice.{lent, left};
 ghost use Rattle.lent.specs.Over.{over};
-ghost use Rattle.evaluator_values.specs.Colour.{colourAt, colourValues};
-ghost use Rattle.evaluator_values.specs.passes.Tables.{ObjectIn, NumbersAt, StandingIs, Lent};
+ghost use Rattle.evaluator_values.specs.Colour.{standingAt, colourAt, colourValues};
+ghost use Rattle.evaluator_values.specs.passes.Tables.{ObjectIn, NumbersAt, Sources};
 use evaluator_colour::Standing;
 use grouping_chart::object::ObjectIndex;
 use grouping_preprocessor::Levels;
@@ -36,7 +36,7 @@ fn numbers_at(kind: &[u8], w: &[u16], k: Levels, idx: ObjectIndex) -> Numbers
 
 fn standing_at(kind: &[u8], w: &[u16], k: Levels, idx: ObjectIndex) -> Standing
     requires { ⌜ ObjectIn (now kind) (now w) k (idx .0) ⌝ }
-    ensures { λ r. ⌜ StandingIs (k .limit) (lent kind) (idx .0) r ⌝ }
+    ensures { λ r. ⌜ r ≡ standingAt (k .limit) (lent kind) (idx .0) ⌝ }
 {
     let n = kind.len();
     let i = idx.0;
@@ -89,7 +89,7 @@ fn value_at(
     tolerance: f64,
     idx: ObjectIndex,
 ) -> f64
-    requires { ⌜ Lent (now table) (now kind) (now ratio) (now w) k ⌝ ∗ ⌜ idx .0 < length (now kind) ⌝ }
+    requires { ⌜ Sources (now table) (now kind) (now ratio) (now w) k ⌝ ∗ ⌜ idx .0 < length (now kind) ⌝ }
     ensures { λ r. ⌜ r ≡ colourAt (k .limit) tolerance (lent kind) (lent ratio) (idx .0) ⌝ }
 {
     let sum = evaluator_colour::object_sum(table, standing_at(kind, w, k, idx));
@@ -109,7 +109,7 @@ pub fn fill_values(
     tolerance: f64,
     value: &mut [f64],
 )
-    requires { ⌜ Lent (now table) (now kind) (now ratio) (now w) k ⌝ ∗ ⌜ length (now kind) ≤ length (now value) ⌝ }
+    requires { ⌜ Sources (now table) (now kind) (now ratio) (now w) k ⌝ ∗ ⌜ length (now kind) ≤ length (now value) ⌝ }
     ensures { λ r. ⌜ left value
         ≡ over (colourValues (k .limit) tolerance (lent kind) (lent ratio)) (lent value) ⌝ }
 {

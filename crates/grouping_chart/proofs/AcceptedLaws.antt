@@ -1,21 +1,21 @@
 -- What is known of an accepted chart: its size, its lengths, and each of its objects; and that every chart of which this is known is accepted.
-use mathlib.Core.Path.{_≡_, refl, sym, subst, _∙_}
+use mathlib.Core.Path.{_≡_, refl, sym, _∙_}
 use mathlib.Core.List.{List, [], _∷_}
 use mathlib.Core.Bool.{Bool, true, false, cond}
 use Prim.Native.Nat.{ℕ, zero, suc, _+_, _≤_, _<_}
 use native.Mathlib.Omega.{arith}
 use borrow.Author.Tests.{ltb-false, le-leb, leb-true, eqb-true}
 use lib.Dec.{T, eqb, leb}
+use denote.Floats.{passes, is-true}
 use lib.ListN.{length, getD}
 use lib.Ieee.{Float, nan}
 use Rattle.lent.proofs.NeverLaws.{never}
 use Rattle.grouping_chart.specs.declared.object.ObjectIndex.{ObjectIndex}
 use Rattle.grouping_chart.specs.declared.chart.Verdict.{Verdict}
 use Rattle.grouping_chart.specs.declared.chart.Verdict.the-variants.{Accepted, Refused}
-use Rattle.grouping_chart.specs.Chart.{Chart, SameLengths, equallyLong}
-use Rattle.numeric.specs.Range.{within, earliest, latest, leastRatio, greatestRatio}
-use Rattle.grouping_chart.specs.Refusal.{timeGood, ratioGood, objectRefusal, firstRefused, verdict}
-use Rattle.grouping_chart.specs.passes.Good.{kindGood, allGood}
+use Rattle.grouping_chart.specs.Chart.{Chart, equallyLong}
+use Rattle.grouping_chart.specs.Refusal.{kindGood, timeGood, ratioGood, objectRefusal, firstRefused, verdict}
+use Rattle.grouping_chart.specs.passes.Good.{SameLengths, allGood}
 use Rattle.grouping_chart.proofs.AllLaws.{both-true, all-each}
 use Rattle.grouping_chart.proofs.RefusalLaws.{all-equal, verdict-objects}
 
@@ -36,13 +36,6 @@ pub record GoodChart (c : Chart) (beside : ℕ) : Type 0 where
 
 -- ---- an object
 
-T-of : (b : Bool) → b ≡ true → T b
-T-of b e = subst T (sym e) tt
-
-of-T : (b : Bool) → T b → b ≡ true
-of-T true t = refl
-of-T false t = absurd t
-
 tests-passed : (a b c d : Bool) → _≡_ {A = ℕ} (cond a (cond b (cond c (cond d 0 7) 6) 5) 4) 0 → (a ≡ true) × ((b ≡ true) × ((c ≡ true) × (d ≡ true)))
 tests-passed true true true true e = (refl, (refl, (refl, refl)))
 tests-passed true true true false e = absurd (omega arith)
@@ -54,11 +47,11 @@ pub object-good : (k : ℕ) (s d r : Float) → objectRefusal k s d r ≡ 0 → 
 unfolding objectRefusal
 object-good k s d r e =
     let t = tests-passed (leb k 2) (timeGood s) (timeGood d) (ratioGood r) e in
-    record { kind = leb-true k 2 (t .0); start = T-of _ (t .1 .0); delta = T-of _ (t .1 .1 .0); ratio = T-of _ (t .1 .1 .1) }
+    record { kind = leb-true k 2 (t .0); start = passes _ (t .1 .0); delta = passes _ (t .1 .1 .0); ratio = passes _ (t .1 .1 .1) }
 
 pub good-object : {k : ℕ} {s d r : Float} → GoodObject k s d r → objectRefusal k s d r ≡ 0
 unfolding objectRefusal
-good-object {k} {s} {d} {r} g = rw (le-leb k 2 (g .kind), of-T (timeGood s) (g .start), of-T (timeGood d) (g .delta), of-T (ratioGood r) (g .ratio))
+good-object {k} {s} {d} {r} g = rw (le-leb k 2 (g .kind), is-true (timeGood s) (g .start), is-true (timeGood d) (g .delta), is-true (ratioGood r) (g .ratio))
 
 -- ---- all objects
 
@@ -100,16 +93,16 @@ good-objects j (k ∷ ks) (s ∷ ss) (d ∷ ds) (r ∷ rs) g =
 -- where all lists are good no object is refused
 pub all-good-accepted : (kinds : List ℕ) (starts deltas ratios : List Float) → SameLengths (length kinds) starts deltas ratios
     → allGood kinds starts deltas ratios ≡ true → Accepted ≡ firstRefused 0 kinds starts deltas ratios
-unfolding allGood timeGood ratioGood
+unfolding allGood
 all-good-accepted kinds starts deltas ratios same e =
     let k = both-true _ _ e in
     let s = both-true _ _ (k .1) in
     let d = both-true _ _ (s .1) in
     sym (good-objects 0 kinds starts deltas ratios (λ i z h. record {
       kind = leb-true _ 2 (all-each kindGood kinds (k .0) i 0 h);
-      start = T-of _ (all-each (within earliest latest) starts (s .0) i z (omega (arith, same .start)));
-      delta = T-of _ (all-each (within earliest latest) deltas (d .0) i z (omega (arith, same .delta)));
-      ratio = T-of _ (all-each (within leastRatio greatestRatio) ratios (d .1) i z (omega (arith, same .ratio)));
+      start = passes _ (all-each timeGood starts (s .0) i z (omega (arith, same .start)));
+      delta = passes _ (all-each timeGood deltas (d .0) i z (omega (arith, same .delta)));
+      ratio = passes _ (all-each ratioGood ratios (d .1) i z (omega (arith, same .ratio)));
     }))
 
 -- ---- the chart

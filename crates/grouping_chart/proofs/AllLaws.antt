@@ -1,7 +1,7 @@
 -- A loop that tests every element of a list: what it has found so far, together with the test of all that is left, is the test of all.
 -- The same for any list and test.
-use mathlib.Core.Path.{_≡_, refl, sym, ap, _∙_}
-use mathlib.Core.Bool.{Bool, true, false, _&&_, true≢false}
+use mathlib.Core.Path.{_≡_, refl, sym, _∙_}
+use mathlib.Core.Bool.{Bool, true, false, _&&_, true≢false, and-assoc, and-true}
 use mathlib.Core.List.{List, [], _∷_}
 use Prim.Native.Nat.{ℕ, zero, suc, _+_, _≤_, _<_}
 use native.Mathlib.Numerals.{add-one}
@@ -9,14 +9,6 @@ use native.Mathlib.Omega.{arith}
 use lib.ListN.{length, drop, getD, drop-of-length-le}
 use lib.Seq.{drop-cons}
 use Rattle.grouping_chart.specs.passes.Good.{all}
-
-and-assoc : (a b c : Bool) → ((a && b) && c) ≡ (a && (b && c))
-and-assoc true b c = refl
-and-assoc false b c = refl
-
-and-true : (a : Bool) → (a && true) ≡ a
-and-true true = refl
-and-true false = refl
 
 pub both-true : (a b : Bool) → (a && b) ≡ true → (a ≡ true) × (b ≡ true)
 both-true true b e = (refl, e)
@@ -45,7 +37,7 @@ module _ {A : Type 0} {test : A → Bool} {xs : List A} {good : Bool} {i : ℕ} 
   unfolding all
   tested-all x h =
       let over : all test (drop i xs) ≡ true = rw (drop-of-length-le xs h) in
-      sym (and-true good) ∙ ap (λ (b : Bool). good && b) (sym over) ∙ x .left
+      sym (and-true good) ∙ rw over at (x .left)
 
 -- where all pass, each does
 pub all-each : {A : Type 0} (test : A → Bool) (xs : List A) → all test xs ≡ true → (i : ℕ) (d : A) → i < length xs → test (getD xs i d) ≡ true

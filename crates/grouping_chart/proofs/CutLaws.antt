@@ -1,5 +1,5 @@
 -- A chart cut in two: its notes are those of the front and those of the back, and a note's number counts the notes before it.
-use mathlib.Core.Path.{_≡_, sym, ap, _∙_}
+use mathlib.Core.Path.{_≡_, ap, _∙_}
 use mathlib.Core.Bool.{true}
 use mathlib.Core.List.{List}
 use Prim.Native.Nat.{ℕ, _+_}
@@ -10,9 +10,7 @@ use Rattle.grouping_chart.proofs.ObjectLaws.{notes-append}
 -- the notes before object i, and those from it on
 pub notes-split : (kinds : List ℕ) (i : ℕ) → length (notes kinds) ≡ length (notes (take i kinds)) + length (notes (drop i kinds))
 notes-split kinds i =
-    ap (λ (ks : List ℕ). length (notes ks)) (sym (take-append-drop i kinds))
-    ∙ ap length (notes-append (take i kinds) (drop i kinds))
-    ∙ length-append (notes (take i kinds)) (notes (drop i kinds))
+    simp take-append-drop at (ap length (notes-append (take i kinds) (drop i kinds)) ∙ length-append (notes (take i kinds)) (notes (drop i kinds)))
 
 pub note-number : (kinds : List ℕ) (i : ℕ) → isNote (getD kinds i 0) ≡ true → noteIdx kinds i ≡ length (notes (take i kinds))
 unfolding noteIdx

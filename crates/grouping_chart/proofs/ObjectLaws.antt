@@ -72,7 +72,7 @@ notes-append (x ∷ xs) ys = by (isNote x) (notes-append xs ys)
   where
     by : (b : Bool) → notes (xs ++ ys) ≡ notes xs ++ notes ys
         → cond b (x ∷ notes (xs ++ ys)) (notes (xs ++ ys)) ≡ cond b (x ∷ notes xs) (notes xs) ++ notes ys
-    by true e = ap (λ (l : List ℕ). x ∷ l) e
+    by true e = rw e
     by false e = e
 
 pub notes-few : (ks : List ℕ) → length (notes ks) ≤ length ks
@@ -148,6 +148,6 @@ previousNote-seen ks i = by (isNote (getD ks i 0))
     by : (b : Bool) → noteBefore (notes ks) (cond b (length (notes (take i ks))) 0)
         ≡ cond b (cond (eqb (seenAfter seen₀ (take i ks) .notes) 0) none (kind (seenAfter seen₀ (take i ks) .last))) none
     by true =
-        ap (λ (l : List ℕ). noteBefore l (length (notes (take i ks)))) whole
-        ∙ before-next (notes (take i ks)) (notes (drop i ks)) (seenAfter seen₀ (take i ks)) _ refl (seen-count (take i ks)) (seen-last seen₀ (take i ks))
+        rw whole
+        (before-next (notes (take i ks)) (notes (drop i ks)) (seenAfter seen₀ (take i ks)) _ refl (seen-count (take i ks)) (seen-last seen₀ (take i ks)))
     by false = refl

@@ -10,8 +10,9 @@ use lib.ListN.{length, drop, getD, drop-of-length-le}
 use lib.Seq.{drop-cons}
 use lib.Ieee.{Float}
 use Rattle.grouping_chart.specs.declared.chart.Verdict.the-variants.{Accepted, Refused}
-use Rattle.grouping_chart.specs.Chart.{Chart, SameLengths, equallyLong}
+use Rattle.grouping_chart.specs.Chart.{Chart, equallyLong}
 use Rattle.grouping_chart.specs.Refusal.{timeGood, ratioGood, objectRefusal, firstRefused, refused, verdict}
+use Rattle.grouping_chart.specs.passes.Good.{SameLengths}
 
 -- ---- the number of an object's refusal
 

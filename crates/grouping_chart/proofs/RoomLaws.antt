@@ -1,6 +1,6 @@
 -- The cases of refusal 3, and what is known where no slice is too short. A call on a chart cites these.
-use mathlib.Core.Path.{_≡_, refl, _∙_}
-use mathlib.Core.Bool.{Bool, true, false, cond, _||_, true≢false}
+use mathlib.Core.Path.{_≡_, refl, sym, _∙_}
+use mathlib.Core.Bool.{Bool, true, false, cond, _||_, true≢false, or-false, or-assoc}
 use mathlib.Core.List.{List, [], _∷_}
 use Prim.Native.Nat.{ℕ, _*_, _/_, _≤_, _<_}
 use native.Mathlib.Omega.{arith}
@@ -17,10 +17,6 @@ pub record Roomy (answers : Bool) (n work scratch : ℕ) : Type 0 where
 pub either-false : (a b : Bool) → (a || b) ≡ false → (a ≡ false) × (b ≡ false)
 either-false true b e = absurd (true≢false e)
 either-false false b e = (refl, e)
-
-or-false : (a : Bool) → a ≡ (a || false)
-or-false true = refl
-or-false false = refl
 
 not-refused : (b : Bool) → _≡_ {A = ℕ} (cond b 3 0) 0 → b ≡ false
 not-refused true e = absurd (omega arith)
@@ -53,13 +49,9 @@ abbrev pub joined : ℕ → Bool → List ℕ → Bool
 joined n found [] = found
 joined n found (l ∷ ls) = joined n (found || ltb l n) ls
 
-or-assoc : (a b c : Bool) → ((a || b) || c) ≡ (a || (b || c))
-or-assoc true b c = refl
-or-assoc false b c = refl
-
 joined-short : (n : ℕ) (found : Bool) (ls : List ℕ) → joined n found ls ≡ (found || anyShort n ls)
 unfolding anyShort
-joined-short n found [] = or-false found
+joined-short n found [] = sym (or-false found)
 joined-short n found (l ∷ ls) = joined-short n (found || ltb l n) ls ∙ or-assoc found (ltb l n) (anyShort n ls)
 
 pub short-joined : (n l : ℕ) (ls : List ℕ) → joined n (ltb l n) ls ≡ anyShort n (l ∷ ls)

@@ -1,7 +1,6 @@
 -- A chart: four lists with a place for each of its n objects. Kind 0 is Center, 1 is Rim and 2 is NonHit; start and
--- delta are milliseconds. The scope, first paragraph; n is at most 16,384.
+-- delta are milliseconds; n is at most 16,384 (scope: its first paragraph).
 use Prim.Native.Nat.{ℕ}
-use mathlib.Core.Path.{_≡_}
 use mathlib.Core.Bool.{Bool, false, cond}
 use mathlib.Core.List.{List}
 use lib.Dec.{eqb}
@@ -29,12 +28,6 @@ equallyLong c =
     cond (eqb (length (c .starts)) (size c))
     (cond (eqb (length (c .deltas)) (size c)) (eqb (length (c .ratios)) (size c)) false)
     false
-
--- the three lists of times and ratios are n long
-pub record SameLengths (n : ℕ) (starts deltas ratios : List Float) : Type 0 where
-  pub start : length starts ≡ n
-  pub delta : length deltas ≡ n
-  pub ratio : length ratios ≡ n
 
 -- the chart that is made of the four slices, by how one of them is read: as lent, and where a pass begins
 abbrev charted : {S : Type 0 → Type 0} → ((A : Type 0) → S A → List A) → S ℕ → S Float → S Float → S Float → Chart

@@ -1,6 +1,6 @@
--- An object's two counters, both from 0: its idx counts all objects, its note_idx counts Center and Rim only and is 0
--- for a NonHit. Its previous note is the one numbered note_idx - 1, and there is none at 0 (scope: object.rs).
--- A list of kinds has a number for each object: 0 Center, 1 Rim, 2 NonHit.
+-- How objects are numbered (scope: object.rs): idx says how many objects stand before one, note_idx how many notes,
+-- save that a NonHit's is always 0. The previous note of an object is found by its note_idx, so that a NonHit and the
+-- first note have none. A list of kinds has a number for each object: 0 Center, 1 Rim, 2 NonHit.
 use Prim.Native.Nat.{ℕ, zero, suc}
 use mathlib.Core.Bool.{Bool, cond}
 use mathlib.Core.List.{List, [], _∷_}
@@ -30,6 +30,6 @@ unfoldable pub noteBefore : List ℕ → ℕ → Previous
 noteBefore ns zero = none
 noteBefore ns (suc j) = kind (getD ns j 0)
 
--- previous_note(o, 0) of object i
+-- the previous note of object i: the source's previous_note(o, 0)
 unfoldable pub previousNote : List ℕ → ℕ → Previous
 previousNote ks i = noteBefore (notes ks) (noteIdx ks i)

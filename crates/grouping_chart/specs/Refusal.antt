@@ -1,7 +1,6 @@
 -- Refusals 1 to 7 and the order of their tests (scope: "Refused by number"): 1, 2, what is refused beside the chart,
--- then
--- 4 to 7 for one object after another. Room.antt alone says which number is refused beside the chart, and when. A
--- refusal has a number and a place: the object's for 4 to 7, else 0.
+-- then 4 to 7 for one object after another. Room.antt alone says which number is refused beside the chart, and when.
+-- A refusal has a number and a place: the object's for 4 to 7, else 0.
 use Prim.Native.Nat.{ℕ, _+_}
 use mathlib.Core.Bool.{Bool, cond}
 use mathlib.Core.List.{List, [], _∷_}
@@ -12,6 +11,10 @@ use Rattle.grouping_chart.specs.Chart.{Chart, size, largest, equallyLong
 use Rattle.grouping_chart.specs.declared.chart.Verdict.{Verdict}
 use Rattle.grouping_chart.specs.declared.chart.Verdict.the-variants.{Accepted, Refused}
 
+-- Center, Rim and NonHit
+abbrev pub kindGood : ℕ → Bool
+kindGood k = leb k 2
+
 unfoldable pub timeGood : Float → Bool
 timeGood x = within earliest latest x
 
@@ -21,7 +24,7 @@ ratioGood x = within leastRatio greatestRatio x
 -- the number of an object's refusal, or 0
 unfoldable pub objectRefusal : ℕ → Float → Float → Float → ℕ
 objectRefusal kind start delta ratio =
-    cond (leb kind 2) (cond (timeGood start) (cond (timeGood delta) (cond (ratioGood ratio) 0 7) 6) 5) 4
+    cond (kindGood kind) (cond (timeGood start) (cond (timeGood delta) (cond (ratioGood ratio) 0 7) 6) 5) 4
 
 -- the first object that is refused, with its number, where the lists begin at object i
 unfoldable pub firstRefused : ℕ → List ℕ → List Float → List Float → List Float → Verdict

@@ -1,6 +1,7 @@
--- What is refused beside the chart, the same in every call: `verdict` of Refusal.antt takes its number from here, and
--- tests it straight after 2, before any object. That is 3, a slice that is too short: an answer slice has a place for
--- each of the n objects, and the two work slices have 8 n and n places.
+-- What is refused beside the chart, the same in every call (scope: "Calls and what they fill", "Refused by number"):
+-- `verdict` of Refusal.antt takes its number from here, and tests it straight after 2, before any object. That is 3, a
+-- slice that is too short: an answer slice has a place for each of the n objects, and the two work slices have 8 n and
+-- n places.
 use Prim.Native.Nat.{ℕ, _*_}
 use mathlib.Core.Bool.{Bool, false, _||_, cond}
 use mathlib.Core.List.{List, [], _∷_}

@@ -1,5 +1,6 @@
--- The four numbers by which the calls on a chart group and score. The definitions of what a call answers have them as
--- a parameter; the promises of the calls name `baseSettings`.
+-- The four numbers by which the calls on a chart group and score (scope: interval_grouping.rs,
+-- repeating_hit_patterns.rs, evaluators/rhythm.rs, evaluators/color.rs). The definitions of what a call answers have
+-- them as a parameter; the promises of the calls name `baseSettings`.
 use mathlib.Core.Bool.{false}
 use Prim.Native.Nat.{_≤_}
 use lib.Dec.{T}
@@ -9,9 +10,10 @@ use Rattle.numeric.specs.Constants.{zero64, one64}
 use Rattle.numeric.specs.Range.{within}
 use Rattle.grouping_chart.specs.declared.settings.Settings as declared
 
--- margin, what is near, in milliseconds; limit, the search limit M of intervals: from 1 to M − 1 are searched, and M
--- + 1 says that there is none; threshold, how near to 1.0 a repeated interval is; tolerance, how near to 1.0 a ratio
--- over the one before is
+-- margin: how far apart two times may lie and still be near, in milliseconds. limit: a hit pattern is compared with
+-- those less than this far back, and the interval of one that is like none of these is the limit plus 1. threshold: two
+-- own intervals count as repeated where their quotient differs from 1.0 by no more. tolerance: an object's
+-- ratio counts as that of the object two before it where their quotient differs from 1.0 by no more
 abbrev pub Settings : Type 0
 Settings = declared.Settings
 

@@ -1,9 +1,9 @@
 // Refusals 1 to 7: of the chart's size and lengths, and object by object.
 ghost use mathlib.Core.Path.{_≡_};
 ghost use lib.ListN.{length};
-ghost use Rattle.grouping_chart.specs.Chart.{SameLengths, equallyLong};
 ghost use Rattle.lent.specs.Slice.{lent};
-ghost use Rattle.grouping_chart.specs.Chart.{chart};
+ghost use Rattle.grouping_chart.specs.Chart.{equallyLong, chart};
+ghost use Rattle.grouping_chart.specs.passes.Good.{SameLengths};
 ghost use Rattle.grouping_chart.specs.Refusal.{timeGood, ratioGood, objectRefusal, firstRefused, verdict};
 use crate::good;
 use crate::object::ObjectIndex;

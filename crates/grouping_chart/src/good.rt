@@ -3,7 +3,8 @@
 ghost use mathlib.Core.Path.{_≡_};
 ghost use Rattle.lent.specs.Slice.{lent};
 ghost use Rattle.numeric.specs.Range.{within};
-ghost use Rattle.grouping_chart.specs.passes.Good.{all, kindGood, allGood};
+ghost use Rattle.grouping_chart.specs.Refusal.{kindGood};
+ghost use Rattle.grouping_chart.specs.passes.Good.{all, allGood};
 use numeric::range;
 
 // Center, Rim and NonHit.
@@ -34,10 +35,7 @@ fn all_within(lo: f64, hi: f64, values: &[f64]) -> bool
     let mut good = true;
     let mut i = 0;
     while i < values.len() {
-        let x = values[i];
-        let reached = lo <= x;
-        let kept = x <= hi;
-        good = good & (reached & kept);
+        good = good & range::is_within(lo, hi, values[i]);
         i += 1;
     }
     good

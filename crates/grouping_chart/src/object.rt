@@ -1,13 +1,13 @@
-// An object's two counters, as the source keeps them: its number among all objects and its number among the notes.
+// The source's two numberings, of objects and of notes.
 ghost use mathlib.Core.Path.{_≡_};
 ghost use mathlib.Core.Bool.{cond};
 ghost use Prim.Native.Nat.{_+_, _^_, _<_};
 ghost use Rattle.grouping_chart.specs.Object.{isNote};
 
-// Counts all objects, from 0.
+// How many objects stand before one.
 pub struct ObjectIndex(pub usize);
 
-// Counts Center and Rim only, from 0. A NonHit has 0.
+// How many notes stand before an object; where it is an object's own number, a NonHit's is 0.
 pub struct NoteIndex(pub usize);
 
 // Center and Rim are notes.

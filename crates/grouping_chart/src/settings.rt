@@ -2,6 +2,9 @@
 ghost use mathlib.Core.Path.{_≡_};
 ghost use Rattle.grouping_chart.specs.Settings.{baseSettings};
 
+// The base's search limit, by itself for the letters program, which is handed no set.
+pub const SEARCH_LIMIT: u16 = 16;
+
 // The margin in milliseconds, the search limit, the penalty threshold and the ratio tolerance.
 pub struct Settings {
     pub margin: f64,
@@ -16,11 +19,8 @@ pub fn base() -> Settings
 {
     Settings {
         margin: 5.0,
-        limit: 16,
+        limit: SEARCH_LIMIT as u64,
         threshold: 0.1,
         tolerance: 0.01,
     }
 }
-
-// The search limit of the letters program, which is handed no set.
-pub const SEARCH_LIMIT: u16 = 16;

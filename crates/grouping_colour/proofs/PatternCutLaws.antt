@@ -11,7 +11,8 @@ use Rattle.lent.specs.Scan.{tabulate}
 use Rattle.grouping_marks.specs.Marks.{groupSizes, groupFirsts}
 use Rattle.lent.proofs.FillLaws.{getD-tabulate}
 use Rattle.grouping_marks.proofs.CutLaws.{Opening, opening-at, sizes-cut, firsts-cut}
-use Rattle.lent.proofs.TableLaws.{getD-past, ltb-past, tabulate-cut, tabulate-cut₂}
+use Rattle.grouping_marks.proofs.AlikeLaws.{alike-back}
+use Rattle.lent.proofs.TableLaws.{ltb-past, tabulate-cut, tabulate-cut₂}
 use Rattle.grouping_colour.specs.AlternatingMonoPattern.{opensPattern, patternMarks, coupledAt, coupled}
 use Rattle.grouping_colour.proofs.LengthLaws.{length-patternMarks}
 
@@ -50,14 +51,15 @@ module _ (front back : List ℕ) (u : Uneven front back) where
 
   back-same : (i : ℕ) → i < length back → opensPattern (front ++ back) (length front + i) ≡ opensPattern back i
   back-same zero h =
+      let z : length front + 0 - 1 ≡ length front - 1 = omega arith in
       let last : getD (front ++ back) (length front + 0 - 1) 0 ≡ getD front (length front - 1) 0 =
-      ap (λ (k : ℕ). getD (front ++ back) k 0) (omega arith) ∙ List·getD-append front back 0 (length front - 1) (omega arith) in
+      rw z (List·getD-append front back 0 (length front - 1) (omega arith)) in
       opensPattern-differs (front ++ back) (length front + 0) (omega arith)
       (λ e. u .differs (sym (getD-append-add front back 0 0) ∙ e ∙ last)) ∙ sym (opensPattern-first back)
   back-same (suc i) h =
+      let z : length front + suc i - 1 ≡ length front + (suc i - 1) = omega arith in
       opensPattern-same (front ++ back) back (length front + suc i) (suc i) (omega arith) (omega arith)
-      (getD-append-add front back (suc i) 0)
-      (ap (λ (k : ℕ). getD (front ++ back) k 0) (omega arith) ∙ getD-append-add front back (suc i - 1) 0)
+      (getD-append-add front back (suc i) 0) (rw z (getD-append-add front back (suc i - 1) 0))
 
   pub patternMarks-cut : patternMarks (front ++ back) ≡ patternMarks front ++ patternMarks back
   unfolding patternMarks
@@ -78,20 +80,16 @@ module _ (front back : List ℕ) (u : Uneven front back) where
   pub listed-cut : (xs ys : List ℕ) → length front ≡ length xs → length back ≡ length ys
       → groupFirsts (patternMarks (front ++ back)) (xs ++ ys) ≡ groupFirsts (patternMarks front) xs ++ groupFirsts (patternMarks back) ys
   listed-cut xs ys e f =
-      ap (λ (l : List ℕ). groupFirsts l (xs ++ ys)) (patternMarks-cut front back u)
-      ∙ firsts-cut (patternMarks front) (patternMarks back) xs ys (patternMarks-opening back) (length-patternMarks front ∙ e) (length-patternMarks back ∙ f)
+      rw (patternMarks-cut front back u)
+      (firsts-cut (patternMarks front) (patternMarks back) xs ys (patternMarks-opening back) (length-patternMarks front ∙ e) (length-patternMarks back ∙ f))
 
 -- ---- coupled patterns
 module _ (ls ls′ cs cs′ ts ts′ : List ℕ) (e : length cs ≡ length ls) (f : length ts ≡ length ls) where
   coupledAt-back : (i : ℕ) → coupledAt (ls ++ ls′) (cs ++ cs′) (ts ++ ts′) (length ls + i) ≡ coupledAt ls′ cs′ ts′ i
   unfolding coupledAt
-  coupledAt-back i = rw (ltb-past ls ls′ i 2, on ls ls′ refl, on cs cs′ e, on ts ts′ f, at ls ls′ refl, at cs cs′ e, at ts ts′ f)
-    where
-      on : (front back : List ℕ) → length front ≡ length ls → getD (front ++ back) (length ls + i + 2) 0 ≡ getD back (i + 2) 0
-      on front back e = getD-past front back (length ls) i 2 e
-
-      at : (front back : List ℕ) → length front ≡ length ls → getD (front ++ back) (length ls + i) 0 ≡ getD back i 0
-      at front back e = rw (← e) (getD-append-add front back i 0)
+  coupledAt-back i =
+      let two-on : length ls + i + 2 ≡ length ls + (i + 2) = omega arith in
+      rw (ltb-past ls ls′ i 2, two-on, alike-back ls ls′ cs cs′ ts ts′ e f i (i + 2))
 
   -- the flags of the back are those of the back alone
   pub coupled-cut : coupled (ls ++ ls′) (cs ++ cs′) (ts ++ ts′) ≡ tabulate (coupledAt (ls ++ ls′) (cs ++ cs′) (ts ++ ts′)) (length ls) ++ coupled ls′ cs′ ts′

@@ -56,5 +56,5 @@ module _ (front back : List ℕ) (o : Opening (streakMarksAfter front back)) whe
   pub streakTypes-cut : streakTypes (front ++ back) ≡ streakTypes front ++ groupFirsts (streakMarksAfter front back) back
   unfolding streakTypes
   streakTypes-cut =
-      ap (λ (l : List ℕ). groupFirsts l (front ++ back)) (streakMarks-cut front back)
-      ∙ firsts-cut (streakMarks front) (streakMarksAfter front back) front back o (length-streakMarks front) (length-marksAfter front back)
+      rw (streakMarks-cut front back)
+      (firsts-cut (streakMarks front) (streakMarksAfter front back) front back o (length-streakMarks front) (length-marksAfter front back))

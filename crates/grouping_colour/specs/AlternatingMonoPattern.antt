@@ -6,6 +6,7 @@ use mathlib.Core.List.{List}
 use lib.Dec.{eqb, ltb}
 use lib.ListN.{length, getD}
 use Rattle.lent.specs.Scan.{tabulate}
+use Rattle.grouping_marks.specs.Alike.{alikeAt}
 
 -- 1 where the streak i opens a pattern, by the streaks' lengths: the first, and each not as long as the one before
 unfoldable pub opensPattern : List ℕ → ℕ → ℕ
@@ -18,10 +19,7 @@ patternMarks lengths = tabulate (opensPattern lengths) (length lengths)
 -- there is a pattern i + 2, and it has the same three
 unfoldable pub coupledAt : List ℕ → List ℕ → List ℕ → ℕ → ℕ
 coupledAt lengths counts types i =
-    cond
-    (ltb (i + 2) (length lengths)
-    && (eqb (getD lengths i 0) (getD lengths (i + 2) 0)
-    && (eqb (getD counts i 0) (getD counts (i + 2) 0) && eqb (getD types i 0) (getD types (i + 2) 0)))) 1 0
+    cond (ltb (i + 2) (length lengths) && alikeAt lengths counts types i (i + 2)) 1 0
 
 unfoldable pub coupled : List ℕ → List ℕ → List ℕ → List ℕ
 coupled lengths counts types = tabulate (coupledAt lengths counts types) (length lengths)

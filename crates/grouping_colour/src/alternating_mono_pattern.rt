@@ -7,6 +7,7 @@ ghost use Rattle.lent.specs.Over.{put, part};
 ghost use Rattle.lent.specs.passes.Regions.{Apart, Triple, TripleApart};
 ghost use Rattle.grouping_colour.specs.AlternatingMonoPattern.{opensPattern, patternMarks};
 ghost use Rattle.grouping_colour.specs.passes.Coupled.{coupledAtIn, coupledIn};
+use grouping_marks::alike::alike_at;
 
 fn opens_pattern(w: &[u16], from: usize, m: usize, i: usize) -> u16
     requires { ⌜ from + m ≤ length (now w) ⌝ ∗ ⌜ i < m ⌝ }
@@ -38,25 +39,22 @@ fn is_coupled(w: &[u16], lengths: usize, counts: usize, types: usize, m: usize, 
     if m - i <= 2 {
         return 0;
     }
-    let same_length = w[lengths + i] == w[lengths + i + 2];
-    let same_count = w[counts + i] == w[counts + i + 2];
-    let same_type = w[types + i] == w[types + i + 2];
-    if same_length & (same_count & same_type) {
+    if alike_at(w, lengths, counts, types, m, i, i + 2) {
         1
     } else {
         0
     }
 }
 
-// Marks the coupled patterns.
-pub fn mark_coupled(w: &mut [u16], lengths: usize, counts: usize, types: usize, m: usize, to: usize)
+// Flags the coupled patterns.
+pub fn flag_coupled(w: &mut [u16], lengths: usize, counts: usize, types: usize, m: usize, to: usize)
     requires { ⌜ TripleApart (now w) lengths counts types m to ⌝ }
     ensures { λ r. ⌜ left w ≡ put to (coupledIn lengths counts types m (lent w)) (lent w) ⌝ }
 {
     let mut i = 0;
     while i < m {
-        let mark = is_coupled(w, lengths, counts, types, m, i);
-        w[to + i] = mark;
+        let flag = is_coupled(w, lengths, counts, types, m, i);
+        w[to + i] = flag;
         i += 1;
     }
 }

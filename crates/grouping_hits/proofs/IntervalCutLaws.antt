@@ -1,25 +1,22 @@
 -- Intervals: the search from a hit pattern looks at no more than M − 1 hit patterns before it, M being the search limit,
 -- so behind a cut the intervals from the M-th hit pattern on are those of the back alone.
-use mathlib.Core.Path.{_≡_, refl, sym, ap, _∙_}
+use mathlib.Core.Path.{_≡_, refl, sym, _∙_}
 use mathlib.Core.List.{List, _++_}
 use mathlib.Core.Bool.{cond}
 use Prim.Native.Nat.{ℕ, zero, suc, _+_, _-_, _≤_, _<_}
 use native.Mathlib.Omega.{arith}
 use lib.ListN.{length, getD, length-append}
-use lib.Seq.{getD-append-add}
 use borrow.Author.Tests.{le-leb}
 use Rattle.lent.proofs.FillLaws.{getD-tabulate}
+use Rattle.grouping_marks.proofs.AlikeLaws.{alike-back}
 use Rattle.grouping_hits.specs.RepeatingHitPatterns.{matches, nearestMatch, intervalAt, intervals}
 
 -- what is known of the hit patterns before the cut, and of those behind it
 module _ (ss ss′ fs fs′ ts ts′ : List ℕ) (e : length fs ≡ length ss) (f : length ts ≡ length ss) where
-  behind : (front back : List ℕ) (i : ℕ) → length front ≡ length ss → getD (front ++ back) (length ss + i) 0 ≡ getD back i 0
-  behind front back i q = rw (← q) (getD-append-add front back i 0)
-
   -- two hit patterns behind the cut
   matches-back : (i j : ℕ) → matches (ss ++ ss′) (fs ++ fs′) (ts ++ ts′) (length ss + i) (length ss + j) ≡ matches ss′ fs′ ts′ i j
   unfolding matches
-  matches-back i j = rw (behind ss ss′ i refl, behind ss ss′ j refl, behind fs fs′ i e, behind fs fs′ j e, behind ts ts′ i f, behind ts ts′ j f)
+  matches-back i j = alike-back ss ss′ fs fs′ ts ts′ e f i j
 
   -- the search, as long as it does not reach the cut
   nearest-back : (none j more k : ℕ) → more + k ≤ j + 1
@@ -31,7 +28,7 @@ module _ (ss ss′ fs fs′ ts ts′ : List ℕ) (e : length fs ≡ length ss) (
       (λ i. cond (same i) k (nearest-back none j more (suc k) (omega arith) i))
     where
       same : matches (ss ++ ss′) (fs ++ fs′) (ts ++ ts′) (length ss + j - k) (length ss + j) ≡ matches ss′ fs′ ts′ (j - k) j
-      same = ap (λ (i : ℕ). matches (ss ++ ss′) (fs ++ fs′) (ts ++ ts′) i (length ss + j)) (omega arith) ∙ matches-back (j - k) j
+      same = let z : length ss + j - k ≡ length ss + (j - k) = omega arith in rw z (matches-back (j - k) j)
 
   -- from the M-th hit pattern behind the cut on
   intervalAt-back : (limit j : ℕ) → limit ≤ j + 1 → intervalAt limit (ss ++ ss′) (fs ++ fs′) (ts ++ ts′) (length ss + j) ≡ intervalAt limit ss′ fs′ ts′ j

@@ -8,7 +8,7 @@ use Prim.Native.Nat.{ℕ, zero, suc, _+_, _-_, _≤_, _<_}
 use native.Mathlib.Numerals.{add-one}
 use native.Mathlib.Omega.{arith}
 use borrow.Author.Tests.{le-leb, lt-leb, leb-false}
-use lib.Dec.{eqb, leb}
+use lib.Dec.{leb}
 use lib.ListN.{length, getD, set, replicate, length-replicate, getD-replicate}
 use lib.Seq.{ext-getD}
 use Rattle.lent.specs.Over.{put, part}
@@ -16,26 +16,11 @@ use Rattle.lent.specs.Scan.{tabulate}
 use Rattle.lent.specs.passes.Regions.{Apart, TripleApart}
 use Rattle.lent.proofs.OverLaws.{length-part, getD-part, length-put, part-put-same, part-put-apart, put-twice}
 use Rattle.lent.proofs.FillLaws.{Fill, fill-from, fill-end, fill-read, length-tabulate, getD-tabulate, tabulate-agree}
-use Rattle.lent.proofs.StoreLaws.{read-at, fill-apart, table-turn}
+use Rattle.lent.proofs.StoreLaws.{fill-apart, table-turn}
+use Rattle.grouping_marks.specs.Alike.{alikeAt}
 use Rattle.grouping_hits.specs.RepeatingHitPatterns.{matches, nearestMatch, intervalAt, intervals}
-use Rattle.grouping_hits.specs.passes.Stages.{matchTakenAt, matchesTaken, matchesIn, takenIn, intervalsIn}
+use Rattle.grouping_hits.specs.passes.Stages.{matchTakenAt, matchesTaken, takenIn, intervalsIn}
 use Rattle.grouping_hits.proofs.LengthLaws.{length-intervals}
-
--- ---- two hit patterns match, read in the work slice
-
-module _ (w : List ℕ) (sizes firsts seconds m a b : ℕ) (in-a : a < m) (in-b : b < m) where
-  read-a : (r : ℕ) → getD (part r m w) a 0 ≡ getD w (r + a) 0
-  read-a r = read-at r m w a (r + a) in-a refl
-
-  read-b : (r : ℕ) → getD (part r m w) b 0 ≡ getD w (r + b) 0
-  read-b r = read-at r m w b (r + b) in-b refl
-
-  abbrev alike : ℕ → Bool
-  alike r = eqb (getD w (r + a) 0) (getD w (r + b) 0)
-
-  pub matches-read : (alike sizes && (alike firsts && alike seconds)) ≡ matchesIn sizes firsts seconds m w a b
-  unfolding matches
-  matches-read = rw (read-a sizes, read-a firsts, read-a seconds, read-b sizes, read-b firsts, read-b seconds)
 
 -- ---- the pass that looks k back
 
@@ -64,8 +49,9 @@ module _ (k : ℕ) {sizes firsts seconds m to : ℕ} {w₀ : List ℕ} (a : Trip
   taken-none l = fill-end (taken-from m (omega arith) l) (omega arith)
 
   pub taken-turn : {w : List ℕ} {h v : ℕ} {found : Bool} → Fill goal m to w₀ w h → h < m → k ≤ h
-      → found ≡ matchesIn sizes firsts seconds m w (h - k) h → v ≡ cond found k (getD w (to + h) 0) → Fill goal m to w₀ (set w (to + h) v) (h + 1)
-  unfolding matchesTaken
+      → found ≡ alikeAt (part sizes m w) (part firsts m w) (part seconds m w) (h - k) h → v ≡ cond found k (getD w (to + h) 0)
+      → Fill goal m to w₀ (set w (to + h) v) (h + 1)
+  unfolding matchesTaken matches
   taken-turn {w} {h} {v} {found} x l r e q =
       let s : part sizes m w ≡ part sizes m w₀ = fill-apart sizes m x (a .first .apart) in
       let f : part firsts m w ≡ part firsts m w₀ = fill-apart firsts m x (a .second .apart) in

@@ -90,7 +90,7 @@ module _ (sizes firsts seconds : List ℕ) (h : ℕ) where
   unfolding intervalAt
   interval-smallest zero l = absurd (none-below-zero l)
   interval-smallest (suc m) l = elim (search (suc m + 1) (suc m - 1) 1) [
-    | inl f ↦ subst (λ (e : ℕ). FirstMatch 1 e (intervalAt (suc m) sizes firsts seconds h)) (upto m) f
+    | inl f ↦ rw (upto m) at f
     | inr f ↦ absurd (too-large m _ (f .0) l)
   ]
 
@@ -100,5 +100,5 @@ module _ (sizes firsts seconds : List ℕ) (h : ℕ) where
   interval-none zero l = absurd (none-below-zero l)
   interval-none (suc m) l = elim (search (suc m + 1) (suc m - 1) 1) [
     | inl f ↦ ((λ e. absurd (reached m _ (f .below) e)), (λ n. absurd (n .none _ (f .from) (rw (upto m) at (f .below)) (f .match))))
-    | inr f ↦ ((λ e. subst (λ (e : ℕ). NoMatch 1 e) (upto m) (f .1)), (λ n. f .0))
+    | inr f ↦ ((λ e. rw (upto m) at (f .1)), (λ n. f .0))
   ]

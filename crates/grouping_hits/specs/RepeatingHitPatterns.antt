@@ -2,11 +2,12 @@
 -- The search limit M is a parameter, 16 in the original: k stays below M, and M + 1 says that none matches,
 -- so M itself never occurs.
 use Prim.Native.Nat.{ℕ, zero, suc, _+_, _-_}
-use mathlib.Core.Bool.{Bool, cond, _&&_}
+use mathlib.Core.Bool.{Bool, cond}
 use mathlib.Core.List.{List, [], _∷_}
 use lib.Dec.{eqb, ltb, leb}
 use lib.ListN.{length, getD}
 use Rattle.lent.specs.Scan.{tabulate}
+use Rattle.grouping_marks.specs.Alike.{alikeAt}
 
 -- how many coupled patterns stand at the front, by the patterns' coupled flags
 unfoldable pub coupledRun : List ℕ → ℕ
@@ -40,9 +41,7 @@ secondLengths lengths marks = tabulate (secondAt lengths marks) (length lengths)
 
 -- whether the hit patterns a and b match, by how many patterns each holds and the first two's first-streak lengths
 unfoldable pub matches : List ℕ → List ℕ → List ℕ → ℕ → ℕ → Bool
-matches sizes firsts seconds a b =
-    eqb (getD sizes a 0) (getD sizes b 0)
-    && (eqb (getD firsts a 0) (getD firsts b 0) && eqb (getD seconds a 0) (getD seconds b 0))
+matches sizes firsts seconds a b = alikeAt sizes firsts seconds a b
 
 -- the smallest k, from the given one on and with at most `more` tries, whose k-th hit pattern before h matches h;
 -- else `none`

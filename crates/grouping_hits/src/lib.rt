@@ -5,9 +5,10 @@ ghost use Prim.Native.Nat.{_≤_, _<_};
 ghost use lib.Dec.{eqb};
 ghost use Rattle.lent.specs.Slice.{lent, left};
 ghost use Rattle.lent.specs.Over.{put, part};
-ghost use Rattle.lent.specs.passes.Regions.{Room, Pair, PairApart, Triple, TripleApart};
+ghost use Rattle.lent.specs.passes.Regions.{Room, Pair, PairApart, TripleApart};
 ghost use Rattle.grouping_hits.specs.RepeatingHitPatterns.{hitMarks, secondAt, secondLengths};
-ghost use Rattle.grouping_hits.specs.passes.Stages.{stageAfter, opensHit, matchesIn, takenIn, intervalsIn};
+ghost use Rattle.grouping_hits.specs.passes.Stages.{stageAfter, opensHit, takenIn, intervalsIn};
+use grouping_marks::alike::alike_at;
 use lent::fill;
 
 fn stage_after(stage: u16, coupled: u16) -> u16
@@ -80,25 +81,6 @@ pub fn second_lengths(w: &mut [u16], lengths: usize, marks: usize, m: usize, to:
     w[to + i] = last;
 }
 
-// Whether the hit patterns a and b match. The three tests are joined without jumps, so that eight are tested at a time.
-fn hits_match(
-    w: &[u16],
-    sizes: usize,
-    firsts: usize,
-    seconds: usize,
-    m: usize,
-    a: usize,
-    b: usize,
-) -> bool
-    requires { ⌜ Triple (now w) sizes firsts seconds m ⌝ ∗ ⌜ a < m ⌝ ∗ ⌜ b < m ⌝ }
-    ensures { λ r. ⌜ r ≡ matchesIn sizes firsts seconds m (lent w) a b ⌝ }
-{
-    let same_size = w[sizes + a] == w[sizes + b];
-    let same_first = w[firsts + a] == w[firsts + b];
-    let same_second = w[seconds + a] == w[seconds + b];
-    same_size & (same_first & same_second)
-}
-
 fn nearer(found: bool, k: u16, other: u16) -> u16
     ensures { λ r. ⌜ r ≡ cond found k other ⌝ }
 {
@@ -125,7 +107,7 @@ fn take_matches(
     let mut h = back;
     while h < m {
         let other = w[to + h];
-        let found = hits_match(w, sizes, firsts, seconds, m, h - back, h);
+        let found = alike_at(w, sizes, firsts, seconds, m, h - back, h);
         w[to + h] = nearer(found, k, other);
         h += 1;
     }

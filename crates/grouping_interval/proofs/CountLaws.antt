@@ -9,7 +9,7 @@ use native.Mathlib.Omega.{arith}
 use lib.Dec.{eqb, ltb}
 use lib.ListN.{length, drop, getD}
 use lib.Ieee.{Float, nan}
-use borrow.Author.Tests.{eq-eqb, ne-eqb, lt-ltb, le-ltb}
+use borrow.Author.Tests.{eq-eqb, ne-eqb}
 use Rattle.numeric.specs.Near.{isNear}
 use Rattle.lent.specs.Scan.{endState}
 use Rattle.grouping_marks.specs.Marks.{groupCount}
@@ -19,7 +19,7 @@ use Rattle.grouping_marks.proofs.NumberLaws.{countFrom, count-all, count-over, 
 use Rattle.grouping_chart.specs.Object.{isNote}
 use Rattle.grouping_interval.specs.Notes.{ofNotes}
 use Rattle.grouping_interval.proofs.NoteLaws.{of-notes-step, of-notes-over}
-use Rattle.grouping_interval.specs.IntervalGrouping.{isRise, marksAfter, intervalMarks}
+use Rattle.grouping_interval.specs.IntervalGrouping.{isRise, lastTaken, marksAfter, intervalMarks}
 use Rattle.grouping_interval.proofs.IntervalLaws.{marks-near, marks-rise, marks-neither, marks-one, marks-none, marks-first, length-marks}
 use Rattle.grouping_interval.proofs.GroupLaws.{marks-all}
 use Rattle.grouping_interval.specs.declared.notes.Counting.{Counting}
@@ -59,14 +59,10 @@ module _ (margin : Float) (c : Counting) where
   unfolding groupsCounted
   ended-open p = rw p
 
-  pub ended-few : c .pending ≡ true → c .notes ≤ 2 → c .groups + 1 ≡ groupsCounted margin c
-  unfolding groupsCounted
-  ended-few p h = rw (p, le-ltb _ _ h)
-
-  pub ended-many : (b : Bool) → c .pending ≡ true → 2 < c .notes → isNear margin (c .next) (c .last) ≡ b
+  pub ended-pending : (b : Bool) → c .pending ≡ true → lastTaken margin (ltb 2 (c .notes)) (c .last) (c .next) ≡ b
       → cond b (c .groups) (c .groups + 1) ≡ groupsCounted margin c
   unfolding groupsCounted
-  ended-many b p h e = rw (p, lt-ltb _ _ h, e)
+  ended-pending b p e = rw (p, e)
 
 -- ---- the marks of what is pending and left
 

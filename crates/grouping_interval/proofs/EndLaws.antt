@@ -14,7 +14,8 @@ use Rattle.grouping_marks.specs.Marks.{groupCount}
 use Rattle.grouping_marks.specs.Parted.{parted}
 use Rattle.grouping_marks.proofs.MarksLaws.{count-none}
 use Rattle.grouping_marks.proofs.PartedLaws.{parted-none, parted-first, count-first}
-use Rattle.grouping_interval.specs.GroupEnd.{grow, groupEnd, marksFrom}
+use Rattle.grouping_interval.specs.GroupEnd.{grow, groupEnd}
+use Rattle.grouping_interval.specs.passes.MarkPass.{marksFrom}
 use Rattle.grouping_interval.proofs.GroupLaws.{marks-at, grown}
 pub use Rattle.grouping_interval.proofs.GroupLaws.{end-past, end-after, end-within, marks-all}
 
@@ -24,7 +25,7 @@ pub use Rattle.grouping_interval.proofs.GroupLaws.{end-past, end-after,
 grown-from : (margin : Float) (v : List Float) (at : ℕ) → at < length v
     → groupEnd margin v at ≡ suc at + grow margin (ltb 2 (length v)) (getD (drop at v) 0 nan) (drop 1 (drop at v))
 grown-from margin v at h =
-    grown margin v at h ∙ ap (λ (l : List Float). suc at + grow margin (ltb 2 (length v)) (getD l 0 nan) (drop 1 l)) (sym (drop-cons v at nan h))
+    rw (drop-cons v at nan h) (grown margin v at h)
 
 -- on what stands from `at` on, and on how many values there are
 pub end-same : (margin : Float) (xs ys : List Float) (at : ℕ) → length xs ≡ length ys → drop at xs ≡ drop at ys → groupEnd margin xs at ≡ groupEnd margin ys at
@@ -33,10 +34,7 @@ end-same margin xs ys at l e = by (ltb at (length xs)) refl
     by : (b : Bool) → ltb at (length xs) ≡ b → groupEnd margin xs at ≡ groupEnd margin ys at
     by true t =
         let h : at < length xs = ltb-true at (length xs) t in
-        grown-from margin xs at h
-        ∙ ap (λ (r : List Float). suc at + grow margin (ltb 2 (length xs)) (getD r 0 nan) (drop 1 r)) e
-        ∙ ap (λ (n : ℕ). suc at + grow margin (ltb 2 n) (getD (drop at ys) 0 nan) (drop 1 (drop at ys))) l
-        ∙ sym (grown-from margin ys at (omega arith))
+        grown-from margin xs at h ∙ rw (e, l, grown-from margin ys at (omega arith))
     by false t =
         let h : length xs ≤ at = ltb-false at (length xs) t in
         end-past margin xs at h ∙ sym (end-past margin ys at (omega arith))
@@ -55,8 +53,8 @@ pub parted-end : {A : Type 0} (margin : Float) (values : List Float) (xs : List 
     ≡ take (groupEnd margin values at - at) (drop at xs)
     ∷ parted (marksFrom margin (ltb 2 (length values)) (drop (groupEnd margin values at) values)) (drop (groupEnd margin values at) xs)
 parted-end {A} margin values xs at h l =
-    ap (λ (ms : List ℕ). parted ms (drop at xs)) (marks-at margin values at h)
-    ∙ by (groupEnd margin values at) (end-after margin values at h) (end-within margin values at h) (drop at xs) refl
+    rw (marks-at margin values at h)
+    (by (groupEnd margin values at) (end-after margin values at h) (end-within margin values at h) (drop at xs) refl)
   where
     by : (end : ℕ) → at < end → end ≤ length values → (ys : List A) → drop at xs ≡ ys
         → parted (1 ∷ replicate (end - at - 1) 0 ++ marksFrom margin (ltb 2 (length values)) (drop end values)) ys
@@ -71,7 +69,7 @@ parted-end {A} margin values xs at h l =
         let d : drop k ys ≡ drop end xs = ap (drop (suc k)) (sym e) ∙ drop-drop (suc k) at xs ∙ ap (λ (n : ℕ). drop n xs) p in
         parted-first 1 k rest y ys (omega (arith, ap length e, length-drop at xs)) (opens-first margin many (drop end values))
         ∙ ap (λ (n : ℕ). take n (y ∷ ys) ∷ parted rest (drop k ys)) s
-        ∙ ap (λ (zs : List A). take (end - at) (y ∷ ys) ∷ parted rest zs) d
+        ∙ rw d
 
 -- past the last value there is no group
 pub parted-past : {A : Type 0} (margin : Float) (many : Bool) (xs : List A) → parted (marksFrom margin many []) xs ≡ []

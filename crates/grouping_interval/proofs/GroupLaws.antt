@@ -1,6 +1,6 @@
 -- Where a group ends, case by case, and that the marks are those of the walk over the groups' ends: 1 and zeros for a group, and so on from its end.
 use mathlib.Core.Path.{_≡_, refl, sym, ap, _∙_}
-use mathlib.Core.Bool.{Bool, true, false, cond, _&&_}
+use mathlib.Core.Bool.{Bool, true, false, cond}
 use mathlib.Core.List.{List, [], _∷_, _++_}
 use Prim.Native.Nat.{ℕ, suc, _+_, _-_, _≤_, _<_}
 use native.Mathlib.Numerals.{add-one}
@@ -11,8 +11,9 @@ use lib.Seq.{drop-cons, drop-drop}
 use lib.Ieee.{Float, nan}
 use borrow.Author.Tests.{lt-ltb, le-ltb, ltb-true, ltb-false}
 use Rattle.numeric.specs.Near.{isNear}
-use Rattle.grouping_interval.specs.IntervalGrouping.{isRise, marksAfter, intervalMarks}
-use Rattle.grouping_interval.specs.GroupEnd.{grow, endAfter, groupEnd, marksFrom}
+use Rattle.grouping_interval.specs.IntervalGrouping.{isRise, lastTaken, marksAfter, intervalMarks}
+use Rattle.grouping_interval.specs.GroupEnd.{grow, endAfter, groupEnd}
+use Rattle.grouping_interval.specs.passes.MarkPass.{marksFrom}
 
 -- ---- the cases
 
@@ -32,14 +33,11 @@ plus i false = omega arith
 module _ (v : List Float) (i : ℕ) where
   -- two values or more from i on
   pub two-left : i + 1 < length v → drop i v ≡ getD v i nan ∷ getD v (i + 1) nan ∷ drop (suc (i + 1)) v
-  two-left h =
-      drop-cons v i nan (omega arith)
-      ∙ ap (λ (n : ℕ). getD v i nan ∷ drop n v) (sym (add-one i))
-      ∙ ap (λ (l : List Float). getD v i nan ∷ l) (drop-cons v (i + 1) nan h)
+  two-left h = let k : i < length v = omega arith in rw (drop-cons v i nan k, ← add-one i, drop-cons v (i + 1) nan h)
 
   -- the last value alone
   pub one-left : i < length v → length v ≤ i + 1 → drop i v ≡ getD v i nan ∷ []
-  one-left h k = drop-cons v i nan h ∙ ap (λ (l : List Float). getD v i nan ∷ l) (drop-of-length-le v {i = suc i} (omega arith))
+  one-left h k = let z : length v ≤ suc i = omega arith in rw (drop-cons v i nan h, drop-of-length-le v z)
 
 module _ (margin : Float) (v : List Float) (i : ℕ) where
   -- the value is near the next one: the group goes on
@@ -64,25 +62,18 @@ module _ (margin : Float) (v : List Float) (i : ℕ) where
   end-turn r h e f =
       let many : Bool = ltb 2 (length v) in
       let last : Float = getD v (i - 1) nan in
-      ap (λ (l : List Float). i + grow margin many last l) (two-left v i h)
-      ∙ ap (λ (k : ℕ). i + k) (grow-turn margin many last (getD v i nan) (getD v (i + 1) nan) (drop (suc (i + 1)) v) r e f)
-      ∙ plus i r
+      rw (two-left v i h, grow-turn margin many last (getD v i nan) (getD v (i + 1) nan) (drop (suc (i + 1)) v) r e f) (plus i r)
 
   -- no value is left
   pub end-none : length v ≤ i → endAfter margin v i ≡ i
   unfolding endAfter grow
   end-none h = rw (drop-of-length-le v h) (omega arith)
 
-  -- the last value, of at most two
-  pub end-few : i < length v → length v ≤ i + 1 → length v ≤ 2 → endAfter margin v i ≡ i
-  unfolding endAfter grow
-  end-few h k f = rw (one-left v i h k, le-ltb _ _ f) (omega arith)
-
-  -- the last value, of more
-  pub end-last : (b : Bool) → i < length v → length v ≤ i + 1 → 2 < length v → isNear margin (getD v i nan) (getD v (i - 1) nan) ≡ b
+  -- the last value alone is left
+  pub end-last : (b : Bool) → i < length v → length v ≤ i + 1 → lastTaken margin (ltb 2 (length v)) (getD v (i - 1) nan) (getD v i nan) ≡ b
       → endAfter margin v i ≡ cond b (i + 1) i
   unfolding endAfter grow
-  end-last b h k f e = rw (one-left v i h k, lt-ltb _ _ f, e) (plus i b)
+  end-last b h k e = rw (one-left v i h k, e) (plus i b)
 
 -- ---- the marks
 
@@ -91,7 +82,7 @@ pub marks-grow : (margin : Float) (many : Bool) (last : Float) (values : List Fl
     → marksAfter margin many last values ≡ replicate (grow margin many last values) 0 ++ marksFrom margin many (drop (grow margin many last values) values)
 unfolding marksAfter marksFrom grow
 marks-grow margin many last [] = refl
-marks-grow margin many last (v ∷ []) = by (many && isNear margin v last)
+marks-grow margin many last (v ∷ []) = by (lastTaken margin many last v)
   where
     by : (n : Bool) → cond n 0 1 ∷ [] ≡ replicate (cond n 1 0) 0 ++ marksFrom margin many (drop (cond n 1 0) (v ∷ []))
     by true = refl
@@ -101,14 +92,14 @@ marks-grow margin many last (v ∷ w ∷ rest) = by (isNear margin v w) (isRise 
     by : (n r : Bool) (g : ℕ) → marksAfter margin many v (w ∷ rest) ≡ replicate g 0 ++ marksFrom margin many (drop g (w ∷ rest))
         → cond n (0 ∷ marksAfter margin many v (w ∷ rest)) (cond r (0 ∷ 1 ∷ marksAfter margin many w rest) (1 ∷ marksAfter margin many v (w ∷ rest)))
         ≡ replicate (cond n (suc g) (cond r 1 0)) 0 ++ marksFrom margin many (drop (cond n (suc g) (cond r 1 0)) (v ∷ w ∷ rest))
-    by true r g e = ap (λ (l : List ℕ). 0 ∷ l) e
+    by true r g e = rw e
     by false true g e = refl
     by false false g e = refl
 
 pub grow-le : (margin : Float) (many : Bool) (last : Float) (values : List Float) → grow margin many last values ≤ length values
 unfolding grow
 grow-le margin many last [] = omega arith
-grow-le margin many last (v ∷ []) = by (many && isNear margin v last)
+grow-le margin many last (v ∷ []) = by (lastTaken margin many last v)
   where
     by : (n : Bool) → cond n 1 0 ≤ 1
     by true = omega arith
@@ -131,7 +122,7 @@ more n = by (ltb 1 n) refl
 pub marks-all : (margin : Float) (values : List Float) → intervalMarks margin values ≡ marksFrom margin (ltb 2 (length values)) values
 unfolding intervalMarks marksFrom
 marks-all margin [] = refl
-marks-all margin (v ∷ values) = ap (λ (b : Bool). 1 ∷ marksAfter margin b v values) (more (length values))
+marks-all margin (v ∷ values) = rw (more (length values))
 
 module _ (margin : Float) (values : List Float) (at : ℕ) where
   pub end-past : length values ≤ at → groupEnd margin values at ≡ at
@@ -146,8 +137,7 @@ module _ (margin : Float) (values : List Float) (at : ℕ) where
   unfolding endAfter
   grown h =
       let b : at + 1 - 1 ≡ at = omega arith in
-      sym (end-inside h) ∙ ap (λ (n : ℕ). at + 1 + grow margin (ltb 2 (length values)) (getD values n nan) (drop (at + 1) values)) b
-      ∙ ap (λ (n : ℕ). n + grow margin (ltb 2 (length values)) (getD values at nan) (drop n values)) (add-one at)
+      rw (← end-inside h, b, add-one at)
 
   -- a group takes a value at least
   pub end-after : at < length values → at < groupEnd margin values at

@@ -1,15 +1,15 @@
 -- The marks of a grouping by intervals: a mark for each value, 1 for the first, and what the marks of the values behind one are, case by case.
 use mathlib.Core.Path.{_≡_, refl, ap}
-use mathlib.Core.Bool.{Bool, true, false, cond, _&&_}
+use mathlib.Core.Bool.{Bool, true, false, cond}
 use mathlib.Core.List.{List, [], _∷_}
-use Prim.Native.Nat.{ℕ, suc, _<_}
+use Prim.Native.Nat.{suc, _<_}
 use native.Mathlib.Nat.{not-suc-le-zero}
 use lib.Dec.{ltb}
 use lib.ListN.{length, getD}
-use lib.Ieee.{Float, binary64, add, lt}
+use lib.Ieee.{Float}
 use Rattle.numeric.specs.Near.{isNear}
-use Rattle.grouping_interval.specs.IntervalGrouping.{isRise, marksAfter, intervalMarks}
-use Rattle.grouping_interval.specs.GroupEnd.{marksFrom}
+use Rattle.grouping_interval.specs.IntervalGrouping.{isRise, lastTaken, marksAfter, intervalMarks}
+use Rattle.grouping_interval.specs.passes.MarkPass.{marksFrom}
 
 -- ---- the cases
 
@@ -32,7 +32,7 @@ module _ (margin : Float) (many : Bool) (last v w : Float) (rest : List Float) w
 
 module _ (margin : Float) (many : Bool) where
   -- the last value
-  pub marks-one : (last v : Float) → marksAfter margin many last (v ∷ []) ≡ cond (many && isNear margin v last) 0 1 ∷ []
+  pub marks-one : (last v : Float) → marksAfter margin many last (v ∷ []) ≡ cond (lastTaken margin many last v) 0 1 ∷ []
   unfolding marksAfter
   marks-one last v = refl
 
@@ -45,18 +45,13 @@ module _ (margin : Float) (many : Bool) where
   unfolding marksFrom
   marks-first v rest = refl
 
--- the last value of more than two is taken if it is near the one before
+-- with more than two values, nearness to the one before decides on the last
 pub marks-last : (margin last v : Float) → marksAfter margin true last (v ∷ []) ≡ cond (isNear margin v last) 0 1 ∷ []
 marks-last margin last v = marks-one margin true last v
 
 -- the last of two opens a group
 pub marks-few : (margin last v : Float) → marksAfter margin false last (v ∷ []) ≡ 1 ∷ []
 marks-few margin last v = marks-one margin false last v
-
--- the test as code makes it
-pub isRise-by : (margin v w : Float) → isRise margin v w ≡ lt (add binary64 v margin) w
-unfolding isRise
-isRise-by margin v w = refl
 
 -- ---- the lengths
 
@@ -72,7 +67,7 @@ length-after margin many last (v ∷ w ∷ rest) =
         (cond n (0 ∷ marksAfter margin many v (w ∷ rest)) (cond r (0 ∷ 1 ∷ marksAfter margin many w rest) (1 ∷ marksAfter margin many v (w ∷ rest))))
         ≡ suc (suc (length rest))
     by true r e f = ap suc e
-    by false true e f = ap (λ (n : ℕ). suc (suc n)) f
+    by false true e f = rw f
     by false false e f = ap suc e
 
 -- a mark for each value

@@ -1,5 +1,5 @@
 -- The loop of `list_notes`: j notes are listed, and what is left of both lists is what the objects from i on give.
-use mathlib.Core.Path.{_≡_, refl, _∙_, ap, subst}
+use mathlib.Core.Path.{_≡_, refl, _∙_, ap}
 use mathlib.Core.Bool.{true, false}
 use mathlib.Core.List.{List}
 use Prim.Native.Nat.{ℕ, _+_, _≤_, _<_}
@@ -12,7 +12,7 @@ use Rattle.grouping_chart.specs.Object.{isNote, notes}
 use Rattle.grouping_interval.specs.Notes.{notesFrom, noteObjects, ofNotes}
 use Rattle.grouping_chart.proofs.ObjectLaws.{notes-few}
 use Rattle.grouping_interval.proofs.NoteLaws.{length-note-objects, length-of-notes, objects-all, objects-step, of-notes-step, objects-over}
-use Rattle.grouping_interval.specs.Notes.{NotesRoom, NotesListed}
+use Rattle.grouping_interval.specs.passes.Rooms.{NotesRoom, NotesListed}
 
 pub record Listing (ks : List ℕ) (ds : List Float) (o₀ o : List ℕ) (v₀ v : List Float) (j i : ℕ) : Type 0 where
   pub room : NotesRoom ks ds o₀ v₀
@@ -40,8 +40,8 @@ module _ {ks : List ℕ} {ds : List Float} {o₀ o : List ℕ} {v₀ v : List Fl
       fill-next (x .floats) (x .floats-left ∙ of-notes-step ks i true ds h (x .room .whole) e) in
       record {
         room = x .room;
-        numbers = subst (λ (k : ℕ). Fill (noteObjects ks) (length (notes ks)) 0 o₀ (set o k i) (j + 1)) (zero-add j) (a .fill);
-        floats = subst (λ (k : ℕ). Fill (ofNotes ks ds) (length (notes ks)) 0 v₀ (set v k (getD ds i nan)) (j + 1)) (zero-add j) (b .fill);
+        numbers = rw (zero-add j) at (a .fill);
+        floats = rw (zero-add j) at (b .fill);
         numbers-left = a .left;
         floats-left = b .left;
         behind = omega arith;

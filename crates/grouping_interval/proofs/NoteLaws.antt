@@ -167,5 +167,5 @@ of-notes-append (k ∷ ks) ks′ (d ∷ ds) ds′ e = by (isNote k) (of-notes-ap
   where
     by : (b : Bool) → ofNotes (ks ++ ks′) (ds ++ ds′) ≡ ofNotes ks ds ++ ofNotes ks′ ds′
         → cond b (d ∷ ofNotes (ks ++ ks′) (ds ++ ds′)) (ofNotes (ks ++ ks′) (ds ++ ds′)) ≡ cond b (d ∷ ofNotes ks ds) (ofNotes ks ds) ++ ofNotes ks′ ds′
-    by true u = ap (λ (l : List Float). d ∷ l) u
+    by true u = rw u
     by false u = u

@@ -1,6 +1,6 @@
 -- The group numbers along a walk over the groups' ends. At each end, with `number` groups behind it, the numbers from there on are those that the marks from
 -- there on give behind so many groups; and the values of the next group have the number `number`.
-use mathlib.Core.Path.{_≡_, sym, ap, _∙_}
+use mathlib.Core.Path.{_≡_, ap, _∙_}
 use mathlib.Core.List.{List, _++_}
 use Prim.Native.Nat.{ℕ, suc, _+_, _-_, _≤_, _<_}
 use native.Mathlib.Omega.{arith}
@@ -11,7 +11,8 @@ use lib.Ieee.{Float}
 use Rattle.grouping_marks.specs.Marks.{groupNumbers}
 use Rattle.grouping_marks.proofs.NumberLaws.{numbersFrom, numbers-all, numbers-group}
 use Rattle.grouping_interval.specs.IntervalGrouping.{intervalMarks}
-use Rattle.grouping_interval.specs.GroupEnd.{groupEnd, marksFrom}
+use Rattle.grouping_interval.specs.GroupEnd.{groupEnd}
+use Rattle.grouping_interval.specs.passes.MarkPass.{marksFrom}
 use Rattle.grouping_interval.proofs.GroupLaws.{marks-all, marks-at, end-after}
 
 -- the numbers from `at` on, where `number` groups end before it
@@ -48,12 +49,10 @@ module _ {margin : Float} {values : List Float} {number at : ℕ} (x : Numbering
       let b : at < end = rw e (end-after margin values at h) in
       let z : at + (end - at) ≡ end = omega arith in
       let numbers : List ℕ = groupNumbers (intervalMarks margin values) in
+      let d : drop end numbers ≡ drop (end - at) (drop at numbers) = rw (drop-drop (end - at) at numbers, z) in
       record {
         left =
-            ap (λ (n : ℕ). drop n numbers) (sym z)
-            ∙ sym (drop-drop (end - at) at numbers)
-            ∙ ap (drop (end - at)) here-on
-            ∙ drop-at (replicate (end - at) number) behind (end - at) (length-replicate (end - at) number);
+            rw (d, here-on) (drop-at (replicate (end - at) number) behind (end - at) (length-replicate (end - at) number));
         few = omega (arith, x .few);
       }
 
@@ -61,8 +60,6 @@ module _ {margin : Float} {values : List Float} {number at : ℕ} (x : Numbering
   numbering-here g a b =
       let z : at + (g - at) ≡ g = omega arith in
       let numbers : List ℕ = groupNumbers (intervalMarks margin values) in
-      ap (λ (n : ℕ). getD numbers n 0) (sym z)
-      ∙ sym (getD-drop at numbers (g - at) 0)
-      ∙ ap (λ (l : List ℕ). getD l (g - at) 0) here-on
-      ∙ List·getD-append (replicate (end - at) number) behind 0 (g - at) (omega (arith, length-replicate (end - at) number))
+      let d : getD numbers g 0 ≡ getD (drop at numbers) (g - at) 0 = rw (getD-drop at numbers (g - at) 0, z) in
+      rw (d, here-on) (List·getD-append (replicate (end - at) number) behind 0 (g - at) (omega (arith, length-replicate (end - at) number)))
       ∙ getD-replicate (end - at) (g - at) number 0 (omega arith)

@@ -35,11 +35,9 @@ after-sync margin last u v w (x ∷ y ∷ xs) rest e =
 marks-sync : (margin u v w : Float) (xs rest : List Float) → isNear margin u v ≡ true
     → drop (suc (length xs)) (intervalMarks margin (xs ++ u ∷ v ∷ w ∷ rest)) ≡ marksAfter margin true u (v ∷ w ∷ rest)
 unfolding intervalMarks
-marks-sync margin u v w [] rest e = ap (λ (b : Bool). marksAfter margin b u (v ∷ w ∷ rest)) (lt-ltb 1 (suc (suc (length rest))) (omega arith))
+marks-sync margin u v w [] rest e = rw (lt-ltb 1 (suc (suc (length rest))) (omega arith))
 marks-sync margin u v w (x ∷ xs) rest e =
-    ap (λ (b : Bool). drop (suc (length xs)) (marksAfter margin b x (xs ++ u ∷ v ∷ w ∷ rest)))
-    (lt-ltb 1 (length (xs ++ u ∷ v ∷ w ∷ rest)) (omega (arith, length-append xs (u ∷ v ∷ w ∷ rest))))
-    ∙ after-sync margin x u v w xs rest e
+    rw (lt-ltb 1 (length (xs ++ u ∷ v ∷ w ∷ rest)) (omega (arith, length-append xs (u ∷ v ∷ w ∷ rest)))) (after-sync margin x u v w xs rest e)
 
 -- values j and j + 1 are near, and there is a value j + 2
 pub marks-from : (margin : Float) (values : List Float) (j : ℕ) → suc (suc j) < length values
@@ -54,7 +52,7 @@ marks-from margin values j h e =
     size = sym (length-take-le j values (omega arith))
 
     behind : drop (suc j) values ≡ getD values (suc j) nan ∷ getD values (suc (suc j)) nan ∷ drop (suc (suc (suc j))) values
-    behind = drop-cons values (suc j) nan (omega arith) ∙ ap (λ (l : List Float). getD values (suc j) nan ∷ l) (drop-cons values (suc (suc j)) nan h)
+    behind = let k : suc j < length values = omega arith in rw (drop-cons values (suc j) nan k, drop-cons values (suc (suc j)) nan h)
 
     whole : values ≡ take j values ++ getD values j nan ∷ getD values (suc j) nan ∷ getD values (suc (suc j)) nan ∷ drop (suc (suc (suc j))) values
     whole = sym (take-append-drop j values)

@@ -1,17 +1,12 @@
--- What `group_by_interval` asks and promises: the group numbers and the count that the marks of the grouping give.
+-- What `group_by_interval` promises (scope: interval_grouping.rs): the group numbers and the count that the marks of
+-- the grouping give.
 use mathlib.Core.Path.{_≡_}
-use Prim.Native.Nat.{ℕ, _≤_}
+use Prim.Native.Nat.{ℕ}
 use mathlib.Core.List.{List}
-use lib.ListN.{length}
 use lib.Ieee.{Float}
 use Rattle.lent.specs.Over.{over}
 use Rattle.grouping_marks.specs.Marks.{groupCount, groupNumbers}
 use Rattle.grouping_interval.specs.IntervalGrouping.{intervalMarks}
-
--- a place for each value
-pub record Places (values : List Float) (group : List ℕ) : Type 0 where
-  pub few : length values ≤ 16384
-  pub room : length values ≤ length group
 
 -- each value's group number is over the front of what was `old` and is now `new`, and r is how many groups there are
 pub record GroupedByInterval (margin : Float) (values : List Float) (old new : List ℕ) (r : ℕ) : Type 0 where

@@ -1,20 +1,19 @@
--- Where the group that starts at a position ends (01, interval_grouping.rs), for the walk from group to group.
+-- Where the group that starts at a position ends (scope: interval_grouping.rs), for the walk from group to group.
 -- The law that ties it to the marks is `marks-at`, in proofs/GroupLaws.antt.
 use Prim.Native.Nat.{ℕ, suc, _+_, _-_}
-use mathlib.Core.Bool.{Bool, cond, _&&_}
+use mathlib.Core.Bool.{Bool, cond}
 use mathlib.Core.List.{List, [], _∷_}
 use lib.Dec.{ltb}
 use lib.ListN.{length, drop, getD}
 use lib.Ieee.{Float, nan}
 use Rattle.numeric.specs.Near.{isNear}
-use Rattle.grouping_interval.specs.IntervalGrouping.{isRise, marksAfter}
+use Rattle.grouping_interval.specs.IntervalGrouping.{isRise, lastTaken}
 
--- how many more values a group takes of those behind `last`, which it took.
--- `many` says that there are more than two values in all.
+-- how many more values a group takes of those behind `last`, which it took
 unfoldable pub grow : Float → Bool → Float → List Float → ℕ
 unfolding isRise
 grow margin many last [] = 0
-grow margin many last (v ∷ []) = cond (many && isNear margin v last) 1 0
+grow margin many last (v ∷ []) = cond (lastTaken margin many last v) 1 0
 grow margin many last (v ∷ w ∷ rest) =
     cond (isNear margin v w) (suc (grow margin many v (w ∷ rest))) (cond (isRise margin v w) 1 0)
 
@@ -27,9 +26,3 @@ endAfter margin values i = i + grow margin (ltb 2 (length values)) (getD values 
 unfoldable pub groupEnd : Float → List Float → ℕ → ℕ
 unfolding endAfter
 groupEnd margin values at = cond (ltb at (length values)) (endAfter margin values (at + 1)) at
-
--- the marks of values of which the first opens a group
-unfoldable pub marksFrom : Float → Bool → List Float → List ℕ
-unfolding marksAfter
-marksFrom margin many [] = []
-marksFrom margin many (v ∷ rest) = 1 ∷ marksAfter margin many v rest

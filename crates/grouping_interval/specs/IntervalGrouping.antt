@@ -1,4 +1,4 @@
--- Neighbouring values in groups (01, interval_grouping.rs). A group has its first value whatever it is, and each
+-- Neighbouring values in groups (scope: interval_grouping.rs). A group has its first value whatever it is, and each
 -- further one that is near the one behind it. At one that is not, the group ends: with it, if the value behind it is
 -- higher by more than the margin, else before it. The last value of all has none behind it: it goes on with its group
 -- if it is near the one before, and there are more than two. The values are a parameter, since notes are grouped by
@@ -15,11 +15,15 @@ use Rattle.numeric.specs.Near.{isNear}
 unfoldable pub isRise : Float → Float → Float → Bool
 isRise margin v w = lt (add binary64 v margin) w
 
--- the marks of the values behind one that a group took, which is `last`: 1 opens a group, 0 continues it.
--- `many` says that there are more than two values in all.
+-- whether the last value of all goes on with the group that took `last`, the one before it. `many` says that there are
+-- more than two values in all
+abbrev pub lastTaken : Float → Bool → Float → Float → Bool
+lastTaken margin many last v = many && isNear margin v last
+
+-- the marks of the values behind one that a group took, which is `last`: 1 opens a group, 0 continues it
 unfoldable pub marksAfter : Float → Bool → Float → List Float → List ℕ
 marksAfter margin many last [] = []
-marksAfter margin many last (v ∷ []) = cond (many && isNear margin v last) 0 1 ∷ []
+marksAfter margin many last (v ∷ []) = cond (lastTaken margin many last v) 0 1 ∷ []
 marksAfter margin many last (v ∷ w ∷ rest) =
     cond (isNear margin v w) (0 ∷ marksAfter margin many v (w ∷ rest))
     (cond (isRise margin v w) (0 ∷ 1 ∷ marksAfter margin many w rest) (1 ∷ marksAfter margin many v (w ∷ rest)))

@@ -1,4 +1,5 @@
--- What the passes of this crate carry from value to value: for its own proofs, and nothing that a reader of its
--- promises needs.
+-- What the passes of this crate ask, and what they carry from value to value: nothing that a reader of its promises
+-- needs.
+pub mod Rooms
 pub mod MarkPass
 pub mod Counting

@@ -5,8 +5,10 @@ ghost use Rattle.lent.specs.Slice.{lent, left};
 ghost use Rattle.grouping_marks.specs.Marks.{groupCount};
 ghost use Rattle.grouping_interval.specs.Notes.{ofNotes};
 ghost use Rattle.grouping_interval.specs.IntervalGrouping.{intervalMarks};
-ghost use Rattle.grouping_interval.specs.Notes.{NotesRoom, NotesListed};
+ghost use Rattle.grouping_interval.specs.passes.Rooms.{NotesRoom, NotesListed};
 ghost use Rattle.grouping_interval.specs.passes.Counting.{SumsFit, Change, counted, groupsCounted};
+use crate::last_taken;
+use crate::rise;
 use grouping_chart::object::NoteIndex;
 use grouping_chart::object::ObjectIndex;
 use grouping_chart::object::is_note;
@@ -51,7 +53,7 @@ fn count_change(c: Counting, d: f64, margin: f64) -> Counting
     requires { ⌜ Change margin c d ⌝ }
     ensures { λ r. ⌜ r ≡ counted margin c d ⌝ }
 {
-    if d > c.next + margin {
+    if rise(c.next, d, margin) {
         return Counting {
             notes: c.notes + 1,
             groups: c.groups + 1,
@@ -110,10 +112,7 @@ fn groups_counted(c: Counting, margin: f64) -> usize
     ensures { λ r. ⌜ r ≡ groupsCounted margin c ⌝ }
 {
     if c.pending {
-        if c.notes <= 2 {
-            return c.groups + 1;
-        }
-        if near(c.next, c.last, margin) {
+        if last_taken(c.notes, c.last, c.next, margin) {
             return c.groups;
         }
         return c.groups + 1;

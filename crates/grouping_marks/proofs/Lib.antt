@@ -4,4 +4,5 @@ pub mod PartedLaws
 pub mod CutLaws
 pub mod NumberLaws
 pub mod SplitLaws
+pub mod AlikeLaws
 mod PassLaws

@@ -1,6 +1,6 @@
 -- Group numbers, cut in two: the front's are below a number c, and the back's are c more than if the list began there. A list of marks
 -- can be cut before each group but the first.
-use mathlib.Core.Path.{_≡_, refl, sym, ap, _∙_, subst}
+use mathlib.Core.Path.{_≡_, refl, sym, ap, _∙_}
 use mathlib.Core.List.{List, [], _∷_, _++_, map}
 use mathlib.Core.Bool.{Bool, true, false}
 use Prim.Native.Nat.{ℕ, zero, suc, _+_, _-_, _≤_, _<_}
@@ -10,6 +10,7 @@ use lib.ListN.{length, getD, length-append, List·getD-append, length-map}
 use lib.Seq.{getD-append-add}
 use borrow.Author.Tests.{eq-eqb, ne-eqb, eqb-true, eqb-false}
 use Rattle.lent.specs.Scan.{endState, gathered}
+use Rattle.lent.specs.passes.Bounds.{AllBelow}
 use Rattle.grouping_marks.specs.Marks.{opened, groupCount, groupNumbers}
 use Rattle.lent.proofs.FillLaws.{getD-map, length-gathered, getD-gathered}
 use Rattle.grouping_marks.proofs.MarksLaws.{opened-bounds, opened-first, length-numbers, numbers-below}
@@ -17,14 +18,10 @@ use Rattle.grouping_marks.proofs.CutLaws.{Opening, nothing-left, opens,
 use Rattle.lent.proofs.WalkLaws.{after-none, after-first}
 use Rattle.lent.proofs.TableLaws.{gathered-append, gathered-front, gathered-back, gathered-moved}
 
--- every entry is below n
-abbrev pub Below : List ℕ → ℕ → Type 0
-Below xs n = (i : ℕ) → i < length xs → getD xs i 0 < n
-
-pub below-numbers : (marks : List ℕ) → Below (groupNumbers marks) (groupCount marks)
+pub below-numbers : (marks : List ℕ) → AllBelow (groupNumbers marks) (groupCount marks)
 below-numbers marks i h = numbers-below marks i (omega (arith, length-numbers marks))
 
-pub below-gathered : (table idx : List ℕ) (n : ℕ) → Below table n → Below idx (length table) → Below (gathered table idx) n
+pub below-gathered : (table idx : List ℕ) (n : ℕ) → AllBelow table n → AllBelow idx (length table) → AllBelow (gathered table idx) n
 below-gathered table idx n b c i h =
     let l : i < length idx = omega (arith, length-gathered table idx) in
     rw (getD-gathered table idx i l) (b (getD idx i 0) (c i l))
@@ -34,7 +31,7 @@ pub record Split (xs : List ℕ) (at c : ℕ) (back : List ℕ) : Type 0 where
   pub front : List ℕ
   pub whole : xs ≡ front ++ map (λ (j : ℕ). c + j) back
   pub size : length front ≡ at
-  pub below : Below front c
+  pub below : AllBelow front c
 
 pub split-numbers : (fs bs : List ℕ) → Opening bs → Split (groupNumbers (fs ++ bs)) (length fs) (groupCount fs) (groupNumbers bs)
 split-numbers fs bs o = record { front = groupNumbers fs; whole = numbers-cut fs bs o; size = length-numbers fs; below = below-numbers fs }
@@ -60,7 +57,7 @@ split-before {xs} {at} {c} {back} s i h =
 -- ---- looked up in a table that is cut at the same group
 
 -- a table of the next level's numbers
-pub split-gathered : {idx table : List ℕ} {at c d : ℕ} {back tail : List ℕ} → Split idx at c back → Split table c d tail → Below back (length tail)
+pub split-gathered : {idx table : List ℕ} {at c d : ℕ} {back tail : List ℕ} → Split idx at c back → Split table c d tail → AllBelow back (length tail)
     → Split (gathered table idx) at d (gathered tail back)
 split-gathered {idx} {table} {at} {c} {d} {back} {tail} s t b = record {
   front = gathered (t .front) (s .front);
@@ -74,8 +71,8 @@ split-gathered {idx} {table} {at} {c} {d} {back} {tail} s t b = record {
   below = below-gathered (t .front) (s .front) d (t .below) inside;
 }
   where
-    inside : Below (s .front) (length (t .front))
-    inside i h = subst (λ (k : ℕ). getD (s .front) i 0 < k) (sym (t .size)) (s .below i h)
+    inside : AllBelow (s .front) (length (t .front))
+    inside i h = rw (t .size) (s .below i h)
 
 -- a table of anything: behind the cut, what its back has
 pub split-looked : {idx : List ℕ} {at c : ℕ} {back : List ℕ} → Split idx at c back → (front tail : List ℕ) → length front ≡ c → (j : ℕ) → j < length back
@@ -134,7 +131,7 @@ cut-later : (c : ℕ) (m : ℕ) (ms : List ℕ) (q : ℕ) → CutFrom (opened c 
 cut-later c m ms q x = record {
   front = m ∷ x .front;
   back = x .back;
-  whole = ap (λ (l : List ℕ). m ∷ l) (x .whole);
+  whole = rw (x .whole);
   count = after-first opened c m (x .front) ∙ x .count;
   opening = x .opening;
 }

@@ -21,18 +21,18 @@ use Rattle.grouping_colour.proofs.StreakListLaws.{length-streakOf, length-strea
 
 -- ---- the levels of a chart's kinds
 module _ (kinds : List ℕ) where
-  lengths-even : length (patternsOpen kinds) ≡ length (streakLengths kinds)
+  one-mark-a-streak : length (patternsOpen kinds) ≡ length (streakLengths kinds)
   unfolding patternsOpen
-  lengths-even = length-patternMarks (streakLengths kinds)
+  one-mark-a-streak = length-patternMarks (streakLengths kinds)
 
   pub length-patternsOpen : length (patternsOpen kinds) ≡ groupCount (streakMarks kinds)
-  length-patternsOpen = lengths-even ∙ length-streakLengths kinds
+  length-patternsOpen = one-mark-a-streak ∙ length-streakLengths kinds
 
   pub length-hitsOpen : length (hitsOpen kinds) ≡ groupCount (patternsOpen kinds)
   unfolding coupledPatterns hitsOpen firstLengths
   length-hitsOpen =
       length-hitMarks (coupledPatterns kinds) ∙ length-coupled (firstLengths kinds) (streakCounts kinds) (patternTypes kinds)
-      ∙ length-firsts (patternsOpen kinds) (streakLengths kinds) (omega (arith, lengths-even))
+      ∙ length-firsts (patternsOpen kinds) (streakLengths kinds) (omega (arith, one-mark-a-streak))
 
   -- each number is below its level's count
   pub pattern-below : (j : ℕ) → j < groupCount (streakMarks kinds) → getD (groupNumbers (patternsOpen kinds)) j 0 < groupCount (patternsOpen kinds)

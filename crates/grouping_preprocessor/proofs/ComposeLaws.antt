@@ -111,7 +111,7 @@ module _ {at m : ℕ} {x w₀ w w′ : List ℕ} {a k : ℕ} (s : Marked at m x 
 
   -- of the marks alone
   pass : (f : List ℕ → List ℕ) → w′ ≡ put a (f (part at m w)) w → length (f x) ≡ k → a + k ≤ length w₀ → Wrote a k (f x) w w′
-  pass f e l r = record { is = e ∙ ap (λ (l : List ℕ). put a (f l) w) (s .marks); size = l; room = omega arith }
+  pass f e l r = record { is = rw (s .marks) at e; size = l; room = omega arith }
 
   -- a write below the marks, or above
   still : {v : List ℕ} → Wrote a k v w w′ → (a + k ≤ at) ⊎ (at + m ≤ a) → Marked at m x w₀ w′

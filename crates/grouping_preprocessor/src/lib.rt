@@ -49,7 +49,7 @@ fn find_hit_marks(w: &mut [u16], n: usize, p: usize)
     ensures { λ r. ⌜ HitMarksFound n p (lent w) (left w) ⌝ }
 {
     let marks = 6 * n;
-    alternating_mono_pattern::mark_coupled(w, n, 5 * n, 2 * n, p, marks);
+    alternating_mono_pattern::flag_coupled(w, n, 5 * n, 2 * n, p, marks);
     grouping_hits::mark_hits(w, marks, p);
     grouping_hits::second_lengths(w, n, marks, p, 2 * n);
 }

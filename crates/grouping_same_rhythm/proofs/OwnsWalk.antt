@@ -15,7 +15,8 @@ use Rattle.grouping_marks.specs.Marks.{groupCount}
 use Rattle.grouping_marks.specs.Parted.{parted}
 use Rattle.lent.proofs.PieceLaws.{part-pieces, part-rest}
 use Rattle.grouping_interval.specs.IntervalGrouping.{intervalMarks}
-use Rattle.grouping_interval.specs.GroupEnd.{groupEnd, marksFrom}
+use Rattle.grouping_interval.specs.GroupEnd.{groupEnd}
+use Rattle.grouping_interval.specs.passes.MarkPass.{marksFrom}
 use Rattle.grouping_interval.proofs.EndLaws.{end-after, end-within, marks-all, parted-end, parted-past, count-from, count-past}
 use Rattle.grouping_same_rhythm.specs.passes.Owns.{settledUpTo}
 

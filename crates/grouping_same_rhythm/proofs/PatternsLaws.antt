@@ -13,7 +13,8 @@ use Rattle.lent.specs.Over.{part}
 use Rattle.grouping_marks.specs.Parted.{parted}
 use Rattle.lent.proofs.OverLaws.{length-part, getD-part, lent-part}
 use Rattle.grouping_interval.specs.IntervalGrouping.{intervalMarks}
-use Rattle.grouping_interval.specs.GroupEnd.{groupEnd, marksFrom}
+use Rattle.grouping_interval.specs.GroupEnd.{groupEnd}
+use Rattle.grouping_interval.specs.passes.MarkPass.{marksFrom}
 use Rattle.grouping_interval.proofs.NumberLaws.{Numbering, numbering-start, numbering-next, numbering-here}
 use Rattle.grouping_interval.proofs.EndLaws.{end-after, end-within, marks-all, parted-end}
 use Rattle.grouping_same_rhythm.specs.SamePatterns.{patternInterval, patternRatio, patternNumber, patternOf}

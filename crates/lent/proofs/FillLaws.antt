@@ -1,5 +1,5 @@
 -- A loop that stores a goal list g of n elements from place `to` on, one element a turn: its invariant, with the laws of the start, of a turn and of the end.
-use mathlib.Core.Path.{_≡_, refl, sym, ap, _∙_, subst}
+use mathlib.Core.Path.{_≡_, refl, sym, ap, _∙_}
 use mathlib.Core.Logic.{_⊎_, inl, inr, ⊎-elim}
 use mathlib.Core.List.{List, [], _∷_, _++_, map}
 use Prim.Native.Nat.{ℕ, zero, suc, _+_, _≤_, _<_}
@@ -73,7 +73,7 @@ module _ {A : Type 0} where
 
   pub fill-turn-front : {g : List A} {n : ℕ} {w₀ w : List A} {i : ℕ} {v : A} (d : A) → Fill g n 0 w₀ w i → i < n → v ≡ getD g i d
       → Fill g n 0 w₀ (set w i v) (i + 1)
-  fill-turn-front {g} {n} {w₀} {w} {i} {v} d x h q = subst (λ (k : ℕ). Fill g n 0 w₀ (set w k v) (i + 1)) (zero-add i) (fill-turn d x h q)
+  fill-turn-front {i} d x h q = rw (zero-add i) at (fill-turn d x h q)
 
   pub fill-end-front : {g : List A} {n : ℕ} {w₀ w : List A} {i : ℕ} → Fill g n 0 w₀ w i → n ≤ i → w ≡ over g w₀
   fill-end-front {g} {w₀} x h = fill-end x h ∙ put-front g w₀

@@ -3,7 +3,7 @@ use mathlib.Core.Path.{_≡_, refl, sym, ap, _∙_, subst}
 use mathlib.Core.Logic.{_⊎_, ⊎-elim}
 use mathlib.Core.List.{List, [], _∷_, _++_}
 use Prim.Native.Nat.{ℕ, zero, suc, _+_, _-_, _≤_, _<_}
-use native.Mathlib.Nat.{le-of-suc-le-suc, not-suc-le-zero, suc-add, zero-add}
+use native.Mathlib.Nat.{le-of-suc-le-suc, not-suc-le-zero, suc-add, zero-add, add-sub-cancel-left}
 use native.Mathlib.Numerals.{add-one}
 use native.Mathlib.Omega.{arith}
 use lib.ListN.{length, take, drop, getD, set, length-append, length-drop, take-append-drop}
@@ -174,10 +174,7 @@ module _ {A : Type 0} where
   -- a part as code lends it, from a to a + n, and from the front
   pub lent-part : (a n : ℕ) (w : List A) → take (a + n - a) (drop a w) ≡ part a n w
   unfolding part
-  lent-part a n w = rw (cut a n)
-    where
-      cut : (a n : ℕ) → a + n - a ≡ n
-      cut a n = omega arith
+  lent-part a n w = rw (add-sub-cancel-left a n)
 
   pub lent-front : (n : ℕ) (w : List A) → take n w ≡ part 0 n w
   unfolding part

@@ -36,9 +36,8 @@ module _ {A : Type 0} where
   unfolding part
   part-rest at end xs h =
       let e : at + (end - at) ≡ end = omega arith in
-      ap (λ (n : ℕ). take (end - at) (drop at xs) ++ drop n xs) (sym e)
-      ∙ ap (λ (l : List A). take (end - at) (drop at xs) ++ l) (sym (drop-drop (end - at) at xs))
-      ∙ take-append-drop (end - at) (drop at xs)
+      let d : drop end xs ≡ drop (end - at) (drop at xs) = rw (drop-drop (end - at) at xs, e) in
+      rw d (take-append-drop (end - at) (drop at xs))
 
   -- lists with the same part have the same shorter part there
   pub part-shorter : (a s n : ℕ) (v w : List A) → s ≤ n → part a n w ≡ part a n v → part a s w ≡ part a s v

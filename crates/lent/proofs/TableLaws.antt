@@ -1,5 +1,5 @@
 -- Lists made by a function of the place, cut in two; entries past the cut; and entries looked up in a table that is cut in two.
-use mathlib.Core.Path.{_≡_, refl, ap, _∙_}
+use mathlib.Core.Path.{_≡_, refl}
 use mathlib.Core.Bool.{Bool, true, false}
 use mathlib.Core.List.{List, [], _∷_, _++_, map, append-nil, append-assoc}
 use Prim.Native.Nat.{ℕ, zero, suc, _+_, _<_}
@@ -10,22 +10,19 @@ use lib.Dec.{ltb}
 use lib.ListN.{length, getD, length-append, List·getD-append}
 use lib.Seq.{getD-append-add}
 use Rattle.lent.specs.Scan.{tabulate, gathered}
+use Rattle.lent.specs.passes.Bounds.{AllBelow}
 use Rattle.lent.proofs.FillLaws.{tabulate-agree, getD-map}
 
 tabulate-split : {B : Type 0} (f : ℕ → B) (a b : ℕ) → tabulate f (a + b) ≡ tabulate f a ++ tabulate (λ i. f (a + i)) b
 unfolding tabulate
 tabulate-split f a zero = rw (add-zero a, append-nil (tabulate f a))
-tabulate-split {B} f a (suc b) =
-    ap (tabulate f) (add-suc a b)
-    ∙ ap (λ (l : List B). l ++ (f (a + b) ∷ [])) (tabulate-split f a b)
-    ∙ append-assoc (tabulate f a) (tabulate (λ i. f (a + i)) b) (f (a + b) ∷ [])
+tabulate-split f a (suc b) =
+    rw (add-suc a b, tabulate, tabulate-split f a b) (append-assoc (tabulate f a) (tabulate (λ i. f (a + i)) b) (f (a + b) ∷ []))
 
 -- a list of one element for each of xs ++ ys: the part for ys is made by g, if g is f counted from there
 pub tabulate-cut : {A B : Type 0} (f g : ℕ → B) (xs ys : List A) → ((i : ℕ) → i < length ys → f (length xs + i) ≡ g i)
     → tabulate f (length (xs ++ ys)) ≡ tabulate f (length xs) ++ tabulate g (length ys)
-tabulate-cut {B} f g xs ys h =
-    ap (tabulate f) (length-append xs ys) ∙ tabulate-split f (length xs) (length ys)
-    ∙ ap (λ (l : List B). tabulate f (length xs) ++ l) (tabulate-agree (λ i. f (length xs + i)) g (length ys) h)
+tabulate-cut f g xs ys h = rw (length-append xs ys, tabulate-split f (length xs) (length ys), tabulate-agree (λ i. f (length xs + i)) g (length ys) h)
 
 -- the same, with the part for xs made by another function too
 pub tabulate-cut₂ : {A B : Type 0} (f e g : ℕ → B) (xs ys : List A) → ((i : ℕ) → i < length xs → f i ≡ e i)
@@ -36,9 +33,9 @@ tabulate-cut₂ {B} f e g xs ys h k =
 
 -- ---- past the cut
 
--- counted from the cut, an entry past it, and one two or one further on
+-- counted from the cut, an entry past it, and one k further on
 pub getD-past : (front back : List ℕ) (n i k : ℕ) → length front ≡ n → getD (front ++ back) (n + i + k) 0 ≡ getD back (i + k) 0
-getD-past front back n i k e = ap (λ (j : ℕ). getD (front ++ back) j 0) (omega arith) ∙ getD-append-add front back (i + k) 0
+getD-past front back n i k e = let z : n + i + k ≡ length front + (i + k) = omega arith in rw z (getD-append-add front back (i + k) 0)
 
 pub ltb-past : (front back : List ℕ) (i k : ℕ) → ltb (length front + i + k) (length (front ++ back)) ≡ ltb (i + k) (length back)
 ltb-past front back i k = by (ltb (i + k) (length back)) refl
@@ -55,7 +52,7 @@ gathered-append table [] idx′ = refl
 gathered-append table (j ∷ idx) idx′ = rw (gathered-append table idx idx′)
 
 -- numbers below the length of the table's front look up the front
-pub gathered-front : (front back idx : List ℕ) → ((i : ℕ) → i < length idx → getD idx i 0 < length front) → gathered (front ++ back) idx ≡ gathered front idx
+pub gathered-front : (front back idx : List ℕ) → AllBelow idx (length front) → gathered (front ++ back) idx ≡ gathered front idx
 unfolding gathered
 gathered-front front back [] h = refl
 gathered-front front back (j ∷ idx) h =
@@ -71,7 +68,7 @@ gathered-back front back (j ∷ idx) n e = λ i. here i ∷ gathered-back front 
     here = rw (← e) (getD-append-add front back j 0)
 
 -- a table whose entries are moved on gives entries moved on
-pub gathered-moved : (table idx : List ℕ) (n : ℕ) → ((i : ℕ) → i < length idx → getD idx i 0 < length table)
+pub gathered-moved : (table idx : List ℕ) (n : ℕ) → AllBelow idx (length table)
     → gathered (map (λ (j : ℕ). n + j) table) idx ≡ map (λ (j : ℕ). n + j) (gathered table idx)
 unfolding gathered
 gathered-moved table [] n h = refl

@@ -1,12 +1,13 @@
 // Filling a lent slice from its front: copies, look-ups and zeros.
 ghost use mathlib.Core.Path.{_≡_};
-ghost use Prim.Native.Nat.{ℕ, _+_, _≤_, _<_};
-ghost use lib.ListN.{length, getD, replicate};
+ghost use Prim.Native.Nat.{_+_, _≤_};
+ghost use lib.ListN.{length, replicate};
 ghost use lib.Ieee as Ieee;
 ghost use lib.Ieee.{binary64};
 ghost use Rattle.lent.specs.Slice.{lent, left};
 ghost use Rattle.lent.specs.Over.{over, put};
 ghost use Rattle.lent.specs.Scan.{gathered};
+ghost use Rattle.lent.specs.passes.Bounds.{AllBelow};
 
 pub fn copy(src: &[u16], out: &mut [u16])
     requires { ⌜ length (now src) ≤ length (now out) ⌝ }
@@ -21,8 +22,7 @@ pub fn copy(src: &[u16], out: &mut [u16])
 
 // What the table has at each number.
 pub fn gather(table: &[u16], idx: &[u16], out: &mut [u16])
-    requires { ⌜ (length (now idx) ≤ length (now out))
-        × ((i : ℕ) → i < length (now idx) → getD (now idx) i 0 < length (now table)) ⌝ }
+    requires { ⌜ (length (now idx) ≤ length (now out)) × AllBelow (now idx) (length (now table)) ⌝ }
     ensures { λ r. ⌜ left out ≡ over (gathered (lent table) (lent idx)) (lent out) ⌝ }
 {
     let mut i = 0;
@@ -36,8 +36,7 @@ pub fn gather(table: &[u16], idx: &[u16], out: &mut [u16])
 // What the table, all of bytes, has at each number.
 pub fn gather_bytes(table: &[u16], idx: &[u16], out: &mut [u8])
     requires { ⌜ (length (now idx) ≤ length (now out))
-        × (((i : ℕ) → i < length (now idx) → getD (now idx) i 0 < length (now table))
-        × ((j : ℕ) → getD (now table) j 0 < 256)) ⌝ }
+        × (AllBelow (now idx) (length (now table)) × AllBelow (now table) 256) ⌝ }
     ensures { λ r. ⌜ left out ≡ over (gathered (lent table) (lent idx)) (lent out) ⌝ }
 {
     let mut i = 0;

@@ -10,7 +10,8 @@ ghost use Rattle.numeric.specs.Tenths.{tenthsOf, InTenthsRange};
 ghost use Rattle.numeric.specs.Logistic.{logisticAt};
 ghost use Rattle.numeric_sort.specs.Ordered.{AllFinite};
 ghost use Rattle.grouping_normalizer.specs.Normalizer.{NormalOf};
-ghost use Rattle.grouping_interval.specs.GroupByInterval.{Places, GroupedByInterval};
+ghost use Rattle.grouping_interval.specs.GroupByInterval.{GroupedByInterval};
+ghost use Rattle.grouping_interval.specs.passes.Rooms.{ValuesRoom};
 
 #[no_mangle]
 pub extern "C" fn numeric_near(a: f64, b: f64, margin: f64) -> bool
@@ -69,7 +70,7 @@ pub extern "C" fn grouping_group_by_interval(
     margin: f64,
     group: &mut [u16],
 ) -> usize
-    requires { ⌜ Places (now values) (now group) ⌝ }
+    requires { ⌜ ValuesRoom (now values) (now group) ⌝ }
     ensures { λ r. ⌜ GroupedByInterval margin (lent values) (lent group) (left group) r ⌝ }
 {
     grouping_interval::group_by_interval(values, margin, group)

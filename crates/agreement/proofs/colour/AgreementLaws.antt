@@ -4,7 +4,7 @@ use mathlib.Core.List.{List}
 use Prim.Native.Nat.{ℕ, _+_, _<_}
 use native.Mathlib.Omega.{arith}
 use lib.ListN.{length}
-use Rattle.agreement.specs.colour.Agreement.{Agree, Agreement}
+use Rattle.agreement.specs.passes.Agreement.{Agree, Agreement}
 
 module _ {limit : ℕ} {kinds : List ℕ} {a g : ℕ} {kinds′ : List ℕ} {b h : ℕ} (r : Agree limit kinds a g kinds′ b h) where
   pub agree-sym : Agree limit kinds′ b h kinds a g

@@ -12,7 +12,7 @@ use Rattle.evaluator_values.proofs.StandingLaws.{value-of}
 use Rattle.agreement.specs.CommonTail.{Counterparts, SameLast}
 use Rattle.agreement.specs.SameGroups.{OpensAt, SameGroups}
 use Rattle.agreement.specs.colour.Landmark.{ColourLandmark}
-use Rattle.agreement.specs.colour.Agreement.{HitsCut, Agree}
+use Rattle.agreement.specs.passes.Agreement.{HitsCut, Agree}
 use Rattle.agreement.specs.colour.Claim.{Settled, HitsClaim, hitPatterns, hitsOf, ColourClaim}
 use Rattle.agreement.proofs.GroupLaws.{ReachesBack, same-groups}
 use Rattle.agreement.proofs.colour.HitsAgree.{colour-agree, landmark-late}

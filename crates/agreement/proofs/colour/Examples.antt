@@ -11,9 +11,9 @@ use Rattle.grouping_colour.specs.MonoStreak.{continues, opensStreak, streakMark
 use Rattle.grouping_colour.specs.AlternatingMonoPattern.{opensPattern, patternMarks, coupledAt, coupled}
 use Rattle.grouping_preprocessor.specs.Preprocessor.{patternsOpen, firstLengths, streakCounts, patternTypes, coupledPatterns, alternatingOf}
 use Rattle.agreement.specs.colour.Landmark.{ColourLandmark}
-use Rattle.agreement.specs.Tests.{allTrue, anyBelow}
-use Rattle.agreement.specs.colour.LandmarkTest.{levelsOf, tailNoteBefore, objectServes, streakServes, patternServes, endsAt, patternFound, streakFound}
-use Rattle.agreement.specs.colour.LandmarkTest.{landmarkFound, isLandmark, plain}
+use Rattle.agreement.specs.passes.Tests.{allTrue, anyBelow}
+use Rattle.agreement.specs.passes.LandmarkTest.{levelsOf, tailNoteBefore, objectServes, streakServes, patternServes, endsAt, patternFound, streakFound}
+use Rattle.agreement.specs.passes.LandmarkTest.{landmarkFound, isLandmark, plain}
 use Rattle.agreement.proofs.Readings.{LandmarkExample, offsetsBelow, offsetsFound}
 use Rattle.agreement.proofs.colour.LandmarkLaws.{test-landmark}
 
@@ -34,6 +34,12 @@ examples =
     ∷ record { before = 0 ∷ []; tail = 0 ∷ 2 ∷ 1 ∷ 1 ∷ 2 ∷ 0 ∷ 0 ∷ 2 ∷ []; offsets = 8 ∷ [] }
     -- were any pattern that opens in the tail enough, without (a) and (b), there would be one at 3
     ∷ record { before = 2 ∷ 0 ∷ []; tail = 0 ∷ 1 ∷ 1 ∷ 2 ∷ []; offsets = [] }
+    -- the guide's chart, whole: dkdkkdkknkkddkdkkdkk
+    ∷ record {
+      before = [];
+      tail = 0 ∷ 1 ∷ 0 ∷ 1 ∷ 1 ∷ 0 ∷ 1 ∷ 1 ∷ 2 ∷ 1 ∷ 1 ∷ 0 ∷ 0 ∷ 1 ∷ 0 ∷ 1 ∷ 1 ∷ 0 ∷ 1 ∷ 1 ∷ [];
+      offsets = 8 ∷ 11 ∷ 13 ∷ 15 ∷ 20 ∷ [];
+    }
     -- no objects
     ∷ record { before = []; tail = []; offsets = [] }
     ∷ []

@@ -18,10 +18,10 @@ use Rattle.grouping_colour.specs.MonoStreak.{continues, opensStreak, streakMark
 use Rattle.grouping_colour.specs.AlternatingMonoPattern.{opensPattern, patternMarks, coupledAt, coupled}
 use Rattle.grouping_preprocessor.specs.Preprocessor.{patternsOpen, firstLengths, streakCounts, patternTypes, coupledPatterns, hitsOpen, hitSizes, hitFirsts}
 use Rattle.grouping_preprocessor.specs.Preprocessor.{hitSeconds, hitIntervals, alternatingOf, hitOf, intervalOf}
-use Rattle.agreement.specs.Tests.{allTrue, anyBelow}
-use Rattle.agreement.specs.colour.LandmarkTest.{LevelLists, levelsOf, Conditions, tailNoteBefore, objectServes, streakServes, patternServes, plain}
-use Rattle.agreement.specs.colour.LandmarkTest.{endsAt}
-use Rattle.agreement.specs.colour.LandmarkTest.{patternFound, streakFound, landmarkFound, isLandmark}
+use Rattle.agreement.specs.passes.Tests.{allTrue, anyBelow}
+use Rattle.agreement.specs.passes.LandmarkTest.{LevelLists, levelsOf, Conditions, tailNoteBefore, objectServes, streakServes, patternServes, plain}
+use Rattle.agreement.specs.passes.LandmarkTest.{endsAt}
+use Rattle.agreement.specs.passes.LandmarkTest.{patternFound, streakFound, landmarkFound, isLandmark}
 use Rattle.agreement.proofs.Readings.{ClaimFrom, opensThere, refutes, refuted}
 use Rattle.agreement.proofs.colour.LandmarkLaws.{test-landmark}
 use Rattle.agreement.proofs.colour.HitsAgree.{colour-agree}

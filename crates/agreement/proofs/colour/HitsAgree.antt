@@ -21,7 +21,7 @@ use Rattle.grouping_colour.proofs.StreakListLaws.{streakOf-made}
 use Rattle.grouping_colour.proofs.StreakCutLaws.{HasNote, streakMarksAfter, streakMarks-cut, streakMarks-agree}
 use Rattle.agreement.specs.CommonTail.{Counterparts, lastOf, SameLast}
 use Rattle.agreement.specs.colour.Landmark.{ColourLandmark}
-use Rattle.agreement.specs.colour.Agreement.{Agree, Agreement}
+use Rattle.agreement.specs.passes.Agreement.{Agree, Agreement}
 use Rattle.agreement.proofs.colour.RiseLaws.{pattern-rises}
 use Rattle.agreement.proofs.colour.AgreementLaws.{agreement-sym}
 use Rattle.agreement.proofs.colour.PartLaws.{Parted, split-from, patterns-split, objects-back, parted-agree}

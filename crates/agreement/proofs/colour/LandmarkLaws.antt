@@ -1,4 +1,4 @@
--- The test says true exactly of the landmarks.
+-- The test finds exactly the landmarks: each field of a landmark is one of its tests, and a number below a bound is there exactly where the search finds one.
 use mathlib.Core.Path.{_≡_, ap, _∙_}
 use mathlib.Core.List.{List, [], _∷_}
 use mathlib.Core.Bool.{Bool, true}
@@ -9,10 +9,10 @@ use lib.ListN.{length, getD}
 use borrow.Author.Tests.{ltb-true, leb-true, eqb-true, eqb-false, lt-ltb, le-leb, eq-eqb, ne-eqb, not-true}
 use Rattle.grouping_chart.specs.Object.{isNote}
 use Rattle.grouping_preprocessor.specs.Preprocessor.{alternatingOf}
-use Rattle.agreement.specs.Tests.{allTrue}
+use Rattle.agreement.specs.passes.Tests.{allTrue}
 use Rattle.agreement.specs.colour.Landmark.{ColourLandmark}
-use Rattle.agreement.specs.colour.LandmarkTest.{levelsOf, tailNoteBefore, objectServes, streakServes, patternServes, plain, endsAt, patternFound}
-use Rattle.agreement.specs.colour.LandmarkTest.{streakFound, landmarkFound, isLandmark}
+use Rattle.agreement.specs.passes.LandmarkTest.{levelsOf, tailNoteBefore, objectServes, streakServes, patternServes, plain, endsAt, patternFound}
+use Rattle.agreement.specs.passes.LandmarkTest.{streakFound, landmarkFound, isLandmark}
 use Rattle.agreement.proofs.TestLaws.{not-of, all-first, all-rest, all-none, all-more, any-found, found-any, none-found, found-none}
 
 module _ (kinds : List ℕ) (m position : ℕ) where

@@ -11,7 +11,8 @@ use Rattle.lent.proofs.FillLaws.{length-tabulate, length-gathered, getD-gathere
 use Rattle.grouping_marks.proofs.MarksLaws.{length-numbers, length-places, length-sizes, length-firsts}
 use Rattle.grouping_marks.proofs.CutLaws.{Opening, sizes-cut, firsts-cut, count-cut, places-cut}
 use Rattle.grouping_marks.proofs.NumberLaws.{number-first}
-use Rattle.grouping_marks.proofs.SplitLaws.{Below, Split, below-numbers, below-gathered, split-numbers, split-length, split-at, split-before, split-gathered}
+use Rattle.lent.specs.passes.Bounds.{AllBelow}
+use Rattle.grouping_marks.proofs.SplitLaws.{Split, below-numbers, below-gathered, split-numbers, split-length, split-at, split-before, split-gathered}
 use Rattle.grouping_marks.proofs.SplitLaws.{split-looked, split-continues}
 use Rattle.grouping_hits.specs.RepeatingHitPatterns.{secondAt, secondLengths, intervals}
 use Rattle.grouping_hits.proofs.LengthLaws.{length-hitMarks, length-secondLengths}
@@ -28,7 +29,7 @@ use Rattle.grouping_preprocessor.proofs.BoundLaws.{intervalOf-looked}
 use Rattle.grouping_colour.proofs.StreakListLaws.{streakOf-made}
 use Rattle.grouping_preprocessor.proofs.MadeLaws.{coupledPatterns-made, hitsOpen-made, hitCount-made, hitSizes-made, hitFirsts-made, hitSeconds-made}
 use Rattle.grouping_preprocessor.proofs.MadeLaws.{hitIntervals-made}
-use Rattle.agreement.specs.colour.Agreement.{FirstAlike, HitsCut, Agree}
+use Rattle.agreement.specs.passes.Agreement.{FirstAlike, HitsCut, Agree}
 
 -- what stands behind the cut: the marks of each level, and the patterns' first lengths
 pub record Back : Type 0 where
@@ -119,14 +120,14 @@ module _ {kinds : List ℕ} {k : Back} (x : Parted kinds k) where
   patterns-table : Split (groupNumbers (patternsOpen kinds)) (length (x .patterns)) (length (x .hits)) (groupNumbers (k .patterns))
   patterns-table = rw (x .patterns-whole, ← x .patterns-count) (split-numbers (x .patterns) (k .patterns) (x .patterns-open))
 
-  streaks-inside : Below (groupNumbers (k .streaks)) (length (groupNumbers (k .patterns)))
+  streaks-inside : AllBelow (groupNumbers (k .streaks)) (length (groupNumbers (k .patterns)))
   streaks-inside i h = omega (arith, below-numbers (k .streaks) i h, back-patterns, length-numbers (k .patterns))
 
   pub patterns-split : Split (alternatingOf kinds) (length (x .streaks)) (length (x .hits)) (backPattern k)
   unfolding backPattern
   patterns-split = rw (← alternatingOf-looked kinds) (split-gathered streaks-split patterns-table streaks-inside)
 
-  patterns-inside : Below (backPattern k) (length (groupNumbers (k .hits)))
+  patterns-inside : AllBelow (backPattern k) (length (groupNumbers (k .hits)))
   unfolding backPattern
   patterns-inside i h =
       omega (
@@ -141,7 +142,7 @@ module _ {kinds : List ℕ} {k : Back} (x : Parted kinds k) where
   hits-split =
       rw (← hitOf-looked kinds) (split-gathered patterns-split (rw (x .hits-whole) (split-numbers (x .hits) (k .hits) (x .hits-open))) patterns-inside)
 
-  hits-inside : Below (backHit k) (groupCount (k .hits))
+  hits-inside : AllBelow (backHit k) (groupCount (k .hits))
   unfolding backHit
   hits-inside = below-gathered (groupNumbers (k .hits)) (backPattern k) (groupCount (k .hits)) (below-numbers (k .hits)) patterns-inside
 

@@ -9,11 +9,11 @@ use lib.ListN.{length, getD}
 use lib.Ieee.{Float, nan}
 use Rattle.grouping_colour.specs.MonoStreak.{streakOf}
 use Rattle.grouping_preprocessor.specs.Preprocessor.{alternatingOf, hitOf}
-use Rattle.evaluator_values.specs.Colour.{isFirst, colourAt}
+use Rattle.evaluator_values.specs.Colour.{isFirst, standingAt, colourAt}
 use Rattle.evaluator_values.proofs.StandingLaws.{change-first}
-use Rattle.evaluator_values.proofs.AlikeLaws.{StandingAlike, colour-alike}
+use Rattle.evaluator_values.proofs.AlikeLaws.{standing-alike, colour-alike}
 use Rattle.agreement.specs.CommonTail.{Counterparts, SameLast}
-use Rattle.agreement.specs.colour.Agreement.{FirstAlike, Agree}
+use Rattle.agreement.specs.passes.Agreement.{FirstAlike, Agree}
 use Rattle.agreement.proofs.TailLaws.{same-at}
 
 -- object 0 apart, an object is first exactly when it is not of the group of the object before
@@ -29,15 +29,13 @@ module _ {limit : ℕ} {kinds : List ℕ} {a g : ℕ} {kinds′ : List ℕ} {b h
       let y : b + (i - a) ≡ i′ = omega (arith, r .objects) in
       subst₂ P x y (f (i - a))
 
-  looked-agree : (j : ℕ) → a + j < length kinds → g + limit ≤ getD (hitOf kinds) (a + j) 0 + 1 → StandingAlike limit kinds (a + j) kinds′ (b + j)
-  looked-agree j l n = record {
-    interval = r .interval j l n;
-    patternPlace = r .pattern-place j l;
-    streakPlace = r .streak-place j l;
-    streak = first-agree (streakOf kinds) (streakOf kinds′) a b j (r .cut .some) (r .cut′ .some) (r .streak-first j l);
-    pattern = first-agree (alternatingOf kinds) (alternatingOf kinds′) a b j (r .cut .some) (r .cut′ .some) (r .pattern-first j l);
-    hit = first-agree (hitOf kinds) (hitOf kinds′) a b j (r .cut .some) (r .cut′ .some) (r .hit-first j l);
-  }
+  standing-agree : (j : ℕ) → a + j < length kinds → g + limit ≤ getD (hitOf kinds) (a + j) 0 + 1
+      → standingAt limit kinds (a + j) ≡ standingAt limit kinds′ (b + j)
+  standing-agree j l n =
+      standing-alike limit kinds (a + j) kinds′ (b + j) (r .interval j l n) (r .pattern-place j l) (r .streak-place j l)
+      (first-agree (streakOf kinds) (streakOf kinds′) a b j (r .cut .some) (r .cut′ .some) (r .streak-first j l))
+      (first-agree (alternatingOf kinds) (alternatingOf kinds′) a b j (r .cut .some) (r .cut′ .some) (r .pattern-first j l))
+      (first-agree (hitOf kinds) (hitOf kinds′) a b j (r .cut .some) (r .cut′ .some) (r .hit-first j l))
 
   -- each object has a ratio, the last m of these are alike, and the landmark stands four objects into the tail or later
   module _ (tolerance : Float) {ratios ratios′ : List Float} {m : ℕ} (whole : length ratios ≡ length kinds) (whole′ : length ratios′ ≡ length kinds′)
@@ -50,7 +48,8 @@ module _ {limit : ℕ} {kinds : List ℕ} {a g : ℕ} {kinds′ : List ℕ} {b h
     value-behind j l n =
         let this = same-ratio (a + j) (b + j) (omega arith) (omega (arith, r .objects)) in
         let earlier = same-ratio (a + j - 2) (b + j - 2) (omega arith) (omega (arith, r .objects, s .inside, s .inside′)) in
-        colour-alike tolerance ratios ratios′ (looked-agree j l n) this earlier (omega (arith, s .inside)) (omega (arith, r .objects, s .inside′))
+        colour-alike limit tolerance kinds ratios (a + j) kinds′ ratios′ (b + j) (standing-agree j l n) this earlier
+        (omega (arith, s .inside)) (omega (arith, r .objects, s .inside′))
 
     pub value-agree : (i i′ : ℕ) → a ≤ i → Counterparts (length kinds) (length kinds′) i i′ → i < length kinds → g + limit ≤ getD (hitOf kinds) i 0 + 1
         → colourAt limit tolerance kinds ratios i ≡ colourAt limit tolerance kinds′ ratios′ i′

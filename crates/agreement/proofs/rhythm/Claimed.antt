@@ -1,6 +1,6 @@
 -- The rhythm half, proved for every margin: for two lists of notes' deltas and for two charts. The idea: from the note before a landmark on counterparts have
 -- group numbers that differ by a constant.
-use mathlib.Core.Path.{_≡_, refl, sym, ap, _∙_, subst, subst₂}
+use mathlib.Core.Path.{_≡_, refl, sym, _∙_, subst, subst₂}
 use mathlib.Core.Bool.{Bool, true, false}
 use mathlib.Core.Logic.{_⊎_, inl, inr}
 use mathlib.Core.List.{List, _∷_}
@@ -64,20 +64,20 @@ same-behind-shift {margin} {xs} {ys} {a} {b} s = same-groups (record {
 
 module _ (margin : Float) {t : ℕ} {xs ys : List Float} (s : SameLast t xs ys) (i i′ : ℕ) (c : Counterparts (length xs) (length ys) i i′)
     (m : RhythmLandmark margin xs t i ⊎ RhythmLandmark margin ys t i′) where
-  mark : RhythmLandmark margin xs t i
-  mark = either-list s margin i i′ c m
+  landmark : RhythmLandmark margin xs t i
+  landmark = either-list s margin i i′ c m
 
   one : i - 1 + 1 ≡ i
-  one = omega (arith, mark .before-there)
+  one = omega (arith, landmark .before-there)
 
   one′ : i′ - 1 + 1 ≡ i′
-  one′ = omega (arith, mark .before-there, mark .of-tail, s .inside′)
+  one′ = omega (arith, landmark .before-there, landmark .of-tail, s .inside′)
 
   marks : drop (suc (i - 1)) (intervalMarks margin xs) ≡ drop (suc (i′ - 1)) (intervalMarks margin ys)
   marks =
       let e : suc (i - 1) ≡ i = omega (arith, one) in
       let f : suc (i′ - 1) ≡ i′ = omega (arith, one′) in
-      rw (e, f) (marks-agree s margin i i′ c mark)
+      rw (e, f) (marks-agree s margin i i′ c landmark)
 
   -- the numbers differ by a constant from the note before the landmark on
   shifted : Shifted margin xs (i - 1) ys (i′ - 1)
@@ -120,7 +120,8 @@ module _ (margin : Float) (deltas : List Float) (t i : ℕ) (m : RhythmLandmark 
 
   behind : drop i deltas ≡ v ∷ w ∷ rest
   behind =
-      drop-cons deltas i nan (omega (arith, m .next-there)) ∙ ap (λ (l : List Float). v ∷ l) (rw (← add-one i) (drop-cons deltas (i + 1) nan (m .next-there)))
+      let l : i < length deltas = omega (arith, m .next-there) in
+      rw (drop-cons deltas i nan l, ← add-one i, drop-cons deltas (i + 1) nan (m .next-there))
 
   marks-there : drop i (intervalMarks margin deltas) ≡ marksAfter margin true (getD deltas (i - 1) nan) (v ∷ w ∷ rest)
   marks-there = rw (← behind) (landmark-marks margin deltas t i m)

@@ -9,8 +9,9 @@ use lib.Ieee.{Float, fin, binary64, round, sub, le, ofInt}
 use Rattle.numeric.specs.Near.{absOf, isNear}
 use Rattle.grouping_chart.specs.Object.{isNote}
 use Rattle.grouping_interval.specs.Notes.{ofNotes}
-use Rattle.agreement.specs.Tests.{allTrue}
-use Rattle.agreement.specs.rhythm.Landmark.{RhythmLandmark, isRhythmLandmark}
+use Rattle.agreement.specs.passes.Tests.{allTrue}
+use Rattle.agreement.specs.rhythm.Landmark.{RhythmLandmark}
+use Rattle.agreement.specs.passes.RhythmLandmarkTest.{isRhythmLandmark}
 use Rattle.agreement.proofs.Readings.{Reading, LandmarkExample, offsetsBelow, offsetsFound}
 use Rattle.agreement.proofs.rhythm.LandmarkLaws.{test-landmark}
 
@@ -39,6 +40,12 @@ examples =
     -- 5 apart is near, 6 is not
     ∷ record { before = []; tail = 100 ∷ 105 ∷ 111 ∷ []; offsets = 1 ∷ [] }
     ∷ record { before = []; tail = 100 ∷ 106 ∷ 111 ∷ []; offsets = [] }
+    -- the notes of the guide's chart, whole
+    ∷ record {
+      before = [];
+      tail = 300 ∷ 150 ∷ 150 ∷ 150 ∷ 150 ∷ 300 ∷ 150 ∷ 150 ∷ 300 ∷ 150 ∷ 150 ∷ 300 ∷ 150 ∷ 150 ∷ 150 ∷ 150 ∷ 300 ∷ 150 ∷ 150 ∷ [];
+      offsets = 4 ∷ 7 ∷ 10 ∷ 15 ∷ [];
+    }
     -- none at the last note, nor among notes that are all near
     ∷ record { before = []; tail = 100 ∷ 100 ∷ []; offsets = [] }
     ∷ record { before = []; tail = 100 ∷ 100 ∷ 100 ∷ []; offsets = [] }

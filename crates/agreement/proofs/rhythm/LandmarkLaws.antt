@@ -1,11 +1,12 @@
--- The test says true exactly of the rhythm landmarks.
+-- The test finds exactly the rhythm landmarks: each field of a landmark is one of its tests.
 use mathlib.Core.Path.{_≡_}
 use mathlib.Core.List.{List}
 use mathlib.Core.Bool.{true}
 use Prim.Native.Nat.{ℕ}
 use lib.Ieee.{Float}
 use borrow.Author.Tests.{ltb-true, leb-true, lt-ltb, le-leb, not-true}
-use Rattle.agreement.specs.rhythm.Landmark.{RhythmLandmark, isRhythmLandmark}
+use Rattle.agreement.specs.rhythm.Landmark.{RhythmLandmark}
+use Rattle.agreement.specs.passes.RhythmLandmarkTest.{isRhythmLandmark}
 use Rattle.agreement.proofs.TestLaws.{not-of, all-first, all-rest, all-none, all-more}
 
 module _ (margin : Float) (deltas : List Float) (t i : ℕ) where

@@ -51,7 +51,7 @@ module _ (m : ℕ) (c : Chart) (whole : length (c .deltas) ≡ size c) (fits : m
 module _ (c c′ : Chart) {m : ℕ} (whole : length (c .deltas) ≡ size c) (whole′ : length (c′ .deltas) ≡ size c′)
     (k : SameLast m (c .kinds) (c′ .kinds)) (d : SameLast m (c .deltas) (c′ .deltas)) where
   pub same-count : tailNotes m c ≡ tailNotes m c′
-  same-count = ap (λ (ks : List ℕ). length (notes ks)) (k .alike)
+  same-count = rw (k .alike)
 
   pub notes-alike : SameLast (tailNotes m c) (deltasOf c) (deltasOf c′)
   notes-alike = record {

@@ -11,8 +11,8 @@ use Rattle.numeric.specs.Near.{absOf, isNear}
 use Rattle.lent.specs.Scan.{scan}
 use Rattle.grouping_marks.specs.Marks.{opened, groupNumbers}
 use Rattle.grouping_interval.specs.IntervalGrouping.{isRise, marksAfter, intervalMarks}
-use Rattle.agreement.specs.Tests.{allTrue, anyBelow}
-use Rattle.agreement.specs.rhythm.Landmark.{isRhythmLandmark}
+use Rattle.agreement.specs.passes.Tests.{allTrue, anyBelow}
+use Rattle.agreement.specs.passes.RhythmLandmarkTest.{isRhythmLandmark}
 use Rattle.agreement.proofs.Readings.{Reading, ClaimFrom, opensThere, refutes, refuted}
 use Rattle.agreement.proofs.rhythm.Examples.{margin, wholes}
 use Rattle.agreement.proofs.rhythm.LandmarkLaws.{test-landmark}

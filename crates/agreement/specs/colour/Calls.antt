@@ -1,7 +1,6 @@
 -- The colour claim of what the calls encode, colour and stretch leave and answer on two accepted charts.
 use Prim.Native.Nat.{ℕ}
 use mathlib.Core.Path.{_≡_}
-use lib.ListN.{getD}
 use lib.Ieee.{nan}
 use Rattle.grouping_chart.specs.Chart.{Chart, size}
 use Rattle.grouping_chart.specs.Settings.{Settings}
@@ -12,7 +11,7 @@ use Rattle.call_colour.specs.Call.{Memory, chartMean, chartTenths, colourOutcom
 use Rattle.call_colour.specs.declared.Stretching.the-variants.{Done}
 use Rattle.agreement.specs.CommonTail.{Counterparts}
 use Rattle.agreement.specs.SameGroups.{groups}
-use Rattle.agreement.specs.colour.Claim.{Settled, EncodedHits, HitsClaim, hitPatterns}
+use Rattle.agreement.specs.colour.Claim.{Settled, SettledSame, EncodedHits, HitsClaim, hitPatterns}
 
 -- hit patterns and intervals as encode writes them
 abbrev pub hitsWritten : Settings → Chart → encode.Memory → EncodedHits
@@ -28,8 +27,8 @@ EncodeClaim s c c′ lent lent′ p p′ = HitsClaim (s .limit) (hitsWritten s c
 -- colour and stretch
 pub record CallsClaim (s : Settings) (c c′ : Chart) (lent lent′ : Memory) (p p′ : ℕ) : Type 0 where
   -- the values that colour writes
-  pub written : (i i′ : ℕ) → Settled (s .limit) (hitPatterns c) p i → Counterparts (size c) (size c′) i i′
-      → getD (colourOutcome s c lent .memory .value) i nan ≡ getD (colourOutcome s c′ lent′ .memory .value) i′ nan
+  pub written : SettledSame (s .limit) (hitPatterns c) p (size c′) nan
+      (colourOutcome s c lent .memory .value) (colourOutcome s c′ lent′ .memory .value)
   -- stretch answers a mean and its tenths, no refusal,
   pub done : (a b : ℕ) → GoodStretch (c .kinds) a b
       → stretchOutcome s c a b lent .answer ≡ Done (chartMean s c a b) (chartTenths s c a b)

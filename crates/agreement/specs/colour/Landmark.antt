@@ -1,5 +1,5 @@
--- Where a colour landmark stands (scope: "Landmarks"). Whatever stands before the tail, behind it
--- the groups are in step.
+-- Where a colour landmark stands (scope: "Landmarks"): behind it the groups are in step, whatever stands before the
+-- tail.
 use Prim.Native.Nat.{ℕ, _+_, _≤_, _<_}
 use mathlib.Core.Path.{_≡_}
 use mathlib.Core.Bool.{true}
@@ -13,7 +13,7 @@ use Rattle.grouping_preprocessor.specs.Preprocessor.{patternsOpen, coupledPatte
 -- a landmark of a chart with these kinds, where its last m objects are the common tail: `position` objects stand before
 -- it. Objects, streaks and patterns are given by their numbers in the chart, from 0
 pub record ColourLandmark (kinds : List ℕ) (m position : ℕ) : Type 0 where
-  -- (a) an object that opens a streak, and a note of the tail somewhere before it
+  -- (a) an object begins a streak, and a note stands earlier in the tail
   pub object : ℕ
   pub object-there : object < length kinds
   pub object-opens : getD (streakMarks kinds) object 0 ≡ 1
@@ -21,19 +21,19 @@ pub record ColourLandmark (kinds : List ℕ) (m position : ℕ) : Type 0 where
   pub note-is : isNote (getD kinds note 0) ≡ true
   pub note-before : note < object
   pub note-of-tail : length kinds ≤ note + m
-  -- (b) a streak, that object's or a later one, and the next, which has another length and so opens a pattern
+  -- (b) that streak, or one behind it, is shorter or longer than the one that follows, which begins a pattern
   pub streak : ℕ
   pub streak-after : getD (streakOf kinds) object 0 ≤ streak
   pub streak-next : streak + 1 < groupCount (streakMarks kinds)
   pub streak-unequal : getD (streakLengths kinds) streak 0 ≡ getD (streakLengths kinds) (streak + 1) 0 → ⊥
   pub streak-opens : getD (patternsOpen kinds) (streak + 1) 0 ≡ 1
-  -- (c) a pattern, the one so opened or a later one, and the next, neither of them coupled
+  -- (c) that pattern, or one behind it, is not coupled, nor is the one that follows
   pub pattern : ℕ
   pub pattern-from : getD (groupNumbers (patternsOpen kinds)) (streak + 1) 0 ≤ pattern
   pub pattern-next : pattern + 1 < groupCount (patternsOpen kinds)
   pub pattern-uncoupled : getD (coupledPatterns kinds) pattern 0 ≡ 0
   pub next-uncoupled : getD (coupledPatterns kinds) (pattern + 1) 0 ≡ 0
-  -- the landmark is behind the last object of that next pattern
+  -- the landmark comes right behind the last object of the pattern that follows
   pub last : ℕ
   pub last-there : last < length kinds
   pub last-of-second : getD (alternatingOf kinds) last 0 ≡ pattern + 1

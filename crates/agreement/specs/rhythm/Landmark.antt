@@ -2,13 +2,11 @@
 -- first and not near the third.
 use Prim.Native.Nat.{ℕ, _+_, _-_, _≤_, _<_}
 use mathlib.Core.Path.{_≡_}
-use mathlib.Core.Bool.{Bool, true, false, not}
-use mathlib.Core.List.{List, [], _∷_}
-use lib.Dec.{leb, ltb}
+use mathlib.Core.Bool.{true, false}
+use mathlib.Core.List.{List}
 use lib.ListN.{length, getD}
 use lib.Ieee.{Float, nan}
 use Rattle.numeric.specs.Near.{isNear}
-use Rattle.agreement.specs.Tests.{allTrue}
 
 -- note i is a landmark, where the notes have these deltas and the last t of them are of the tail. Notes are given by
 -- their numbers, from 0
@@ -22,13 +20,3 @@ pub record RhythmLandmark (margin : Float) (deltas : List Float) (t i : ℕ) : T
   pub near : isNear margin (getD deltas (i - 1) nan) (getD deltas i nan) ≡ true
   -- notes i and i + 1 are not
   pub not-near : isNear margin (getD deltas i nan) (getD deltas (i + 1) nan) ≡ false
-
--- the same as a test that computes
-unfoldable pub isRhythmLandmark : Float → List Float → ℕ → ℕ → Bool
-isRhythmLandmark margin deltas t i =
-    allTrue (ltb 0 i
-    ∷ ltb (i + 1) (length deltas)
-    ∷ leb (length deltas) (i - 1 + t)
-    ∷ isNear margin (getD deltas (i - 1) nan) (getD deltas i nan)
-    ∷ not (isNear margin (getD deltas i nan) (getD deltas (i + 1) nan))
-    ∷ [])

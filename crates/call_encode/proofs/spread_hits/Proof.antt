@@ -39,7 +39,7 @@ gather-bytes-requires : tie.Need-gather-bytes-requires
 gather-bytes-requires c κs =
     let g = c .before .before .before .before .before in
     let r = start (placed g) .pre in
-    (simp length-take (omega arith), (hits-inside r _ (g .gather2 .ensures), bytes-inside r))
+    (simp length-take (omega arith), (hits-inside r _ (g .gather2 .ensures), λ j h. bytes-inside r j))
 
 returns : tie.Need-returns
 returns c =

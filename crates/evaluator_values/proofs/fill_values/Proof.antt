@@ -1,4 +1,4 @@
--- `fill_values` meets its contract. The invariant: the values of the objects below i are stored.
+-- The invariant: the values of the objects below i are stored.
 use mathlib.Core.Path.{sym, _∙_}
 use Prim.Native.Nat.{_-_}
 use native.Mathlib.Omega.{arith}

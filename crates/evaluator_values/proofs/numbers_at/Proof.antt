@@ -1,4 +1,4 @@
--- `numbers_at` meets its contract: an object's streak, the streak's pattern and the pattern's hit pattern, each looked up in a table that has it.
+-- An object's streak, the streak's pattern and the pattern's hit pattern, each looked up in a table that has it.
 use Prim.Native.Nat.{_+_, _*_}
 use native.Mathlib.Omega.{arith}
 use lib.ListN.{length, getD}

@@ -1,9 +1,10 @@
--- `standing_at` meets its contract: the object's numbers, what the tables have at them, and where a number differs from the object's before.
+-- The object's numbers, what the tables have at them, and where a number differs from the object's before.
 use Prim.Native.Nat.{_+_, _*_}
 use native.Mathlib.Omega.{arith}
 use lib.ListN.{length}
+use Rattle.evaluator_values.specs.Colour.{standingAt}
 use Rattle.evaluator_values.proofs.TablesLaws.{interval-is, pattern-place-is, streak-place-is}
-use Rattle.evaluator_values.proofs.StandingLaws.{start-first, change-first}
+use Rattle.evaluator_values.proofs.StandingLaws.{start-first, change-first, same-standing}
 use borrow.Author.Needs.{needs}
 use Rattle.evaluator_values.proofs.standing_at.Statement.{statement}
 use Rattle.evaluator_values.proofs.standing_at.Tie as tie
@@ -51,34 +52,36 @@ cast-streak-place c =
     omega (arith, c .shared-slice-known5 .given (4 * length (start .args .kind .now) + c .before .before .before .numbers-at .result .streak))
 
 returns : tie.Need-returns
+unfolding standingAt
 returns c =
     let after-numbers = c .before .before .before .before in
     let start = after-numbers .before .before .before in
     let a = after-numbers .numbers-at .ensures in
-    record {
+    same-standing (record {
       interval = interval-is (start .pre) a;
       patternPlace = pattern-place-is (start .pre) a;
       streakPlace = streak-place-is (start .pre) a;
       streak = start-first _ _ (c .if1 .taken);
       pattern = start-first _ _ (c .if1 .taken);
       hit = start-first _ _ (c .if1 .taken);
-    }
+    })
 
 returns-2 : tie.Need-returns-2
+unfolding standingAt
 returns-2 c =
     let later = c .before .before .before .before in
     let after-numbers = later .before .before .before .before in
     let start = after-numbers .before .before .before in
     let a = after-numbers .numbers-at .ensures in
     let b = c .before .before .before .numbers-at2 .ensures in
-    record {
+    same-standing (record {
       interval = interval-is (start .pre) a;
       patternPlace = pattern-place-is (start .pre) a;
       streakPlace = streak-place-is (start .pre) a;
       streak = change-first _ _ _ _ (later .if1 .left) (a .streaks) (b .streaks);
       pattern = change-first _ _ _ _ (later .if1 .left) (a .patterns) (b .patterns);
       hit = change-first _ _ _ _ (later .if1 .left) (a .hits) (b .hits);
-    }
+    })
 
 pub standing-at-spec : {M : Type 1} → statement M
 standing-at-spec =

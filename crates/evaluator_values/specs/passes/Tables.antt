@@ -6,11 +6,9 @@ use lib.ListN.{length, getD}
 use lib.Ieee.{Float}
 use Rattle.numeric.specs.Logistic.{logisticTable}
 use Rattle.grouping_colour.specs.MonoStreak.{streakOf}
-use Rattle.grouping_preprocessor.specs.Preprocessor.{streakPlaceOf, alternatingOf, patternPlaceOf, hitOf, intervalOf}
+use Rattle.grouping_preprocessor.specs.Preprocessor.{alternatingOf, hitOf}
 use Rattle.grouping_preprocessor.specs.passes.Steps.{Regions, Tables}
 use Rattle.grouping_preprocessor.specs.declared.Levels.{Levels}
-use Rattle.evaluator_colour.specs.declared.Standing.{Standing}
-use Rattle.evaluator_values.specs.Colour.{isFirst}
 use Rattle.evaluator_values.specs.declared.Numbers.{Numbers}
 
 -- the encoder's tables lie in w
@@ -32,17 +30,8 @@ pub record NumbersAt (kinds : List ℕ) (k : Levels) (i : ℕ) (r : Numbers) : T
   pub in-patterns : r .pattern < k .patterns
   pub in-hits : r .hit < k .hits
 
--- how the object stands in its groups is as the definition has it under the search limit
-pub record StandingIs (limit : ℕ) (kinds : List ℕ) (i : ℕ) (r : Standing) : Type 0 where
-  pub interval : r .interval ≡ getD (intervalOf limit kinds) i 0
-  pub patternPlace : r .«pattern_place» ≡ getD (patternPlaceOf kinds) i 0
-  pub streakPlace : r .«streak_place» ≡ getD (streakPlaceOf kinds) i 0
-  pub streak : r .streak ≡ isFirst (streakOf kinds) i
-  pub pattern : r .pattern ≡ isFirst (alternatingOf kinds) i
-  pub hit : r .hit ≡ isFirst (hitOf kinds) i
-
 -- what the values are made of: T, the encoder's tables, and a ratio for each object
-pub record Lent (table : List Float) (kinds : List ℕ) (ratios : List Float) (w : List ℕ) (k : Levels) : Type 0 where
+pub record Sources (table : List Float) (kinds : List ℕ) (ratios : List Float) (w : List ℕ) (k : Levels) : Type 0 where
   pub steps : table ≡ logisticTable
   pub tabled : Tabled kinds w k
   pub ratio : length ratios ≡ length kinds

@@ -1,5 +1,4 @@
--- `mark_hits` meets its contract. The invariant: the walk over the coupled flags, whose state is the stage, has stored its marks
--- over the flags that it passed.
+-- The invariant: the walk over the coupled flags, whose state is the stage, has stored its marks over the flags that it passed.
 use Prim.Native.Nat.{_-_}
 use Rattle.lent.specs.Over.{part}
 use Rattle.lent.proofs.ScanLaws.{Walk, start-part, turn-part, ended}

@@ -1,4 +1,4 @@
--- `opens_hit` meets its contract, case by case.
+-- Each path ends in the case of `opensHit` that its test names.
 use Rattle.grouping_hits.proofs.HitLaws.{opens-at-0, opens-not}
 use Rattle.grouping_hits.proofs.opens_hit.Statement.{statement}
 use Rattle.grouping_hits.proofs.opens_hit.Tie as tie

@@ -1,4 +1,4 @@
--- `second_at` meets its contract, case by case.
+-- The last pattern has none behind it; for any other the next one's mark and length are read in the regions.
 use mathlib.Core.Path.{_∙_}
 use Rattle.grouping_hits.proofs.HitLaws.{second-inside, second-end}
 use native.Mathlib.Omega.{arith}

@@ -1,4 +1,4 @@
--- `second_by` meets its contract: each path ends in the case that its test names.
+-- Each path ends in the case that its test names.
 use borrow.Author.Tests.{eq-eqb, ne-eqb}
 use Rattle.grouping_hits.proofs.second_by.Statement.{statement}
 use Rattle.grouping_hits.proofs.second_by.Tie as tie

@@ -1,4 +1,4 @@
--- `stage_after` meets its contract, case by case.
+-- Each path ends in the case of `stageAfter` that its tests name.
 use Rattle.grouping_hits.proofs.HitLaws.{stage-alone, stage-begins, stage-uncoupled, stage-goes-on, stage-ends}
 use Rattle.grouping_hits.proofs.stage_after.Statement.{statement}
 use Rattle.grouping_hits.proofs.stage_after.Tie as tie

@@ -24,7 +24,7 @@ loop-again : tie.Need-loop-again Inv-loop μ-loop
 loop-again c =
     let l = c .before .before .before .before .before in
     let x = l .loop .inv in
-    (taken-turn _ (l .before .before .before .pre) (x .0) (omega arith) (x .1) (c .before .hits-match .ensures) (c .nearer .ensures), omega arith)
+    (taken-turn _ (l .before .before .before .pre) (x .0) (omega arith) (x .1) (c .before .alike-at .ensures) (c .nearer .ensures), omega arith)
 
 same-length : tie.Need-same-length Inv-loop μ-loop
 same-length c = c .before .loop .inv .0 .long

@@ -1,5 +1,5 @@
 -- What the passes carry and leave: the stage of the pass over the coupled flags, and what a pass of the search leaves.
-use mathlib.Core.Bool.{Bool, cond, _&&_}
+use mathlib.Core.Bool.{cond, _&&_}
 use Prim.Native.Nat.{ℕ, _-_}
 use mathlib.Core.List.{List}
 use lib.Dec.{eqb, leb}
@@ -25,9 +25,6 @@ unfoldable pub matchesTaken : ℕ → List ℕ → List ℕ → List ℕ → Lis
 matchesTaken k sizes firsts seconds had = tabulate (matchTakenAt k sizes firsts seconds had) (length sizes)
 
 -- ---- of m hit patterns, whose sizes, first and second lengths stand in three regions of the slice
-
-abbrev pub matchesIn : ℕ → ℕ → ℕ → ℕ → List ℕ → ℕ → ℕ → Bool
-matchesIn sizes firsts seconds m w a b = matches (part sizes m w) (part firsts m w) (part seconds m w) a b
 
 abbrev pub takenIn : ℕ → ℕ → ℕ → ℕ → ℕ → ℕ → List ℕ → List ℕ
 takenIn k sizes firsts seconds m had w =

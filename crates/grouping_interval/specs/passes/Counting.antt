@@ -1,12 +1,12 @@
 -- How many groups notes make, counted note by note with nothing written: what is known after some of them.
 use mathlib.Core.Path.{_≡_}
 use Prim.Native.Nat.{ℕ, _+_, _^_, _≤_, _<_}
-use mathlib.Core.Bool.{true, false, cond, _&&_}
+use mathlib.Core.Bool.{true, false, cond}
 use lib.Dec.{eqb, ltb}
 use lib.Ieee.{Float}
 use Rattle.numeric.specs.Constants.{zero64}
 use Rattle.numeric.specs.Near.{isNear}
-use Rattle.grouping_interval.specs.IntervalGrouping.{isRise}
+use Rattle.grouping_interval.specs.IntervalGrouping.{isRise, lastTaken}
 use Rattle.grouping_interval.specs.declared.notes.Counting.{Counting}
 
 -- no note yet
@@ -29,7 +29,7 @@ counted margin c d =
 -- how many groups there are when no note follows
 unfoldable pub groupsCounted : Float → Counting → ℕ
 groupsCounted margin c =
-    cond (c .pending) (cond (ltb 2 (c .notes) && isNear margin (c .next) (c .last)) (c .groups) (c .groups + 1))
+    cond (c .pending) (cond (lastTaken margin (ltb 2 (c .notes)) (c .last) (c .next)) (c .groups) (c .groups + 1))
     (c .groups)
 
 -- one more note, or group, still fits a number of 64 bits

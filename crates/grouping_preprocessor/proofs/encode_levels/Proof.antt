@@ -1,4 +1,4 @@
--- `encode_levels` meets its contract, by what its calls ensure.
+-- Each level is made of what the level below it left.
 use Rattle.grouping_preprocessor.proofs.ComposeLaws.{encoded}
 use native.Mathlib.Omega.{arith}
 use borrow.Author.Needs.{needs}

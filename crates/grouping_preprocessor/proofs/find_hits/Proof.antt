@@ -1,50 +1,52 @@
--- `find_hits` meets its contract, by what its calls ensure.
+-- Each call finds in its regions what the calls before it left there: what a call writes over, no later call reads.
 use Rattle.grouping_preprocessor.proofs.ComposeLaws.{room-behind, room-both, apart-before, groups-few, hits-made}
 use native.Mathlib.Omega.{arith}
 use borrow.Author.Needs.{needs}
 use Rattle.grouping_preprocessor.proofs.find_hits.Statement.{statement}
 use Rattle.grouping_preprocessor.proofs.find_hits.Tie as tie
 
+-- from one call back to an earlier one: to the start, the marks, the sizes, and the second lengths
+abbrev start : tie.After-find-hit-marks → tie.Start
+start c = c .before .before .before
+
+abbrev marked : tie.After-group-sizes → tie.After-find-hit-marks
+marked c = c .before .before .before .before
+
+abbrev sized : tie.After-group-firsts2 → tie.After-group-sizes
+sized c = c .before .before .before .before .before .before .before .before
+
+abbrev second : tie.After-group-numbers → tie.After-group-firsts2
+second c = c .before .before .before .before .before .before .before .before
+
 repetition-intervals-requires : tie.Need-repetition-intervals-requires
 repetition-intervals-requires c κs =
-    let second = c .before .before .before in
-    let first = second .before .before .before .before in
-    let sized = first .before .before .before .before in
-    let marked = sized .before .before .before .before in
-    let start = marked .before .before .before in
-    let few = groups-few _ _ _ _ (sized .group-sizes .ensures .0) (omega arith) in (
+    let s = sized (c .before .before .before) in
+    let asked = start (marked s) .pre in
+    let few = groups-few _ _ _ _ (s .group-sizes .ensures .0) (omega arith) in (
       record {
         first = apart-before (omega arith) (omega arith);
         second = apart-before (omega arith) (omega arith);
         third = apart-before (omega arith) (omega arith);
       },
-      start .pre .1 .1,
+      asked .1 .1,
     )
 
 group-places-requires : tie.Need-group-places-requires
 group-places-requires c κs =
-    let numbered = c .before .before .before in
-    let searched = numbered .before .before .before .before in
-    let second = searched .before .before .before .before in
-    let first = second .before .before .before .before in
-    let sized = first .before .before .before .before in
-    let marked = sized .before .before .before .before in
-    let r = marked .before .before .before .pre in
+    let r = start (marked (sized (second (c .before .before .before)))) .pre in
     room-behind (omega (arith, r)) (omega (arith, r)) (omega (arith, r))
 
 returns : tie.Need-returns
 returns c =
     let placed = c .before .before in
     let numbered = placed .before .before .before .before in
-    let searched = numbered .before .before .before .before in
-    let second = searched .before .before .before .before in
-    let first = second .before .before .before .before in
-    let sized = first .before .before .before .before in
-    let marked = sized .before .before .before .before in
-    let start = marked .before .before .before in
-    hits-made _ _ _ _ _ _ _ _ _ _ _ _ _ _ (start .pre .0) (start .pre .1 .0) (marked .find-hit-marks .ensures)
-    (sized .group-sizes .ensures) (first .group-firsts .ensures) (second .group-firsts2 .ensures)
-    (searched .repetition-intervals .ensures) (numbered .group-numbers .ensures) (placed .group-places .ensures)
+    let f = second numbered in
+    let s = sized f in
+    let m = marked s in
+    let asked = start m .pre in
+    hits-made _ _ _ _ _ _ _ _ _ _ _ _ _ _ (asked .0) (asked .1 .0) (m .find-hit-marks .ensures)
+    (s .group-sizes .ensures) (f .before .before .before .before .group-firsts .ensures) (f .group-firsts2 .ensures)
+    (numbered .before .before .before .before .repetition-intervals .ensures) (numbered .group-numbers .ensures) (placed .group-places .ensures)
 
 pub find-hits-spec : {M : Type 1} → statement M
 find-hits-spec =

@@ -1,4 +1,5 @@
--- `find_patterns` meets its contract, by what its calls ensure.
+-- The marks stand in a region that no later call writes, so that each of these reads the same marks; lengths and types are replaced by their
+-- firsts in place.
 use Rattle.grouping_preprocessor.proofs.ComposeLaws.{room-behind, room-both, apart-before, patterns-made}
 use native.Mathlib.Omega.{arith}
 use Rattle.grouping_preprocessor.proofs.find_patterns.Statement.{statement}

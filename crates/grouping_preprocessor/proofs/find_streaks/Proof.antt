@@ -1,4 +1,4 @@
--- `find_streaks` meets its contract, by what its calls ensure.
+-- The marks stand in a region that no later call writes, so that each of these reads the same marks.
 use Rattle.grouping_preprocessor.proofs.ComposeLaws.{room-behind, streaks-made}
 use native.Mathlib.Omega.{arith}
 use borrow.Author.Needs.{needs}

@@ -24,19 +24,25 @@ abbrev μ-loop : tie.MeasureT-loop
 loop-holds : tie.Need-loop-holds Inv-loop μ-loop
 loop-holds c = record { within = omega arith; same = refl }
 
+-- from the test of an object back to the loop's head, and from there to the start
+abbrev head : tie.After-object-refusal Inv-loop μ-loop → tie.At-loop Inv-loop μ-loop
+head c = c .before .before .before .before .before .before .before
+
+abbrev start : tie.At-loop Inv-loop μ-loop → tie.Start Inv-loop μ-loop
+start c = c .before .before .before .before .before
+
 returns : tie.Need-returns Inv-loop μ-loop
 returns c =
-    let t = c .before .before .before .before .before .before .before .before in
-    let same = t .before .before .before .before .before .pre in
-    first-here _ _ _ _ (t .loop .at .0) _ same _ (omega arith) (c .before .object-refusal .ensures) (c .if2 .taken) ∙ t .loop .inv .same
+    let t = head (c .before) in
+    first-here _ _ _ _ (t .loop .at .0) _ (start t .pre) _ (omega arith) (c .before .object-refusal .ensures) (c .if2 .taken) ∙ t .loop .inv .same
 
 loop-again : tie.Need-loop-again Inv-loop μ-loop
 loop-again c =
-    let t = c .before .before .before .before .before .before .before .before in
-    let same = t .before .before .before .before .before .pre in
+    let t = head (c .before) in
     record {
       within = omega arith;
-      same = sym (first-later _ _ _ _ (t .loop .at .0) _ same _ (omega arith) (c .before .object-refusal .ensures) (c .if2 .left)) ∙ t .loop .inv .same;
+      same =
+          sym (first-later _ _ _ _ (t .loop .at .0) _ (start t .pre) _ (omega arith) (c .before .object-refusal .ensures) (c .if2 .left)) ∙ t .loop .inv .same;
     }
 
 returns-2 : tie.Need-returns-2 Inv-loop μ-loop

@@ -2,7 +2,6 @@
 use Prim.Native.Nat.{_-_}
 use lib.ListN.{length}
 use Rattle.numeric.specs.Range.{within}
-use Rattle.numeric.proofs.range.Laws.{within-both}
 use Rattle.grouping_chart.proofs.AllLaws.{Tested, tested-none, tested-next, tested-all}
 use native.Mathlib.Omega.{arith}
 use Rattle.grouping_chart.proofs.good.all_within.Statement.{statement}
@@ -18,7 +17,7 @@ loop-holds : tie.Need-loop-holds Inv-loop μ-loop
 loop-holds c = tested-none _ _
 
 loop-again : tie.Need-loop-again Inv-loop μ-loop
-loop-again c = tested-next _ (c .before .before .loop .inv) (omega arith) (within-both _ _ _)
+loop-again c = tested-next _ (c .before .before .before .loop .inv) (omega arith) (c .is-within .ensures)
 
 returns : tie.Need-returns Inv-loop μ-loop
 returns c = tested-all (c .before .loop .inv) (omega arith)
@@ -32,6 +31,7 @@ all-within-spec =
     loop-holds
     (λ c. omega arith)
     (λ c. omega arith)
+    (λ c κs. tt)
     (λ c. omega arith)
     (λ c. omega arith)
     loop-again

@@ -1,7 +1,7 @@
 -- The invariant: what is found so far, with the test of all kinds that are left, is the test of all.
 use Prim.Native.Nat.{_-_}
 use lib.ListN.{length}
-use Rattle.grouping_chart.specs.passes.Good.{kindGood}
+use Rattle.grouping_chart.specs.Refusal.{kindGood}
 use Rattle.grouping_chart.proofs.AllLaws.{Tested, tested-none, tested-next, tested-all}
 use native.Mathlib.Omega.{arith}
 use Rattle.grouping_chart.proofs.good.kinds_good.Statement.{statement}

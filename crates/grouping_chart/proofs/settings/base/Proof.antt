@@ -1,5 +1,6 @@
--- `base` meets its contract: the literals are the definition's bits.
+-- The literals are the definition's bits by computation.
 use mathlib.Core.Path.{refl}
+use borrow.Author.Needs.{needs}
 use lib.Ieee.{ofBits}
 use Rattle.grouping_chart.proofs.settings.base.Statement.{statement}
 use Rattle.grouping_chart.proofs.settings.base.Tie as tie
@@ -9,4 +10,4 @@ unfolding ofBits
 returns c = refl
 
 pub base-spec : {M : Type 1} → statement M
-base-spec = tie.close (tie.spec returns)
+base-spec = tie.close (tie.spec (λ c. search needs) returns)

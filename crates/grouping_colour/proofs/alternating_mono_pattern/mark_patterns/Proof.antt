@@ -3,7 +3,7 @@ use Prim.Native.Nat.{_-_}
 use Rattle.lent.specs.Over.{part}
 use Rattle.lent.proofs.FillLaws.{Fill, fill-end}
 use Rattle.grouping_colour.specs.AlternatingMonoPattern.{patternMarks}
-use Rattle.grouping_colour.proofs.PatternLaws.{patterns-start, patterns-turn}
+use Rattle.lent.proofs.StoreLaws.{fill-apart, table-start, table-turn}
 use native.Mathlib.Omega.{arith}
 use borrow.Author.Needs.{needs}
 use Rattle.grouping_colour.proofs.alternating_mono_pattern.mark_patterns.Statement.{statement}
@@ -16,10 +16,15 @@ abbrev μ-loop : tie.MeasureT-loop
 μ-loop w₀ from m to i₀ w i = m - i
 
 loop-holds : tie.Need-loop-holds Inv-loop μ-loop
-loop-holds c = patterns-start (c .before .pre)
+unfolding patternMarks
+loop-holds c = let a = c .before .pre in table-start _ _ _ _ _ (a .read) (a .write)
 
 loop-again : tie.Need-loop-again Inv-loop μ-loop
-loop-again c = patterns-turn (c .before .before .before .before .before .pre) (c .before .before .before .loop .inv) (omega arith) (c .opens-pattern .ensures)
+unfolding patternMarks
+loop-again c =
+    let l = c .before .before .before in
+    let s = l .before .before in
+    table-turn _ _ (l .loop .inv) (omega arith) (rw (fill-apart (s .args .from) (s .args .m) (l .loop .inv) (s .pre .apart)) at (c .opens-pattern .ensures))
 
 same-length : tie.Need-same-length Inv-loop μ-loop
 same-length c = c .before .loop .inv .long

@@ -1,4 +1,4 @@
--- `alternating_mono_pattern::opens_pattern` meets its contract, case by case.
+-- Each return is one case of the definition: the first streak, one as long as the streak before it, any other.
 use Rattle.grouping_colour.proofs.PatternLaws.{opens-first, opens-same, opens-differs}
 use native.Mathlib.Omega.{arith}
 use Rattle.grouping_colour.proofs.alternating_mono_pattern.opens_pattern.Statement.{statement}

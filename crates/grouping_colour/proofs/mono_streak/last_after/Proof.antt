@@ -1,4 +1,4 @@
--- `mono_streak::last_after` meets its contract, by what `is_note` ensures.
+-- The branch taken is the definition's, by what `is_note` answers.
 use mathlib.Core.Path.{sym, _∙_}
 use borrow.Author.Needs.{needs}
 use Rattle.grouping_colour.proofs.mono_streak.last_after.Statement.{statement}

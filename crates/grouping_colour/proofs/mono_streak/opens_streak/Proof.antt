@@ -1,4 +1,4 @@
--- `mono_streak::opens_streak` meets its contract, case by case.
+-- Each path ends in the case that its tests name.
 use borrow.Author.Tests.{eq-eqb, ne-eqb}
 use Rattle.grouping_colour.proofs.mono_streak.opens_streak.Statement.{statement}
 use Rattle.grouping_colour.proofs.mono_streak.opens_streak.Tie as tie

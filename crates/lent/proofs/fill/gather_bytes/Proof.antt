@@ -29,7 +29,8 @@ shared-slice-read-out c = c .before .before .before .before .pre .1 .0 (c .befor
 cast-out : tie.Need-cast-out Inv-loop μ-loop
 cast-out c =
     let l = c .before .before .before in
-    omega (arith, l .before .pre .1 .1 (getD (l .before .args .idx .now) (l .loop .i) 0))
+    let asked = l .before .pre .1 in
+    omega (arith, asked .1 (getD (l .before .args .idx .now) (l .loop .i) 0) (asked .0 (l .loop .i) (c .before .before .loop-test .taken)))
 
 loop-again : tie.Need-loop-again Inv-loop μ-loop
 loop-again c =

@@ -1,5 +1,6 @@
--- The landmark of Landmark.antt as a test that computes: the object of (a), the streak of (b) and the pattern of (c)
--- are searched for. What makes each of them serve is a parameter, so that other conditions can be tried.
+-- The landmark of colour/Landmark.antt as a test that computes: the object of (a), the streak of (b) and the pattern of
+-- (c) are searched for. `test-landmark` and `landmark-test`, in proofs/colour/LandmarkLaws.antt, say that it finds
+-- exactly these. What makes each of the three serve is a parameter, so that other conditions can be tried.
 use Prim.Native.Nat.{ℕ, _+_, _-_}
 use mathlib.Core.Bool.{Bool, not}
 use mathlib.Core.List.{List, [], _∷_}
@@ -9,7 +10,7 @@ use Rattle.grouping_marks.specs.Marks.{groupCount, groupNumbers}
 use Rattle.grouping_chart.specs.Object.{isNote}
 use Rattle.grouping_colour.specs.MonoStreak.{streakMarks, streakOf, streakLengths}
 use Rattle.grouping_preprocessor.specs.Preprocessor.{patternsOpen, coupledPatterns, alternatingOf}
-use Rattle.agreement.specs.Tests.{allTrue, anyBelow}
+use Rattle.agreement.specs.passes.Tests.{allTrue, anyBelow}
 
 -- the lists that a landmark is read from
 pub record LevelLists : Type 0 where
