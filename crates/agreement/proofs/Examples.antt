@@ -20,7 +20,7 @@ use Rattle.grouping_preprocessor.specs.Preprocessor.{patternsOpen, firstLengths
 use Rattle.evaluator_values.specs.Colour.{valuesOf}
 use Rattle.call_colour.specs.Stretch.{GoodStretch}
 use Rattle.call_colour.proofs.StretchCases.{lies-good}
-use Rattle.call_colour.specs.Call.{chartMean}
+use Rattle.call_colour.specs.Stretch.{chartMean}
 use Rattle.agreement.specs.CommonTail.{SameLast}
 use Rattle.agreement.specs.colour.Landmark.{ColourLandmark}
 use Rattle.agreement.specs.colour.Claim.{hitPatterns, Settled, ColourClaim}

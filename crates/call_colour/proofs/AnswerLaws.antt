@@ -9,13 +9,14 @@ use Rattle.grouping_chart.specs.Chart.{Chart, size}
 use Rattle.grouping_chart.specs.Outcome.{Outcome}
 use Rattle.grouping_chart.specs.Settings.{Settings}
 use Rattle.grouping_chart.specs.declared.chart.Verdict.the-variants.{Accepted}
+use Rattle.grouping_chart.proofs.OutcomeLaws.{none-refused}
 use Rattle.evaluator_values.specs.Colour.{valuesOf}
 use Rattle.evaluator_values.proofs.StandingLaws.{length-values}
 use Rattle.call_colour.specs.declared.Stretching.{Stretching}
 use Rattle.call_colour.specs.declared.Stretching.the-variants.{Done}
-use Rattle.call_colour.specs.Stretch.{GoodStretch}
-use Rattle.call_colour.specs.Call.{Memory, judged, filled, chartMean, chartTenths, colourOutcome, stretchOutcome}
-use Rattle.call_colour.proofs.CallLaws.{stretch-accepted, colour-done, stretch-done}
+use Rattle.call_colour.specs.Stretch.{GoodStretch, chartMean, chartTenths}
+use Rattle.call_colour.specs.Call.{Memory, judged, filled, colourOutcome, stretchOutcome}
+use Rattle.call_colour.proofs.CallLaws.{colour-done, stretch-done}
 
 module _ (s : Settings) (c : Chart) (lent : Memory) (accepted : judged c lent ≡ Accepted) where
   pub value-written : (i : ℕ) → i < size c → getD (colourOutcome s c lent .memory .value) i nan ≡ getD (valuesOf s c) i nan
@@ -27,4 +28,4 @@ module _ (s : Settings) (c : Chart) (lent : Memory) (accepted : judged c lent �
   pub stretch-answered : (a b : ℕ) → GoodStretch (c .kinds) a b → stretchOutcome s c a b lent .answer ≡ Done (chartMean s c a b) (chartTenths s c a b)
   stretch-answered a b x =
       sym (ap (λ (o : Outcome Stretching Memory). o .answer)
-      (stretch-done s c lent a b _ _ (filled s (c .kinds) (c .ratios) lent) (stretch-accepted _ (c .kinds) a b accepted x) refl refl refl))
+      (stretch-done s c lent a b _ _ (filled s (c .kinds) (c .ratios) lent) (none-refused _ accepted x) refl refl refl))

@@ -1,10 +1,10 @@
 -- Sizes: the mean of every stretch of an accepted chart is finite, no NaN, and at most `largestColour` in size.
 -- A sum of m values is at most m times that, so divided by m it is at most that again.
-use mathlib.Core.Path.{_≡_, sym, ap, _∙_, subst}
+use mathlib.Core.Path.{_≡_}
 use mathlib.Core.Bool.{not}
 use mathlib.Core.List.{List, [], _∷_}
 use Prim.Native.Nat.{ℕ, suc, _+_, _-_, _*_, _^_, _≤_, _<_}
-use native.Mathlib.Nat.{le-trans, le-of-eq, zero-add, suc-mul, add-assoc, add-comm}
+use native.Mathlib.Nat.{le-trans, le-of-eq, le-add-right, zero-add, suc-mul}
 use native.Mathlib.Omega.{arith}
 use lib.Dec.{T, leb→le, lit≤}
 use lib.ListN.{length, getD}
@@ -22,8 +22,7 @@ use Rattle.grouping_chart.specs.Settings.{Settings}
 use Rattle.grouping_chart.proofs.AcceptedLaws.{accepted-good}
 use Rattle.evaluator_values.proofs.StandingLaws.{value-of}
 use Rattle.evaluator_values.proofs.BoundLaws.{largestColour, value-bounded}
-use Rattle.call_colour.specs.Stretch.{GoodStretch, stretchValues, sumFrom, averageOf, meanOf}
-use Rattle.call_colour.specs.Call.{chartMean}
+use Rattle.call_colour.specs.Stretch.{GoodStretch, stretchValues, sumFrom, averageOf, chartMean}
 use Rattle.call_colour.proofs.StretchCases.{good-lies}
 use Rattle.call_colour.proofs.StretchValues.{length-stretch, stretch-value}
 
@@ -36,13 +35,10 @@ sum-bounded B C sum (x ∷ xs) k h g =
     let e : C + B + length xs * B ≡ C + suc (length xs) * B = more C B (length xs) in
     bounded-more (sumFrom (add binary64 sum x) xs) (C + B + length xs * B) (C + suc (length xs) * B) (le-of-eq e)
     (sum-bounded B (C + B) (add binary64 sum x) xs (le-trans (le-of-eq e) k)
-    (add-bounded sum x C B (le-trans (upto (C + B) (length xs * B)) (le-trans (le-of-eq e) k)) h (g 0 (omega arith))) (λ i l. g (suc i) (omega arith)))
+    (add-bounded sum x C B (le-trans (le-add-right (C + B) (length xs * B)) (le-trans (le-of-eq e) k)) h (g 0 (omega arith))) (λ i l. g (suc i) (omega arith)))
   where
     more : (C B n : ℕ) → C + B + n * B ≡ C + suc n * B
-    more C B n = add-assoc C B (n * B) ∙ ap (λ (z : ℕ). C + z) (add-comm B (n * B) ∙ sym (suc-mul n B))
-
-    upto : (p q : ℕ) → p ≤ p + q
-    upto p q = omega arith
+    more C B n = omega (arith, suc-mul n B)
 
 -- and divided by how many there are
 average-bounded : (B : ℕ) (xs : List Float) → 0 < length xs → length xs ≤ 2 ^ 53 → B ≤ 2 ^ 53 → length xs * B ≤ 2 ^ 53
@@ -50,17 +46,16 @@ average-bounded : (B : ℕ) (xs : List Float) → 0 < length xs → length xs �
 unfolding averageOf
 average-bounded B xs some few k l g =
     bounds.mean-bounded (sumFrom zero64 xs) (length xs) B some few k
-    (subst (λ (n : ℕ). Bounded (sumFrom zero64 xs) n) (zero-add (length xs * B))
-    (sum-bounded B 0 zero64 xs (le-trans (le-of-eq (zero-add (length xs * B))) l) (leb→le 0 0 tt) g))
+    (rw zero-add at (sum-bounded B 0 zero64 xs (omega arith) (leb→le 0 0 tt) g))
 
 -- ---- the mean of a stretch of an accepted chart
 module _ (s : Settings) (c : Chart) (beside : ℕ) (accepted : verdict c beside ≡ Accepted) (a b : ℕ) (x : GoodStretch (c .kinds) a b) where
   -- the values that the mean is made of: some, few, and each bounded
   abbrev made : List Float
-  made = stretchValues (s .limit) (s .tolerance) (c .kinds) (c .ratios) a b
+  made = stretchValues s c a b
 
   length-made : length made ≡ b - a
-  length-made = length-stretch (s .limit) (s .tolerance) (c .kinds) (c .ratios) a b x
+  length-made = length-stretch s c a b x
 
   made-some : 0 < length made
   made-some = omega (arith, length-made, good-lies (c .kinds) a b x)
@@ -73,15 +68,14 @@ module _ (s : Settings) (c : Chart) (beside : ℕ) (accepted : verdict c beside 
       let l : i < b - a = omega (arith, length-made) in
       let k : a + i < size c = omega (arith, good-lies (c .kinds) a b x) in
       let v = value-of (s .limit) (s .tolerance) (c .kinds) (c .ratios) (a + i) k in
-      let e = v ∙ sym (stretch-value (s .limit) (s .tolerance) (c .kinds) (c .ratios) a b x i l) in
-      subst (λ (x : Float). Bounded x largestColour) e (value-bounded s c beside accepted (a + i) k)
+      rw (stretch-value s c a b x i l, ← v) (value-bounded s c beside accepted (a + i) k)
 
   pub mean-bounded : Bounded (chartMean s c a b) largestColour
-  unfolding meanOf
+  unfolding chartMean
   mean-bounded = average-bounded largestColour made made-some (omega (arith, made-few)) (lit≤ tt) (omega (arith, made-few)) made-bounded
 
   pub mean-number : Number (chartMean s c a b)
-  unfolding meanOf averageOf
+  unfolding chartMean averageOf
   mean-number = bounded-number (chartMean s c a b) largestColour (div-fits binary64 _ _) mean-bounded
 
   pub mean-no-nan : T (not (isNan (chartMean s c a b)))

@@ -16,7 +16,7 @@ use Rattle.lent.specs.Scan.{scan, endState, tabulate, gathered}
 use Rattle.grouping_marks.specs.Marks.{opened, groupCount, groupNumbers, placeByMark, groupPlaces, sizesFrom, groupSizes, firstsFrom, groupFirsts}
 use Rattle.grouping_chart.specs.Object.{isNote, notes, noteIdx, noteBefore, previousNote}
 use Rattle.grouping_chart.specs.Chart.{Chart, equallyLong}
-use Rattle.grouping_chart.specs.Outcome.{Outcome, answered}
+use Rattle.grouping_chart.specs.Outcome.{Outcome, refusedThen, answered}
 use Rattle.grouping_chart.specs.Room.{anyShort, shortRefusal}
 use Rattle.grouping_chart.specs.Settings.{baseSettings}
 use Rattle.grouping_chart.specs.Refusal.{timeGood, ratioGood, objectRefusal, firstRefused, verdict}
@@ -33,8 +33,8 @@ use Rattle.call_colour.specs.declared.Colouring.{Colouring}
 use Rattle.call_colour.specs.declared.Colouring.the-variants as colouring
 use Rattle.call_colour.specs.declared.Stretching.{Stretching}
 use Rattle.call_colour.specs.declared.Stretching.the-variants as stretching
-use Rattle.call_colour.specs.Stretch.{stretchRefusal, stretchValues, sumFrom, averageOf, meanOf, meanTenths}
-use Rattle.call_colour.specs.Call.{Memory, filled, colourOutcome, stretchVerdict, stretchOutcome}
+use Rattle.call_colour.specs.Stretch.{stretchRefusal, stretchValues, sumFrom, averageOf, chartMean, chartTenths}
+use Rattle.call_colour.specs.Call.{Memory, filled, colourOutcome, stretchOutcome}
 
 -- starts and deltas 0.0, ratios 1.0
 unfoldable pub chart : List ℕ → Chart
@@ -118,8 +118,8 @@ stretched e = shown (stretchOutcome baseSettings (chart (e .kinds)) (e .a) (e .b
 -- every one of the two lists comes out as it says
 pub examples-right : (map coloured examples ≡ map (λ (e : Example). e .outcome) examples)
     × (map stretched stretches ≡ map (λ (e : StretchExample). e .outcome) stretches)
-unfolding examples stretches coloured stretched chart lent shown answered colourOutcome stretchOutcome stretchVerdict stretchRefusal meanTenths tenthsOf
-    meanOf averageOf stretchValues sumFrom part ofInt anyShort shortRefusal verdict equallyLong firstRefused objectRefusal timeGood ratioGood within filled
+unfolding examples stretches coloured stretched chart lent shown answered colourOutcome stretchOutcome refusedThen stretchRefusal chartTenths tenthsOf
+    chartMean averageOf stretchValues sumFrom part ofInt anyShort shortRefusal verdict equallyLong firstRefused objectRefusal timeGood ratioGood within filled
     colourValues colourAt standingAt isFirst over tabulate scan endState gathered opened groupCount groupNumbers placeByMark groupPlaces sizesFrom groupSizes
     firstsFrom groupFirsts isNote notes noteIdx noteBefore previousNote continues opensStreak streakMarks streakOf streakLengths streakTypes opensPattern
     patternMarks coupledAt coupled coupledRun hitSize hitMarksAfter hitMarks secondAt secondLengths matches nearestMatch intervalAt intervals patternsOpen

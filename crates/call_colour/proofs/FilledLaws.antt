@@ -1,5 +1,5 @@
 -- What both calls leave of an accepted chart is the definition's memory: the values written, and the encoder's tables cleared.
-use mathlib.Core.Path.{_≡_, ap, _∙_}
+use mathlib.Core.Path.{_≡_, _∙_}
 use mathlib.Core.List.{List}
 use Prim.Native.Nat.{ℕ, _*_}
 use lib.ListN.{length, replicate, length-replicate}
@@ -23,6 +23,6 @@ pub filled-is : (s : Settings) {kinds w work : List ℕ} {k : Levels} {value scr
     → ofLists value work scratch ≡ filled s kinds ratios m
 unfolding filled
 filled-is s {kinds} {w} ratios m t v z f =
-    let values = v ∙ ap (λ (l : ℕ). over (colourValues l (s .tolerance) kinds ratios) (m .value)) (t .searched) in
+    let values = rw (t .searched) at v in
     let zeros = z ∙ over-agree (replicate (8 * length kinds) 0) w (m .work) (8 * length kinds) (length-replicate (8 * length kinds) 0) (t .outside .beyond) in
     λ i. ofLists (values i) (zeros i) (f i)

@@ -1,5 +1,5 @@
 -- An accepted stretch, after the values are filled: it lies inside them, their mean is the definition's, and its tenths can be asked.
-use mathlib.Core.Path.{_≡_, sym, ap, _∙_, subst}
+use mathlib.Core.Path.{_≡_, sym, ap, _∙_}
 use mathlib.Core.List.{List}
 use Prim.Native.Nat.{ℕ, _+_, _-_, _≤_, _<_}
 use native.Mathlib.Omega.{arith}
@@ -14,10 +14,10 @@ use Rattle.grouping_chart.specs.Chart.{Chart, size}
 use Rattle.grouping_chart.specs.Settings.{Settings, Permitted}
 use Rattle.evaluator_values.specs.Colour.{valuesOf}
 use Rattle.evaluator_values.proofs.StandingLaws.{length-values}
-use Rattle.call_colour.specs.Stretch.{stretchValues, averageOf, meanOf}
-use Rattle.call_colour.specs.Call.{Memory, judged, filled, chartMean}
+use Rattle.call_colour.specs.Stretch.{stretchValues, averageOf, chartMean}
+use Rattle.call_colour.specs.Call.{Memory, judged, filled}
 use Rattle.call_colour.specs.passes.Rooms.{StretchRoom}
-use Rattle.call_colour.proofs.CallLaws.{Within, chart-room}
+use Rattle.call_colour.proofs.CallLaws.{StretchAccepted, chart-room}
 use Rattle.call_colour.proofs.StretchCases.{StretchLies, good-lies}
 use Rattle.call_colour.proofs.BoundLaws.{mean-tenths}
 
@@ -29,7 +29,7 @@ part-over a n new old h r =
     (λ i k. let j : i < n = omega arith in getD-part a n (over new old) i nan j ∙ getD-over new old (a + i) nan (omega arith) ∙ sym (getD-part a n new i nan j))
 
 -- ---- an accepted stretch, after the values are filled
-module _ (s : Settings) (p : Permitted s) (c : Chart) (m : Memory) (a b : ℕ) (w : Within (judged c m) (c .kinds) a b) (new : Memory)
+module _ (s : Settings) (p : Permitted s) (c : Chart) (m : Memory) (a b : ℕ) (w : StretchAccepted (judged c m) (c .kinds) a b) (new : Memory)
     (e : new ≡ filled s (c .kinds) (c .ratios) m) where
   abbrev values : List Float
   values = valuesOf s c
@@ -38,10 +38,10 @@ module _ (s : Settings) (p : Permitted s) (c : Chart) (m : Memory) (a b : ℕ) (
   long = length-values (s .limit) (s .tolerance) (c .kinds) (c .ratios)
 
   lies : StretchLies (c .kinds) a b
-  lies = good-lies (c .kinds) a b (w .stretch)
+  lies = good-lies (c .kinds) a b (w .none)
 
   room : length values ≤ length (m .value)
-  room = omega (arith, long, chart-room s c m p (w .accepted) .values)
+  room = omega (arith, long, chart-room s c m p (w .chart) .values)
 
   written : new .value ≡ over values (m .value)
   unfolding filled
@@ -51,13 +51,13 @@ module _ (s : Settings) (p : Permitted s) (c : Chart) (m : Memory) (a b : ℕ) (
   stretch-room = record {
     ordered = omega (arith, lies);
     inside = omega (arith, lies, long, room, ap length written, length-over values (m .value) room);
-    few = omega (arith, lies, chart-room s c m p (w .accepted) .regions);
+    few = omega (arith, lies, chart-room s c m p (w .chart) .regions);
   }
 
   pub mean-is : (mean : Float) → mean ≡ averageOf (part a (b - a) (new .value)) → mean ≡ chartMean s c a b
-  unfolding meanOf stretchValues
+  unfolding chartMean stretchValues
   mean-is mean h =
-      h ∙ ap (λ (l : List Float). averageOf (part a (b - a) l)) written ∙ ap averageOf (part-over a (b - a) values (m .value) (omega (arith, lies, long)) room)
+      h ∙ ap averageOf (rw written (part-over a (b - a) values (m .value) (omega (arith, lies, long)) room))
 
   pub mean-in-range : (mean : Float) → mean ≡ averageOf (part a (b - a) (new .value)) → InTenthsRange mean
-  mean-in-range mean h = subst InTenthsRange (sym (mean-is mean h)) (mean-tenths s c _ (w .accepted) a b (w .stretch))
+  mean-in-range mean h = rw (mean-is mean h) (mean-tenths s c _ (w .chart) a b (w .none))

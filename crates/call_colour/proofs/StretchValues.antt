@@ -1,25 +1,29 @@
 -- The values of a stretch, element by element.
 use mathlib.Core.Path.{_≡_, _∙_}
-use mathlib.Core.List.{List}
 use Prim.Native.Nat.{ℕ, _+_, _-_, _<_}
 use native.Mathlib.Omega.{arith}
 use lib.ListN.{length, getD}
 use lib.Ieee.{Float, nan}
 use Rattle.lent.proofs.OverLaws.{length-part, getD-part}
-use Rattle.evaluator_values.specs.Colour.{colourAt, colourValues}
+use Rattle.grouping_chart.specs.Chart.{Chart}
+use Rattle.grouping_chart.specs.Settings.{Settings}
+use Rattle.evaluator_values.specs.Colour.{colourAt, valuesOf}
 use Rattle.evaluator_values.proofs.StandingLaws.{length-values, value-of}
 use Rattle.call_colour.specs.Stretch.{GoodStretch, stretchValues}
 use Rattle.call_colour.proofs.StretchCases.{good-lies}
 
-module _ (limit : ℕ) (tolerance : Float) (kinds : List ℕ) (ratios : List Float) (a b : ℕ) (x : GoodStretch kinds a b) where
-  abbrev values : List Float
-  values = colourValues limit tolerance kinds ratios
+-- object i's value
+abbrev pub valueAt : Settings → Chart → ℕ → Float
+valueAt s c i = colourAt (s .limit) (s .tolerance) (c .kinds) (c .ratios) i
 
+module _ (s : Settings) (c : Chart) (a b : ℕ) (x : GoodStretch (c .kinds) a b) where
   -- so the mean is divided by b − a
-  pub length-stretch : length (stretchValues limit tolerance kinds ratios a b) ≡ b - a
+  pub length-stretch : length (stretchValues s c a b) ≡ b - a
   unfolding stretchValues
-  length-stretch = length-part a (b - a) values (omega (arith, good-lies kinds a b x, length-values limit tolerance kinds ratios))
+  length-stretch = length-part a (b - a) (valuesOf s c)
+      (omega (arith, good-lies (c .kinds) a b x, length-values (s .limit) (s .tolerance) (c .kinds) (c .ratios)))
 
-  pub stretch-value : (i : ℕ) → i < b - a → getD (stretchValues limit tolerance kinds ratios a b) i nan ≡ colourAt limit tolerance kinds ratios (a + i)
+  pub stretch-value : (i : ℕ) → i < b - a → getD (stretchValues s c a b) i nan ≡ valueAt s c (a + i)
   unfolding stretchValues
-  stretch-value i h = getD-part a (b - a) values i nan h ∙ value-of limit tolerance kinds ratios (a + i) (omega (arith, good-lies kinds a b x))
+  stretch-value i h = getD-part a (b - a) (valuesOf s c) i nan h
+      ∙ value-of (s .limit) (s .tolerance) (c .kinds) (c .ratios) (a + i) (omega (arith, good-lies (c .kinds) a b x))

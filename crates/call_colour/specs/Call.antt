@@ -1,24 +1,19 @@
 -- The calls colour and stretch (scope: Calls and what they fill): what each answers, and what every lent
 -- slice holds afterwards. Refusal 9 is tested after 1 to 7.
 use Prim.Native.Nat.{ℕ}
-use mathlib.Core.Bool.{cond}
 use mathlib.Core.List.{List, [], _∷_}
-use lib.Dec.{eqb}
-use lib.IntN.{ℤ}
 use lib.ListN.{length}
 use lib.Ieee.{Float}
 use denote.Ref.{now}
 use Rattle.lent.specs.Over.{over}
 use Rattle.grouping_chart.specs.Chart.{Chart}
-use Rattle.grouping_chart.specs.Refusal.{refused}
 use Rattle.grouping_chart.specs.Room.{clearedWork, clearedScratch}
 use Rattle.grouping_chart.specs.Outcome.{Outcome, outcome, judgedBy, answered}
 use Rattle.lent.specs.Slice.{SliceAt, Slice, lent, left}
 use Rattle.grouping_chart.specs.declared.chart.Verdict.{Verdict}
-use Rattle.grouping_chart.specs.declared.chart.Verdict.the-variants.{Accepted, Refused}
 use Rattle.grouping_chart.specs.Settings.{Settings}
 use Rattle.evaluator_values.specs.Colour.{colourValues}
-use Rattle.call_colour.specs.Stretch.{stretchRefusal, meanOf, meanTenths}
+use Rattle.call_colour.specs.Stretch.{stretchVerdict, chartMean, chartTenths}
 use Rattle.call_colour.specs.declared.Colouring.{Colouring}
 use Rattle.call_colour.specs.declared.Colouring.the-variants as colouring
 use Rattle.call_colour.specs.declared.Stretching.{Stretching}
@@ -69,19 +64,6 @@ filled s kinds ratios m = record {
 unfoldable pub colourOutcome : Settings → Chart → Memory → Outcome Colouring Memory
 colourOutcome s c m =
     answered (judged c m) (outcome colouring.Done (filled s (c .kinds) (c .ratios) m)) colouring.Refused m
-
--- what is refused of the stretch comes after what is refused of the chart
-unfoldable pub stretchVerdict : Verdict → List ℕ → ℕ → ℕ → Verdict
-stretchVerdict Accepted kinds a b =
-    cond (eqb (stretchRefusal kinds a b) 0) Accepted (refused (stretchRefusal kinds a b))
-stretchVerdict (Refused number place) kinds a b = Refused number place
-
--- the mean of a stretch of the chart, and its tenths
-abbrev pub chartMean : Settings → Chart → ℕ → ℕ → Float
-chartMean s c a b = meanOf (s .limit) (s .tolerance) (c .kinds) (c .ratios) a b
-
-abbrev pub chartTenths : Settings → Chart → ℕ → ℕ → ℤ
-chartTenths s c a b = meanTenths (s .limit) (s .tolerance) (c .kinds) (c .ratios) a b
 
 unfoldable pub stretchOutcome : Settings → Chart → ℕ → ℕ → Memory → Outcome Stretching Memory
 stretchOutcome s c a b m =

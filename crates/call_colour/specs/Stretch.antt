@@ -1,5 +1,5 @@
--- The mean of a stretch, which has object a and not object b (scope: Stretch): its colour values added from
--- left to right and divided by how many they are; its whole tenths, rounded down; and which stretches are refused.
+-- A stretch of a chart, which has object a and not object b (scope: Stretch): which stretches are refused; the mean of
+-- one, its colour values added from left to right and divided by how many they are; and its whole tenths, rounded down.
 use mathlib.Core.Path.{_≡_}
 use Prim.Native.Nat.{ℕ, _-_}
 use mathlib.Core.Bool.{_||_, cond}
@@ -11,7 +11,11 @@ use lib.Ieee.{Float, binary64, add, div, ofInt}
 use Rattle.numeric.specs.Constants.{zero64}
 use Rattle.numeric.specs.Tenths.{tenthsOf}
 use Rattle.lent.specs.Over.{part}
-use Rattle.evaluator_values.specs.Colour.{colourValues}
+use Rattle.grouping_chart.specs.Chart.{Chart}
+use Rattle.grouping_chart.specs.Outcome.{refusedThen}
+use Rattle.grouping_chart.specs.Settings.{Settings}
+use Rattle.grouping_chart.specs.declared.chart.Verdict.{Verdict}
+use Rattle.evaluator_values.specs.Colour.{valuesOf}
 
 -- the number of what is refused of a stretch, or 0: 9 where it is empty or ends past the chart
 unfoldable pub stretchRefusal : List ℕ → ℕ → ℕ → ℕ
@@ -21,9 +25,13 @@ stretchRefusal kinds a b = cond (leb b a || ltb (length kinds) b) 9 0
 abbrev pub GoodStretch : List ℕ → ℕ → ℕ → Type 0
 GoodStretch kinds a b = stretchRefusal kinds a b ≡ 0
 
+-- and what is refused of it comes after what is refused of the chart
+abbrev pub stretchVerdict : Verdict → List ℕ → ℕ → ℕ → Verdict
+stretchVerdict v kinds a b = refusedThen v (stretchRefusal kinds a b)
+
 -- the values that a stretch's mean is made of
-unfoldable pub stretchValues : ℕ → Float → List ℕ → List Float → ℕ → ℕ → List Float
-stretchValues limit tolerance kinds ratios a b = part a (b - a) (colourValues limit tolerance kinds ratios)
+unfoldable pub stretchValues : Settings → Chart → ℕ → ℕ → List Float
+stretchValues s c a b = part a (b - a) (valuesOf s c)
 
 -- each sum rounded
 unfoldable pub sumFrom : Float → List Float → Float
@@ -34,8 +42,8 @@ sumFrom sum (x ∷ xs) = sumFrom (add binary64 sum x) xs
 unfoldable pub averageOf : List Float → Float
 averageOf values = div binary64 (sumFrom zero64 values) (ofInt binary64 (pos (length values)))
 
-unfoldable pub meanOf : ℕ → Float → List ℕ → List Float → ℕ → ℕ → Float
-meanOf limit tolerance kinds ratios a b = averageOf (stretchValues limit tolerance kinds ratios a b)
+unfoldable pub chartMean : Settings → Chart → ℕ → ℕ → Float
+chartMean s c a b = averageOf (stretchValues s c a b)
 
-unfoldable pub meanTenths : ℕ → Float → List ℕ → List Float → ℕ → ℕ → ℤ
-meanTenths limit tolerance kinds ratios a b = tenthsOf (meanOf limit tolerance kinds ratios a b)
+unfoldable pub chartTenths : Settings → Chart → ℕ → ℕ → ℤ
+chartTenths s c a b = tenthsOf (chartMean s c a b)

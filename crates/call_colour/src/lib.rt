@@ -13,7 +13,7 @@ use grouping_chart::settings;
 use grouping_chart::settings::Settings;
 use lent::fill;
 
-pub mod mean;
+pub mod stretches;
 
 // The values are filled, or the first refusal that applies and its place.
 pub enum Colouring {
@@ -85,11 +85,11 @@ pub fn stretch(
 {
     let short = value.len() < kind.len();
     let verdict = judge(kind, start, delta, ratio, short, work.len(), scratch.len());
-    match mean::stretch_verdict(verdict, kind, a, b) {
+    match stretches::stretch_verdict(verdict, kind, a, b) {
         Verdict::Refused(number, place) => Stretching::Refused(number, place),
         Verdict::Accepted => {
             fill_chart(kind, ratio, settings::base(), value, work, scratch);
-            let mean = mean::mean(value, a, b);
+            let mean = stretches::mean(value, a, b);
             Stretching::Done(mean, numeric::tenths::tenths(mean))
         }
     }

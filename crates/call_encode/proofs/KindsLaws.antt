@@ -14,9 +14,12 @@ use Rattle.grouping_preprocessor.proofs.BoundLaws.{length-alternatingOf, hit-be
 use Rattle.grouping_colour.proofs.StreakListLaws.{streak-below}
 use Rattle.grouping_preprocessor.specs.passes.Steps.{Tables}
 use Rattle.grouping_preprocessor.specs.declared.Levels.{Levels}
-use Rattle.call_encode.specs.Call.{Memory}
-use Rattle.call_encode.specs.passes.LookUps.{Below, PatternsRoom, PatternsSpread, HitsRoom, HitsSpread, kindsMemory, KindsRoom, Encoded}
+use Rattle.call_encode.specs.Call.{Memory, Lending, memory, encodedKinds}
+use Rattle.call_encode.specs.passes.LookUps.{Below, PatternsRoom, byStreak, HitsRoom, byPattern, KindsRoom}
 use Rattle.call_encode.proofs.SpreadLaws.{written-front}
+
+abbrev ofLists : Lending List
+ofLists = memory (λ A (xs : List A). xs)
 
 below-of : {m c d : ℕ} {xs ys : List ℕ} → xs ≡ ys → c ≡ d → ((i : ℕ) → i < m → getD ys i 0 < d) → Below m xs c
 below-of e f b = record { below = λ i h. rw (e, f) (b i h) }
@@ -41,15 +44,15 @@ module _ {limit : ℕ} {kinds w : List ℕ} {k : Levels} {old : Memory} (t : Tab
     }
 
     -- what was looked up by the streaks, by the definitions
-    streak-places : gathered (part (4 * n) (k .streaks) w) (part 0 n w) ≡ streakPlaceOf kinds
+    streak-places : byStreak (4 * n) n k w ≡ streakPlaceOf kinds
     streak-places = (λ i. gathered (t .streak-place i) (t .streak i)) ∙ streakPlaceOf-looked kinds
 
-    patterns : gathered (part (3 * n) (k .streaks) w) (part 0 n w) ≡ alternatingOf kinds
+    patterns : byStreak (3 * n) n k w ≡ alternatingOf kinds
     patterns = (λ i. gathered (t .pattern i) (t .streak i)) ∙ alternatingOf-looked kinds
 
-    module _ {streak place pattern : List ℕ} (p : PatternsSpread n k w (old .streak) streak (old .streakPlace) place (old .pattern) pattern) where
+    module _ {pattern : List ℕ} (p : pattern ≡ over (byStreak (3 * n) n k w) (old .pattern)) where
       pattern-written : pattern ≡ over (alternatingOf kinds) (old .pattern)
-      pattern-written = rw patterns at (p .patterns)
+      pattern-written = rw patterns at p
 
       pattern-front : take n pattern ≡ alternatingOf kinds
       pattern-front = written-front (old .pattern) n (length-alternatingOf kinds) pattern-written
@@ -70,26 +73,29 @@ module _ {limit : ℕ} {kinds w : List ℕ} {k : Levels} {old : Memory} (t : Tab
       }
 
       -- what was looked up by the patterns
-      pattern-places : gathered (part (2 * n) (k .patterns) w) (take n pattern) ≡ patternPlaceOf kinds
+      pattern-places : byPattern (2 * n) n k w pattern ≡ patternPlaceOf kinds
       pattern-places = (λ i. gathered (t .pattern-place i) (pattern-front i)) ∙ patternPlaceOf-looked kinds
 
-      hits : gathered (part n (k .patterns) w) (take n pattern) ≡ hitOf kinds
+      hits : byPattern n n k w pattern ≡ hitOf kinds
       hits = (λ i. gathered (t .hit i) (pattern-front i)) ∙ hitOf-looked kinds
 
-      intervals : gathered (part (7 * n) (k .hits) w) (gathered (part n (k .patterns) w) (take n pattern)) ≡ intervalOf limit kinds
+      intervals : gathered (part (7 * n) (k .hits) w) (byPattern n n k w pattern) ≡ intervalOf limit kinds
       intervals = (λ i. gathered (t .interval i) (hits i)) ∙ intervalOf-looked kinds limit
 
-      module _ {patternPlace hit interval work : List ℕ}
-          (h : HitsSpread n k w pattern (old .patternPlace) patternPlace (old .hit) hit (old .interval) interval)
-          (z : work ≡ over (replicate (8 * n) 0) w) where
-        pub encoded : Encoded limit kinds (k .hits) old (kindsMemory (λ (xs : List ℕ). xs) streak place pattern patternPlace hit interval work)
-        encoded = record {
-          counted = t .count-h;
-          streaks = rw (t .streak) at (p .streaks);
-          streak-places = rw streak-places at (p .places);
-          patterns = pattern-written;
-          pattern-places = rw pattern-places at (h .places);
-          hits = rw hits at (h .hits);
-          intervals = rw intervals at (h .intervals);
-          cleared = z ∙ over-agree (replicate (8 * n) 0) w (old .work) (8 * n) (length-replicate (8 * n) 0) (t .outside .beyond);
-        }
+      pub encoded : {streak place patternPlace hit interval work : List ℕ}
+          → streak ≡ over (part 0 n w) (old .streak)
+          → place ≡ over (byStreak (4 * n) n k w) (old .streakPlace)
+          → patternPlace ≡ over (byPattern (2 * n) n k w pattern) (old .patternPlace)
+          → hit ≡ over (byPattern n n k w pattern) (old .hit)
+          → interval ≡ over (gathered (part (7 * n) (k .hits) w) (byPattern n n k w pattern)) (old .interval)
+          → work ≡ over (replicate (8 * n) 0) w
+          → ofLists streak place pattern patternPlace hit interval work (old .scratch) ≡ encodedKinds limit kinds old
+      unfolding encodedKinds
+      encoded a b c d e z =
+          let streaks = rw (t .streak) at a in
+          let places = rw streak-places at b in
+          let patternPlaces = rw pattern-places at c in
+          let hitNumbers = rw hits at d in
+          let found = rw intervals at e in
+          let zeros = z ∙ over-agree (replicate (8 * n) 0) w (old .work) (8 * n) (length-replicate (8 * n) 0) (t .outside .beyond) in
+          λ i. ofLists (streaks i) (places i) (pattern-written i) (patternPlaces i) (hitNumbers i) (found i) (zeros i) (old .scratch)

@@ -65,19 +65,35 @@ answerLengths m =
 abbrev pub judged : Chart → Memory → Verdict
 judged c m = judgedBy c (answerLengths m) (m .work) (m .scratch)
 
--- the memory after an accepted call: the answers in the first n places, 0 and +0.0 in the first 8 n and n places of the
--- work slices, old contents elsewhere
-unfoldable pub filled : Settings → Chart → Memory → Memory
-filled s c m = record {
-  streak = over (streakOf (c .kinds)) (m .streak);
-  streakPlace = over (streakPlaceOf (c .kinds)) (m .streakPlace);
-  pattern = over (alternatingOf (c .kinds)) (m .pattern);
-  patternPlace = over (patternPlaceOf (c .kinds)) (m .patternPlace);
-  hit = over (hitOf (c .kinds)) (m .hit);
-  interval = over (intervalOf (s .limit) (c .kinds)) (m .interval);
-  work = clearedWork (size c) (m .work);
-  scratch = clearedScratch (size c) (m .scratch);
+-- the memory once objects of these kinds are encoded under a search limit: the answers in the first n places, 0 in the
+-- first 8 n places of the work slice, old contents elsewhere
+unfoldable pub encodedKinds : ℕ → List ℕ → Memory → Memory
+encodedKinds limit kinds m = record {
+  streak = over (streakOf kinds) (m .streak);
+  streakPlace = over (streakPlaceOf kinds) (m .streakPlace);
+  pattern = over (alternatingOf kinds) (m .pattern);
+  patternPlace = over (patternPlaceOf kinds) (m .patternPlace);
+  hit = over (hitOf kinds) (m .hit);
+  interval = over (intervalOf limit kinds) (m .interval);
+  work = clearedWork (length kinds) (m .work);
+  scratch = m .scratch;
 }
+
+-- the same memory, but for the scratch slice
+abbrev pub withScratch : Memory → List Float → Memory
+withScratch m =
+    memory (λ A (xs : List A). xs) (m .streak) (m .streakPlace) (m .pattern) (m .patternPlace) (m .hit) (m .interval)
+    (m .work)
+
+-- the memory of a pass that is lent no scratch slice, by how one of its slices is read
+abbrev pub kindsMemory : {S : Type 0} → (S → List ℕ) → S → S → S → S → S → S → S → Memory
+kindsMemory read streak streakPlace pattern patternPlace hit interval work =
+    memory (λ A (xs : List A). xs) (read streak) (read streakPlace) (read pattern) (read patternPlace) (read hit)
+    (read interval) (read work) []
+
+-- the memory after an accepted call: encoded, and +0.0 in the first n places of the scratch slice
+unfoldable pub filled : Settings → Chart → Memory → Memory
+filled s c m = withScratch (encodedKinds (s .limit) (c .kinds) m) (clearedScratch (size c) (m .scratch))
 
 unfoldable pub encodeOutcome : Settings → Chart → Memory → Outcome Encoding Memory
 encodeOutcome s c m = answered (judged c m) (outcome (Done (hitCount (c .kinds))) (filled s c m)) answer.Refused m

@@ -1,13 +1,16 @@
 // The call encode: per object six numbers, and the number of hit patterns.
 ghost use mathlib.Core.Path.{_≡_};
+ghost use Prim.Native.Nat.{_*_};
 ghost use lib.ListN.{length};
+ghost use Rattle.lent.specs.Over.{over, part};
+ghost use Rattle.lent.specs.Scan.{gathered};
+ghost use Rattle.grouping_preprocessor.specs.Preprocessor.{hitCount};
 ghost use Rattle.grouping_chart.specs.Settings.{baseSettings};
 ghost use Rattle.grouping_chart.specs.Outcome.{outcome};
 ghost use Rattle.lent.specs.Slice.{lent, left};
 ghost use Rattle.grouping_chart.specs.Chart.{chart};
-ghost use Rattle.call_encode.specs.Call.{before, after, encodeOutcome};
-ghost use Rattle.call_encode.specs.passes.LookUps.{PatternsRoom, PatternsSpread, HitsRoom, HitsSpread};
-ghost use Rattle.call_encode.specs.passes.LookUps.{kindsMemory, KindsRoom, Encoded};
+ghost use Rattle.call_encode.specs.Call.{before, after, encodedKinds, kindsMemory, encodeOutcome};
+ghost use Rattle.call_encode.specs.passes.LookUps.{PatternsRoom, byStreak, HitsRoom, byPattern, KindsRoom};
 use grouping_chart::chart::Verdict;
 use grouping_chart::object::ObjectIndex;
 use grouping_chart::room::judge;
@@ -31,8 +34,9 @@ fn spread_patterns(
     pattern: &mut [u16],
 )
     requires { ⌜ PatternsRoom n k (now work) (now streak) (now «streak_place») (now pattern) ⌝ }
-    ensures { λ r. ⌜ PatternsSpread n k (lent work) (lent streak) (left streak)
-        (lent «streak_place») (left «streak_place») (lent pattern) (left pattern) ⌝ }
+    ensures { λ r. ⌜ left streak ≡ over (part 0 n (lent work)) (lent streak) ⌝ }
+    ensures { λ r. ⌜ left «streak_place» ≡ over (byStreak (4 * n) n k (lent work)) (lent «streak_place») ⌝ }
+    ensures { λ r. ⌜ left pattern ≡ over (byStreak (3 * n) n k (lent work)) (lent pattern) ⌝ }
 {
     let s = k.streaks;
     fill::copy(&work[..n], streak);
@@ -51,8 +55,12 @@ fn spread_hits(
     interval: &mut [u8],
 )
     requires { ⌜ HitsRoom n k (now work) (now pattern) (now «pattern_place») (now hit) (now interval) ⌝ }
-    ensures { λ r. ⌜ HitsSpread n k (lent work) (lent pattern) (lent «pattern_place») (left «pattern_place»)
-        (lent hit) (left hit) (lent interval) (left interval) ⌝ }
+    ensures { λ r. ⌜ left «pattern_place»
+        ≡ over (byPattern (2 * n) n k (lent work) (lent pattern)) (lent «pattern_place») ⌝ }
+    ensures { λ r. ⌜ left hit ≡ over (byPattern n n k (lent work) (lent pattern)) (lent hit) ⌝ }
+    ensures { λ r. ⌜ left interval
+        ≡ over (gathered (part (7 * n) (k .hits) (lent work)) (byPattern n n k (lent work) (lent pattern)))
+        (lent interval) ⌝ }
 {
     let p = k.patterns;
     let h = k.hits;
@@ -75,9 +83,10 @@ pub fn encode_kinds(
 ) -> usize
     requires { ⌜ KindsRoom (length (now kind)) limit
         (kindsMemory now streak «streak_place» pattern «pattern_place» hit interval work) ⌝ }
-    ensures { λ r. ⌜ Encoded limit (lent kind) r
-        (kindsMemory lent streak «streak_place» pattern «pattern_place» hit interval work)
-        (kindsMemory left streak «streak_place» pattern «pattern_place» hit interval work) ⌝ }
+    ensures { λ r. ⌜ r ≡ hitCount (lent kind) ⌝ }
+    ensures { λ r. ⌜ kindsMemory left streak «streak_place» pattern «pattern_place» hit interval work
+        ≡ encodedKinds limit (lent kind)
+        (kindsMemory lent streak «streak_place» pattern «pattern_place» hit interval work) ⌝ }
 {
     let n = kind.len();
     let k = grouping_preprocessor::encode_levels(kind, work, limit);

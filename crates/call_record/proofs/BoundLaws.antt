@@ -1,6 +1,6 @@
 -- Of an accepted record the penalty is finite and no NaN: the group's objects are the chart's, whose starts are at most 2 ^ 24 in size, so its duration is
 -- at most 2 ^ 25 in size, and the window is at least 1.0.
-use mathlib.Core.Path.{_≡_, sym, ap, subst}
+use mathlib.Core.Path.{_≡_, ap}
 use mathlib.Core.Bool.{true, not}
 use mathlib.Core.List.{List}
 use Prim.Native.Nat.{ℕ, _-_, _^_, _<_}
@@ -29,14 +29,16 @@ use Rattle.evaluator_rhythm.proofs.PenaltyLaws as penalty
 use Rattle.call_record.specs.Record.{objectsIn, ownsAt, durationOf, recordAt}
 use Rattle.call_record.specs.Call.{windowGood}
 
-module _ (s : Settings) (c : Chart) (beside g : ℕ) (accepted : verdict c beside ≡ Accepted) (there : g < groupsIn (s .margin) (c .kinds) (c .deltas)) where
-  good : GoodChart c beside
-  good = accepted-good c beside accepted
+start-bounded : {c : Chart} {beside : ℕ} → GoodChart c beside → (i : ℕ) → i < size c → Bounded (getD (c .starts) i nan) (2 ^ 24)
+start-bounded {c} good i h =
+    let r = time-range (getD (c .starts) i nan) (good .objects i nan h .start) in
+    le-bounded (getD (c .starts) i nan) 24 (r .0) (r .1)
 
+module _ (s : Settings) (c : Chart) (beside g : ℕ) (accepted : verdict c beside ≡ Accepted) (there : g < groupsIn (s .margin) (c .kinds) (c .deltas)) where
   -- group g is one of the groups
   group-there : g < length (groupObjects (s .margin) (c .kinds) (c .deltas))
   group-there =
-      let l = length-first-objects (s .margin) (c .kinds) (c .deltas) (good .lengths .delta) in
+      let l = length-first-objects (s .margin) (c .kinds) (c .deltas) (accepted-good c beside accepted .lengths .delta) in
       omega (arith, l, length-firsts (groupObjects (s .margin) (c .kinds) (c .deltas)))
 
   objects : List ℕ
@@ -57,21 +59,17 @@ module _ (s : Settings) (c : Chart) (beside g : ℕ) (accepted : verdict c besid
       (λ (i : ℕ) h. parted-all (λ (x : ℕ). x < size c) (rhythmMarks (s .margin) (c .kinds) (c .deltas)) (noteObjects (c .kinds)) 0
       (object-below (c .kinds)) g i (omega (arith, l, group-there)) h)
 
-  start-bounded : (i : ℕ) → i < size c → Bounded (getD (c .starts) i nan) (2 ^ 24)
-  start-bounded i h =
-      let r = time-range (getD (c .starts) i nan) (good .objects i nan h .start) in
-      le-bounded (getD (c .starts) i nan) 24 (r .0) (r .1)
-
   duration-bounded : Bounded (durationOf (c .starts) objects) (2 ^ 25)
   unfolding durationOf
   duration-bounded =
+      let good = accepted-good c beside accepted in
       sub-bounded (getD (c .starts) (getD objects (length objects - 1) 0) nan) (getD (c .starts) (getD objects 0 0) nan) (2 ^ 24) (2 ^ 24) (lit≤ tt)
-      (start-bounded (getD objects (length objects - 1) 0) (object-inside (length objects - 1) (omega (arith, has-object))))
-      (start-bounded (getD objects 0 0) (object-inside 0 has-object))
+      (start-bounded good (getD objects (length objects - 1) 0) (object-inside (length objects - 1) (omega (arith, has-object))))
+      (start-bounded good (getD objects 0 0) (object-inside 0 has-object))
 
   pub penalty-no-nan : (window : Float) → windowGood window ≡ true → T (not (isNan (recordAt s (c .kinds) (c .starts) (c .deltas) g window .penalty)))
   unfolding recordAt windowGood objects
   penalty-no-nan window w =
-      let r = within-ends one64 thousand64 window (subst T (sym w) tt) in
+      let r = within-ends one64 thousand64 window (rw w tt) in
       penalty.penalty-no-nan (s .threshold) (ownsAt (s .margin) (c .kinds) (c .deltas) g) (length objects) (durationOf (c .starts) objects) window
       duration-bounded (r .0) (r .1)

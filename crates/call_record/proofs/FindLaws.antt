@@ -7,7 +7,7 @@ use native.Mathlib.Omega.{arith}
 use lib.ListN.{length, take, drop, getD, replicate, length-replicate}
 use lib.Seq.{getD-take}
 use lib.Ieee.{Float, nan, binary64, ofBits}
-use Rattle.lent.specs.Over.{over, put, part, write, written}
+use Rattle.lent.specs.Over.{over, put, write, written}
 use Rattle.lent.proofs.OverLaws.{length-over, front, drop-over, put-front, over-agree, lent-part, written-append}
 use Rattle.grouping_chart.specs.Settings.{Settings}
 use Rattle.grouping_chart.proofs.ObjectLaws.{notes-few}
@@ -44,7 +44,7 @@ module _ {margin : Float} {kinds : List ℕ} {starts deltas : List Float} {g : �
   tables = x .room .tables
 
   groups-are : r .groups ≡ groupsIn margin kinds deltas
-  groups-are = ap (λ (y : LocatedGroup). y .groups) (x .at)
+  groups-are = rw (x .at)
 
   few : r .groups ≤ length kinds
   few = omega (arith, groups-are, groups-few margin kinds deltas (tables .whole), notes-few kinds)
@@ -59,7 +59,7 @@ module _ {margin : Float} {kinds : List ℕ} {starts deltas : List Float} {g : �
   region-inside = omega (arith, few, notes-left tables (x .noted) .regions, tables .regions)
 
   lent : take (length kinds + r .groups - length kinds) (drop (length kinds) work) ≡ firstsOf (groupObjects margin kinds deltas)
-  lent = lent-part (length kinds) (r .groups) work ∙ ap (λ (k : ℕ). part (length kinds) k work) groups-are ∙ notes-left tables (x .noted) .firsts
+  lent = lent-part (length kinds) (r .groups) work ∙ rw groups-are (notes-left tables (x .noted) .firsts)
 
   pub intervals-room : IntervalsRoom starts (take (length kinds + r .groups - length kinds) (drop (length kinds) work)) scratch₁
   intervals-room =
@@ -81,10 +81,7 @@ module _ {margin : Float} {kinds : List ℕ} {starts deltas : List Float} {g : �
     long = length-group-intervals margin kinds deltas (tables .whole) starts ∙ sym groups-are
 
     filled-is : scratch ≡ over intervals scratch₁
-    filled-is =
-        filled
-        ∙ ap (λ (l : List ℕ). over (intervalsOf margin (startsOf starts l)) scratch₁) lent
-        ∙ ap (λ (l : List Float). over l scratch₁) (sym (groupIntervals-made margin kinds deltas starts))
+    filled-is = rw (lent, ← groupIntervals-made margin kinds deltas starts) at filled
 
     pub intervals-inside : r .groups ≤ length scratch
     intervals-inside =
@@ -97,20 +94,11 @@ module _ {margin : Float} {kinds : List ℕ} {starts deltas : List Float} {g : �
     intervals-counted = sym long ∙ ap length (sym intervals-front)
 
     pub found : (p : Pattern) → p ≡ patternOf margin (take (r .groups) scratch) g
-        → _≡_ {A = FoundGroup}
-        (record { first = r .first; notes = r .notes; owns = r .owns; duration = r .duration; interval = getD scratch g nan; pattern = p })
-        (foundAt margin kinds starts deltas g)
+        → _≡_ {A = FoundGroup} (record { located = r; interval = getD scratch g nan; pattern = p }) (foundAt margin kinds starts deltas g)
     found p e =
-        let interval = sym (getD-take (r .groups) scratch g nan group-below) ∙ ap (λ (l : List Float). getD l g nan) intervals-front in
-        let pattern = e ∙ ap (λ (l : List Float). patternOf margin l g) intervals-front in
-        λ t. record {
-          first = x .at t .first;
-          notes = x .at t .notes;
-          owns = x .at t .owns;
-          duration = x .at t .duration;
-          interval = interval t;
-          pattern = pattern t;
-        }
+        let interval = rw intervals-front at (sym (getD-take (r .groups) scratch g nan group-below)) in
+        let pattern = rw intervals-front at e in
+        λ t. record { located = x .at t; interval = interval t; pattern = pattern t }
 
     pub scratch-found : scratch ≡ written (findWrites margin kinds starts deltas g) scratch₀
     unfolding findWrites
@@ -127,15 +115,15 @@ module _ {margin : Float} {kinds : List ℕ} {starts deltas : List Float} {g : �
 pub recorded : (s : Settings) (kinds : List ℕ) (starts deltas : List Float) (g : ℕ) (window : Float) {f : FoundGroup}
     {ratio ratio′ penalty patternratio : Float}
     → f ≡ foundAt (s .margin) kinds starts deltas g
-    → ratio ≡ ratioOf (f .owns .newest) (f .owns .second)
+    → ratio ≡ ratioOf (f .located .owns .newest) (f .located .owns .second)
     → ratio′ ≡ ratio
-    → penalty ≡ repeatedIntervalPenalty (s .threshold) (f .owns) (f .notes) (f .duration) window
+    → penalty ≡ repeatedIntervalPenalty (s .threshold) (f .located .owns) (f .located .notes) (f .located .duration) window
     → patternratio ≡ f .pattern .ratio
     → _≡_ {A = GroupRecord} (
     record {
-      first = f .first;
-      notes = f .notes;
-      own = f .owns .newest;
+      first = f .located .first;
+      notes = f .located .notes;
+      own = f .located .owns .newest;
       ratio = ratio′;
       interval = f .interval;
       penalty = penalty;
@@ -145,13 +133,13 @@ pub recorded : (s : Settings) (kinds : List ℕ) (starts deltas : List Float) (g
     ) (recordAt s kinds starts deltas g window)
 unfolding recordAt
 recorded s kinds starts deltas g window x r r′ p q =
-    let ratios = r′ ∙ r ∙ (λ t. ratioOf (x t .owns .newest) (x t .owns .second)) in
-    let penalties = p ∙ (λ t. repeatedIntervalPenalty (s .threshold) (x t .owns) (x t .notes) (x t .duration) window) in
+    let ratios = r′ ∙ r ∙ (λ t. ratioOf (x t .located .owns .newest) (x t .located .owns .second)) in
+    let penalties = p ∙ (λ t. repeatedIntervalPenalty (s .threshold) (x t .located .owns) (x t .located .notes) (x t .located .duration) window) in
     let patterns = q ∙ (λ t. x t .pattern .ratio) in
     λ t. record {
-      first = x t .first;
-      notes = x t .notes;
-      own = x t .owns .newest;
+      first = x t .located .first;
+      notes = x t .located .notes;
+      own = x t .located .owns .newest;
       ratio = ratios t;
       interval = x t .interval;
       penalty = penalties t;

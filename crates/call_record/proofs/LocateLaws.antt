@@ -1,7 +1,7 @@
 -- A group's notes, over the promises of the passes that locate them: the notes' deltas lie in front of the scratch slice, their objects in front of the
 -- work slice, so what is read at the group's ends is what the definition has there.
 use mathlib.Core.Path.{_≡_, sym, ap, _∙_}
-use mathlib.Core.List.{List, [], _++_}
+use mathlib.Core.List.{List, _++_}
 use Prim.Native.Nat.{ℕ, suc, _+_, _-_, _≤_, _<_}
 use native.Mathlib.Omega.{arith}
 use lib.Dec.{T}
@@ -20,8 +20,6 @@ use Rattle.grouping_interval.proofs.NoteLaws.{object-below, of-notes-all, lengt
 use Rattle.grouping_interval.specs.IntervalGrouping.{intervalMarks}
 use Rattle.grouping_interval.specs.passes.Rooms.{NotesListed}
 use Rattle.grouping_same_rhythm.specs.SameRhythm.{groupObjects, groupDeltas}
-use Rattle.grouping_same_rhythm.specs.Own.{ownsOf}
-use Rattle.grouping_same_rhythm.specs.Own.{recentOf}
 use Rattle.grouping_same_rhythm.specs.passes.Owns.{GroupThere, ReachedIs, settledUpTo}
 use Rattle.grouping_same_rhythm.specs.declared.owns.Reached.{Reached}
 use Rattle.grouping_same_rhythm.proofs.MadeLaws.{groupObjects-made, groupDeltas-made}
@@ -60,7 +58,7 @@ module _ {margin : Float} {kinds : List ℕ} {starts deltas : List Float} {g : �
       )
 
   objects-grouped : groupObjects margin kinds deltas ≡ parted (intervalMarks margin (take m scratch₁)) (noteObjects kinds)
-  objects-grouped = groupObjects-made margin kinds deltas ∙ ap (λ (ms : List ℕ). parted ms (noteObjects kinds)) (sym (marks-are (room .tables) listed margin))
+  objects-grouped = rw (marks-are (room .tables) listed margin) (groupObjects-made margin kinds deltas)
 
   deltas-grouped : parted (intervalMarks margin (take m scratch₁)) (take m scratch₁) ≡ groupDeltas margin kinds deltas
   deltas-grouped = (λ t. parted (marks-are (room .tables) listed margin t) (deltas-front t)) ∙ sym (groupDeltas-made margin kinds deltas)
@@ -74,7 +72,7 @@ module _ {margin : Float} {kinds : List ℕ} {starts deltas : List Float} {g : �
     few = omega (arith, x .noted, notes-few kinds)
 
     object-at : (i : ℕ) → i < m → getD work₂ i 0 ≡ getD (noteObjects kinds) i 0
-    object-at i h = sym (getD-take (length (notes kinds)) work₂ i 0 (omega (arith, x .noted))) ∙ ap (λ (l : List ℕ). getD l i 0) (kept .objects)
+    object-at i h = sym (getD-take (length (notes kinds)) work₂ i 0 (omega (arith, x .noted))) ∙ rw (kept .objects)
 
     -- ---- and group g is reached
     module _ {left : List Float} {r : Reached} (reached : ReachedIs margin (take m scratch₁) left g r) where
@@ -100,8 +98,7 @@ module _ {margin : Float} {kinds : List ℕ} {starts deltas : List Float} {g : �
       group-notes : objects ≡ part (r .at) (r .end - r .at) (noteObjects kinds)
       unfolding objectsIn
       group-notes =
-          ap (λ (l : List (List ℕ)). getD l g []) objects-grouped
-          ∙ reached .notes (noteObjects kinds) (omega (arith, length-note-objects kinds, x .noted, front-long))
+          rw objects-grouped (reached .notes (noteObjects kinds) (omega (arith, length-note-objects kinds, x .noted, front-long)))
 
       noted-long : length objects ≡ r .end - r .at
       noted-long =
@@ -110,25 +107,22 @@ module _ {margin : Float} {kinds : List ℕ} {starts deltas : List Float} {g : �
 
       noted-at : (i : ℕ) → i < r .end - r .at → getD objects i 0 ≡ getD work₂ (r .at + i) 0
       noted-at i h =
-          ap (λ (l : List ℕ). getD l i 0) group-notes
-          ∙ getD-part (r .at) (r .end - r .at) (noteObjects kinds) i 0 h
-          ∙ sym (object-at (r .at + i) (omega (arith, reached .from, end-inside)))
+          rw group-notes
+          (getD-part (r .at) (r .end - r .at) (noteObjects kinds) i 0 h ∙ sym (object-at (r .at + i) (omega (arith, reached .from, end-inside))))
 
       first-is : getD work₂ (r .at) 0 ≡ getD objects 0 0
       first-is =
           let e : r .at ≡ r .at + 0 = omega arith in
-          ap (λ (i : ℕ). getD work₂ i 0) e ∙ sym (noted-at 0 (omega (arith, reached .from)))
+          rw e (sym (noted-at 0 (omega (arith, reached .from))))
 
       last-is : getD work₂ (r .end - 1) 0 ≡ getD objects (length objects - 1) 0
       last-is =
           let e : r .end - 1 ≡ r .at + (r .end - r .at - 1) = omega (arith, reached .from) in
-          ap (λ (i : ℕ). getD work₂ i 0) e
-          ∙ sym (noted-at (r .end - r .at - 1) (omega (arith, reached .from)))
-          ∙ ap (λ (n : ℕ). getD objects (n - 1) 0) (sym noted-long)
+          rw (noted-long, e) (sym (noted-at (r .end - r .at - 1) (omega (arith, reached .from))))
 
       owns-is : r .owns ≡ ownsAt margin kinds deltas g
       unfolding ownsAt
-      owns-is = reached .owns ∙ ap (λ (l : List (List Float)). recentOf (ownsOf margin l) g) deltas-grouped
+      owns-is = rw deltas-grouped at (reached .owns)
 
       left-is : left ≡ settledUpTo (suc g) (groupDeltas margin kinds deltas)
       left-is = reached .left ∙ ap (settledUpTo (suc g)) deltas-grouped

@@ -9,13 +9,11 @@ use denote.Ref.{now}
 use Rattle.numeric.specs.Constants.{one64, thousand64}
 use Rattle.numeric.specs.Range.{within}
 use Rattle.grouping_chart.specs.Chart.{Chart, size}
-use Rattle.grouping_chart.specs.Refusal.{refused}
 use Rattle.grouping_chart.specs.Room.{clearedWork, clearedScratch}
-use Rattle.grouping_chart.specs.Outcome.{Outcome, outcome, judgedBy, answered}
+use Rattle.grouping_chart.specs.Outcome.{Outcome, outcome, judgedBy, refusedThen, answered}
 use Rattle.lent.specs.Slice.{SliceAt, Slice, lent, left}
 use Rattle.grouping_chart.specs.Settings.{Settings}
 use Rattle.grouping_chart.specs.declared.chart.Verdict.{Verdict}
-use Rattle.grouping_chart.specs.declared.chart.Verdict.the-variants.{Accepted, Refused}
 use Rattle.call_rhythm.specs.Rhythm.{groupsIn}
 use Rattle.call_record.specs.Record.{recordAt}
 use Rattle.call_record.specs.declared.Recording.{Recording}
@@ -62,11 +60,14 @@ cleared n m = record {
 unfoldable pub windowGood : Float → Bool
 windowGood window = within one64 thousand64 window
 
--- 8 for a window that is not good, then 9 for a number that no group has
-unfoldable pub recordVerdict : Verdict → Float → ℕ → ℕ → Verdict
-recordVerdict Accepted window g groups =
-    cond (windowGood window) (cond (ltb g groups) Accepted (refused 9)) (refused 8)
-recordVerdict (Refused number place) window g groups = Refused number place
+-- the number of what is refused of a window and a group number, or 0: 8 for a window that is not good, then 9 for a
+-- number that no group has
+unfoldable pub recordRefusal : Float → ℕ → ℕ → ℕ
+recordRefusal window g groups = cond (windowGood window) (cond (ltb g groups) 0 9) 8
+
+-- and it comes after what is refused of the chart
+abbrev pub recordVerdict : Verdict → Float → ℕ → ℕ → Verdict
+recordVerdict v window g groups = refusedThen v (recordRefusal window g groups)
 
 -- how many groups a chart has
 abbrev pub groupsOf : Settings → Chart → ℕ

@@ -24,13 +24,9 @@ pub struct LocatedGroup {
     pub groups: usize,
 }
 
-// The group's first object, how many notes it has, the own intervals there, its last start minus its first, its
-// interval and its pattern.
+// The group's notes, its interval and its pattern.
 pub struct FoundGroup {
-    pub first: ObjectIndex,
-    pub notes: usize,
-    pub owns: Recent,
-    pub duration: f64,
+    pub located: LocatedGroup,
     pub interval: f64,
     pub pattern: Pattern,
 }
@@ -90,17 +86,12 @@ pub fn find(
 {
     let n = kind.len();
     let located = locate(kind, start, delta, margin, g, work, scratch);
-    let first = located.first;
     let groups = located.groups;
-    let owns = located.owns;
     fill_intervals(start, &work[n..n + groups], margin, scratch);
     let interval = scratch[g];
     let pattern = pattern_at(&scratch[..groups], margin, g);
     FoundGroup {
-        first,
-        notes: located.notes,
-        owns,
-        duration: located.duration,
+        located,
         interval,
         pattern,
     }

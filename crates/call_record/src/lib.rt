@@ -5,8 +5,9 @@ ghost use Rattle.grouping_chart.specs.Settings.{baseSettings};
 ghost use Rattle.grouping_chart.specs.Outcome.{outcome};
 ghost use Rattle.grouping_chart.specs.Chart.{chart};
 ghost use Rattle.lent.specs.Slice.{lent};
+ghost use Rattle.call_rhythm.specs.Rhythm.{groupsIn};
 ghost use Rattle.call_record.specs.Record.{recordAt};
-ghost use Rattle.call_record.specs.Call.{before, after, windowGood, cleared, recordOutcome};
+ghost use Rattle.call_record.specs.Call.{before, after, windowGood, recordRefusal, cleared, recordOutcome};
 ghost use Rattle.call_record.specs.passes.Found.{GroupRoom};
 use evaluator_rhythm::repeated_interval_penalty;
 use grouping_chart::chart::Verdict;
@@ -46,6 +47,21 @@ fn window_good(window: f64) -> bool
     numeric::range::is_within(1.0, 1000.0, window)
 }
 
+// The number of what is refused of an accepted chart's window and group number, or 0: 8 for a window that is not good,
+// then 9 for a number that no group has.
+fn record_refusal(kind: &[u8], delta: &[f64], margin: f64, g: usize, window: f64) -> u8
+    requires { ⌜ length (now delta) ≡ length (now kind) ⌝ }
+    ensures { λ r. ⌜ r ≡ recordRefusal window g (groupsIn margin (lent kind) (lent delta)) ⌝ }
+{
+    if window_good(window) {
+        if g < grouping_interval::notes::count_groups(kind, delta, margin) {
+            return 0;
+        }
+        return 9;
+    }
+    8
+}
+
 // What the call does with an accepted chart and group number: finds the group, clears the work slices, and scores.
 fn make_record(
     kind: &[u8],
@@ -65,16 +81,23 @@ fn make_record(
     let found = found::find(kind, start, delta, s.margin, g, work, scratch);
     fill::clear(work, 8 * n);
     fill::clear_floats(scratch, n);
-    let first = found.first;
-    let owns = found.owns;
+    let located = found.located;
+    let first = located.first;
+    let owns = located.owns;
     let own = owns.newest;
     let previous = owns.second;
     let ratio = grouping_same_rhythm::own::ratio(own, previous);
-    let penalty = repeated_interval_penalty(owns, found.notes, found.duration, window, s.threshold);
+    let penalty = repeated_interval_penalty(
+        owns,
+        located.notes,
+        located.duration,
+        window,
+        s.threshold,
+    );
     let pattern = found.pattern;
     GroupRecord {
         first,
-        notes: found.notes,
+        notes: located.notes,
         own,
         ratio: canonical(ratio),
         interval: found.interval,
@@ -100,12 +123,10 @@ pub fn record(
     match judge(kind, start, delta, ratio, false, work.len(), scratch.len()) {
         Verdict::Refused(number, place) => Recording::Refused(number, place),
         Verdict::Accepted => {
-            if !window_good(window) {
-                return Recording::Refused(8, ObjectIndex(0));
-            }
             let s = settings::base();
-            if grouping_interval::notes::count_groups(kind, delta, s.margin) <= g {
-                return Recording::Refused(9, ObjectIndex(0));
+            let number = record_refusal(kind, delta, s.margin, g, window);
+            if number != 0 {
+                return Recording::Refused(number, ObjectIndex(0));
             }
             Recording::Done(make_record(kind, start, delta, s, g, window, work, scratch))
         }

@@ -19,9 +19,9 @@ use Rattle.grouping_interval.specs.IntervalGrouping.{intervalMarks}
 use Rattle.grouping_same_rhythm.specs.SameRhythm.{rhythmMarks, groupIntervals}
 use Rattle.grouping_same_rhythm.proofs.MadeLaws.{patternNumber-made}
 use Rattle.call_rhythm.specs.declared.tables.GroupCounts.{GroupCounts}
-use Rattle.call_rhythm.specs.Rhythm.{byObject, noteGroup, groupOf, patternGroupOf, groupsIn, countsOf}
+use Rattle.call_rhythm.specs.Rhythm.{noteGroup, groupOf, patternGroupOf, groupsIn, countsOf}
 use Rattle.call_rhythm.specs.Call.{Memory, memory, filled}
-use Rattle.call_rhythm.specs.passes.Tables.{workWrites, scratchWrites, GroupsRoom, LookRoom, noteGroups, notePatterns, TablesThere}
+use Rattle.call_rhythm.specs.passes.Tables.{workWrites, scratchWrites, GroupsRoom, LookRoom, byObject, noteGroups, notePatterns, TablesThere}
 use Rattle.call_rhythm.proofs.PerNoteLaws.{per-note-ext}
 use Rattle.call_rhythm.proofs.TablesLaws.{length-rhythm-marks, groups-few, TablesLeft, tables-left}
 
@@ -66,18 +66,18 @@ module _ (s : Settings) {kinds : List ℕ} {starts deltas : List Float} {m : Mem
   left = tables-left (r .tables) w f
 
   groups-are : noteGroups kinds k work₁ ≡ groupNumbers (rhythmMarks (s .margin) kinds deltas)
-  groups-are = ap (λ (x : GroupCounts). part (2 * length kinds) (x .notes) work₁) counts ∙ left .note-groups
+  groups-are = rw counts (left .note-groups)
 
   patterns-are : part (3 * length kinds) (k .groups) work₁ ≡ groupNumbers (intervalMarks (s .margin) (groupIntervals (s .margin) kinds starts deltas))
-  patterns-are = ap (λ (x : GroupCounts). part (3 * length kinds) (x .groups) work₁) counts ∙ left .group-patterns
+  patterns-are = rw counts (left .group-patterns)
 
   pub tables-there : TablesThere kinds k work₁ (m .group) (m .pattern)
   unfolding groupsIn
   tables-there =
       let marks : List ℕ = rhythmMarks (s .margin) kinds deltas in
       let l : length marks ≡ length (notes kinds) = length-rhythm-marks (s .margin) kinds deltas (r .tables .whole) in
-      let noted : k .notes ≡ length (notes kinds) = ap (λ (x : GroupCounts). x .notes) counts in
-      let grouped : k .groups ≡ groupCount marks = ap (λ (x : GroupCounts). x .groups) counts in
+      let noted : k .notes ≡ length (notes kinds) = rw counts in
+      let grouped : k .groups ≡ groupCount marks = rw counts in
       record {
         few = r .tables .few;
         noted = noted;
@@ -112,8 +112,8 @@ module _ (s : Settings) {kinds : List ℕ} {starts deltas : List Float} {m : Mem
       length-gathered _ _ ∙ length-part (2 * n) (k .notes) work₁ (omega (arith, notes-most there, there .regions)) in
       let past : drop (8 * n) work₂ ≡ drop (8 * n) (m .work) =
       ap (drop (8 * n)) x ∙ drop-put (8 * n) (2 * n) (notePatterns kinds k work₁) work₁ (omega (arith, notes-most there)) ∙ left .past in
-      let groups = g ∙ ap (λ (xs : List ℕ). over (byObject xs kinds) (m .group)) groups-are in
-      let patterns = p ∙ ap (λ (xs : List ℕ). over xs (m .pattern)) by-objects in
+      let groups = rw groups-are at g in
+      let patterns = rw by-objects at p in
       let zeros = z ∙ over-agree (replicate (8 * n) 0) work₂ (m .work) (8 * n) (length-replicate (8 * n) 0) past in
       let floats = q ∙ over-agree (replicate n (ofBits binary64 0)) scratch₁ (m .scratch) n (length-replicate n (ofBits binary64 0)) (left .past-floats) in
       λ t. ofLists (groups t) (patterns t) (zeros t) (floats t)

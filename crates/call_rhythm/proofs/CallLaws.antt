@@ -1,7 +1,6 @@
 -- The outcome of rhythm, case by case, over plain lists: a refusal leaves all as lent, and an accepted call has room in every slice.
 use mathlib.Core.Path.{_≡_, refl, sym, ap, _∙_}
-use mathlib.Core.Bool.{Bool, true, cond}
-use mathlib.Core.List.{List}
+use mathlib.Core.Bool.{true}
 use Prim.Native.Nat.{ℕ, _<_}
 use native.Mathlib.Omega.{arith}
 use lib.ListN.{getD}
@@ -21,18 +20,14 @@ use Rattle.call_rhythm.specs.declared.tables.GroupCounts.{GroupCounts}
 use Rattle.call_rhythm.specs.Rhythm.{noteGroup, groupOf, countsOf}
 use Rattle.call_rhythm.specs.Call.{Memory, answerLengths, judged, filled, groupingDone, rhythmOutcome}
 use Rattle.call_rhythm.specs.passes.Tables.{GroupsRoom}
+use Rattle.call_rhythm.proofs.TablesLaws.{accepted-tables}
 use Rattle.call_rhythm.proofs.PerNoteLaws.{length-per-note, per-note-at}
 
 -- an accepted call has room
 pub rhythm-room : (c : Chart) (m : Memory) → judged c m ≡ Accepted → GroupsRoom (c .kinds) (c .starts) (c .deltas) m
 rhythm-room c m h =
     let r = accommodated c (answerLengths m) _ _ h in
-    let good = r .chart in
-    record {
-      tables = record { few = good .few; started = good .lengths .start; whole = good .lengths .delta; regions = r .regions; floats = r .floats };
-      group-room = r .long .0;
-      pattern-room = r .long .1 .0;
-    }
+    record { tables = accepted-tables (m .work) (m .scratch) r; group-room = r .long .0; pattern-room = r .long .1 .0 }
 
 -- ---- each case leaves its outcome
 
@@ -57,5 +52,4 @@ module _ (s : Settings) (c : Chart) (m : Memory) where
       ∙ getD-over (groupOf (s .margin) (c .kinds) (c .deltas)) (m .group) o 0
       (omega (arith, length-per-note (noteGroup (s .margin) (c .kinds) (c .deltas)) (c .kinds)))
       ∙ per-note-at (noteGroup (s .margin) (c .kinds) (c .deltas)) (c .kinds) o l
-      ∙ ap (λ (b : Bool). cond b (noteGroup (s .margin) (c .kinds) (c .deltas) (noteIdx (c .kinds) o)) 65535) n
-      ∙ ap (λ (marks : List ℕ). getD (groupNumbers marks) (noteIdx (c .kinds) o) 0) (rhythmMarks-made (s .margin) (c .kinds) (c .deltas))
+      ∙ rw (n, rhythmMarks-made (s .margin) (c .kinds) (c .deltas))

@@ -8,7 +8,7 @@ use native.Mathlib.Omega.{arith}
 use lib.ListN.{length, take, drop, getD}
 use lib.Seq.{length-take-le}
 use lib.Ieee.{Float}
-use Rattle.lent.specs.Over.{over, put, part}
+use Rattle.lent.specs.Over.{over, put, part, written}
 use Rattle.grouping_marks.specs.Marks.{groupCount, groupNumbers, groupFirsts}
 use Rattle.grouping_marks.specs.Parted.{parted}
 use Rattle.lent.specs.passes.Regions.{Room}
@@ -26,7 +26,7 @@ use Rattle.grouping_same_rhythm.specs.SameRhythm.{firstsOf, startsOf, intervals
 use Rattle.grouping_same_rhythm.specs.passes.Groups.{IntervalsRoom}
 use Rattle.grouping_same_rhythm.proofs.GroupsLaws.{length-starts, length-intervals}
 use Rattle.grouping_same_rhythm.proofs.FirstLaws.{firsts-parted}
-use Rattle.call_rhythm.specs.passes.Tables.{NumbersRoom, NotesNumbered, FirstsThere, GroupsNumbered}
+use Rattle.call_rhythm.specs.passes.Tables.{NumbersRoom, numbersWrites, FirstsThere, intervalsFrom, patternsFrom}
 
 -- a group's number for each value
 pub length-group-numbers : (margin : Float) (values : List Float) → length (groupNumbers (intervalMarks margin values)) ≡ length values
@@ -56,15 +56,15 @@ module _ (margin : Float) (deltas : List Float) (n : ℕ) (work₀ : List ℕ) (
   firsts-few = omega (arith, firsts-long, count-le marks, marked-each)
 
   -- no notes
-  pub notes-none : length deltas ≡ 0 → NotesNumbered marks objects n work₀ work₀ 0
-  notes-none e = record {
-    count = sym (count-none marks (marked-each ∙ e));
-    tables =
-        sym (ap (λ (l : List ℕ). put (2 * n) l (put n firsts work₀)) (nothing _ (length-group-numbers margin deltas ∙ e))
-        ∙ put-nothing (2 * n) _
-        ∙ ap (λ (l : List ℕ). put n l work₀) (nothing firsts (firsts-long ∙ count-none marks (marked-each ∙ e)))
-        ∙ put-nothing n work₀);
-  }
+  pub notes-none : length deltas ≡ 0 → (0 ≡ groupCount marks) × (work₀ ≡ written (numbersWrites n marks objects) work₀)
+  notes-none e = (
+    sym (count-none marks (marked-each ∙ e)),
+    sym (rw (
+      nothing (groupNumbers marks) (length-group-numbers margin deltas ∙ e),
+      put-nothing (2 * n) (put n firsts work₀),
+      nothing firsts (firsts-long ∙ count-none marks (marked-each ∙ e)),
+    ) (put-nothing n work₀)),
+  )
     where
       nothing : (l : List ℕ) → length l ≡ 0 → l ≡ []
       nothing [] h = refl
@@ -98,7 +98,7 @@ module _ (margin : Float) (deltas : List Float) (n : ℕ) (work₀ : List ℕ) (
     -- ---- and the firsts in region 1
     module _ (work₂ : List ℕ) (listed : work₂ ≡ put n (groupFirsts (part (2 * n) (length deltas) work₁) (part 0 (length deltas) work₁)) work₁) where
       written₂ : work₂ ≡ put n firsts work₁
-      written₂ = listed ∙ (λ t. put n (groupFirsts (marks₁ t) (objects₁ t)) work₁) ∙ ap (λ (l : List ℕ). put n l work₁) (firsts-parted marks objects)
+      written₂ = rw (marks₁, objects₁, firsts-parted marks objects) at listed
 
       long₂ : length work₂ ≡ length work₀
       long₂ = ap length written₂ ∙ length-put n firsts work₁ (omega (arith, firsts-few, long₁, r)) ∙ long₁
@@ -119,15 +119,14 @@ module _ (margin : Float) (deltas : List Float) (n : ℕ) (work₀ : List ℕ) (
 
         written₃ : work₃ ≡ put (2 * n) (groupNumbers marks) below
         written₃ =
-            counted ∙ (λ t. put (2 * n) (groupNumbers (marks₂ t)) (written₂ t))
-            ∙ ap (λ (l : List ℕ). put (2 * n) (groupNumbers marks) (put n firsts l)) marked
+            rw (marks₂, written₂, marked) at counted
             ∙ ap (put (2 * n) (groupNumbers marks)) (put-swap n (2 * n) firsts marks work₀ (omega (arith, firsts-few, r)) (omega (arith, r)))
             ∙ put-twice (2 * n) marks (groupNumbers marks) below (sym (length-numbers marks))
             (omega (arith, long-below, length-group-numbers margin deltas, r))
 
         -- the last number is one less than the count
         pub notes-numbered : (k : ℕ) → (length deltas ≡ 0 → ⊥) → k ≡ getD work₃ (2 * n + length deltas - 1) 0
-            → NotesNumbered marks objects n work₀ work₃ (k + 1)
+            → (k + 1 ≡ groupCount marks) × (work₃ ≡ written (numbersWrites n marks objects) work₀)
         notes-numbered k some e =
             let i : ℕ = length deltas - 1 in
             let at : 2 * n + length deltas - 1 ≡ 2 * n + i = omega arith in
@@ -135,13 +134,8 @@ module _ (margin : Float) (deltas : List Float) (n : ℕ) (work₀ : List ℕ) (
             ap (part (2 * n) (length deltas)) written₃
             ∙ part-put-same (2 * n) (length deltas) (groupNumbers marks) below (length-group-numbers margin deltas) (omega (arith, long-below, r)) in
             let last : getD work₃ (2 * n + i) 0 ≡ getD (groupNumbers marks) i 0 =
-            sym (getD-part (2 * n) (length deltas) work₃ i 0 (omega arith)) ∙ ap (λ (l : List ℕ). getD l i 0) numbers in
-            record {
-              count =
-                  ap (λ (x : ℕ). x + 1) (e ∙ ap (λ (x : ℕ). getD work₃ x 0) at ∙ last)
-                  ∙ number-last marks i (omega (arith, marked-each));
-              tables = written₃;
-            }
+            sym (getD-part (2 * n) (length deltas) work₃ i 0 (omega arith)) ∙ rw numbers in
+            (rw (e, at, last) (number-last marks i (omega (arith, marked-each))), written₃)
 
 -- ---- the groups' patterns
 
@@ -156,23 +150,21 @@ module _ {starts : List Float} {n groups : ℕ} {work : List ℕ} {scratch₀ : 
 
   -- ---- by the intervals, at a margin
   module _ (margin : Float) where
-    intervals : List Float
-    intervals = intervalsOf margin (startsOf starts (part n groups work))
+    abbrev intervals : List Float
+    intervals = intervalsFrom margin starts n groups work
 
     length-all : length intervals ≡ groups
-    unfolding intervals
     length-all = length-intervals margin (startsOf starts (part n groups work)) ∙ length-starts starts (part n groups work) ∙ length-firsts
 
     module _ {scratch : List Float} (f : scratch ≡ over (intervalsOf margin (startsOf starts (take (n + groups - n) (drop n work)))) scratch₀) where
-      written : scratch ≡ over intervals scratch₀
-      unfolding intervals
-      written = f ∙ ap (λ (xs : List ℕ). over (intervalsOf margin (startsOf starts xs)) scratch₀) (lent-part n groups work)
+      filled : scratch ≡ over intervals scratch₀
+      filled = rw (lent-part n groups work) at f
 
       values-are : take groups scratch ≡ intervals
-      values-are = ap (take groups) written ∙ front intervals scratch₀ groups length-all
+      values-are = ap (take groups) filled ∙ front intervals scratch₀ groups length-all
 
       pub values-lent : groups ≤ length scratch
-      values-lent = omega (arith, ap length written, length-over intervals scratch₀ (omega (arith, length-all, r .most, r .floats)), r .most, r .floats)
+      values-lent = omega (arith, ap length filled, length-over intervals scratch₀ (omega (arith, length-all, r .most, r .floats)), r .most, r .floats)
 
       pub groups-places : ValuesRoom (take groups scratch) (take (3 * n + groups - 3 * n) (drop (3 * n) work))
       groups-places =
@@ -183,14 +175,12 @@ module _ {starts : List Float} {n groups : ℕ} {work : List ℕ} {scratch₀ : 
 
       pub groups-numbered : (region : List ℕ) (count : ℕ)
           → GroupedByInterval margin (take groups scratch) (take (3 * n + groups - 3 * n) (drop (3 * n) work)) region count
-          → GroupsNumbered margin (intervalsOf margin (startsOf starts (part n groups work))) n
-          work (take (3 * n) work ++ (region ++ drop (3 * n + groups - 3 * n) (drop (3 * n) work))) scratch₀ scratch count
-      unfolding intervals
-      groups-numbered region count g = record {
-        count = g .count ∙ ap (λ (vs : List Float). groupCount (intervalMarks margin vs)) values-are;
-        tables =
-            put-back (3 * n) (3 * n + groups - 3 * n) _ work region
-            (omega (arith, length-group-numbers margin (take groups scratch), length-take-le groups scratch values-lent)) (g .numbers)
-            ∙ ap (λ (vs : List Float). put (3 * n) (groupNumbers (intervalMarks margin vs)) work) values-are;
-        floats = written;
-      }
+          → (count ≡ groupCount (patternsFrom margin starts n groups work))
+          × ((take (3 * n) work ++ (region ++ drop (3 * n + groups - 3 * n) (drop (3 * n) work))
+          ≡ put (3 * n) (groupNumbers (patternsFrom margin starts n groups work)) work)
+          × (scratch ≡ over intervals scratch₀))
+      groups-numbered region count g =
+          let k : length (groupNumbers (intervalMarks margin (take groups scratch))) ≡ 3 * n + groups - 3 * n =
+          omega (arith, length-group-numbers margin (take groups scratch), length-take-le groups scratch values-lent) in
+          let tables = put-back (3 * n) (3 * n + groups - 3 * n) _ work region k (g .numbers) in
+          (rw values-are at (g .count), (rw values-are at tables, filled))

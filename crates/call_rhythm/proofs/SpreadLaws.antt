@@ -1,6 +1,6 @@
 -- The loops that spread numbers over objects and that look numbers up. The invariant of the first: the first i objects have their numbers, and `next`
 -- counts the notes among them; of the second: the first i numbers are looked up, and the table, which lies behind them, is as it was.
-use mathlib.Core.Path.{_≡_, sym, ap, _∙_}
+use mathlib.Core.Path.{_≡_, sym, _∙_}
 use mathlib.Core.Logic.{inr}
 use mathlib.Core.Bool.{Bool, true, false, cond}
 use mathlib.Core.List.{List, []}
@@ -15,8 +15,7 @@ use Rattle.lent.proofs.FillLaws.{Fill, fill-start, fill-turn, fill-start-front,
 use Rattle.lent.proofs.FillLaws.{length-gathered, getD-gathered}
 use Rattle.grouping_chart.specs.Object.{isNote, noteIdx}
 use Rattle.grouping_chart.proofs.ObjectLaws.{seen₀, seenAfter, seen-few, notes-turn, noteIdx-seen}
-use Rattle.call_rhythm.specs.Rhythm.{byObject}
-use Rattle.call_rhythm.specs.passes.Tables.{SpreadRoom, LookRoom}
+use Rattle.call_rhythm.specs.passes.Tables.{SpreadRoom, LookRoom, byObject}
 use Rattle.call_rhythm.proofs.PerNoteLaws.{note-below, length-per-note, per-note-at, same-where}
 
 -- ---- one object's number
@@ -38,7 +37,7 @@ spread-start kinds numbers out r = record { fill = fill-start-front _ _ _ (lengt
 
 module _ {kinds numbers out₀ out : List ℕ} {next i : ℕ} (x : Spread kinds numbers out₀ out next i) where
   next-is : isNote (getD kinds i 0) ≡ true → next ≡ noteIdx kinds i
-  next-is n = x .passed ∙ sym (noteIdx-seen kinds i ∙ ap (λ (b : Bool). cond b (seenAfter seen₀ (take i kinds) .notes) 0) n)
+  next-is n = x .passed ∙ sym (rw n at (noteIdx-seen kinds i))
 
   -- the number that a note asks for is there
   pub spread-within : SpreadRoom kinds numbers out₀ → i < length kinds → isNote (getD kinds i 0) ≡ true → next < length numbers
@@ -54,7 +53,7 @@ module _ {kinds numbers out₀ out : List ℕ} {next i : ℕ} (x : Spread kinds 
         fill-turn-front 0 (x .fill) h
         (q
         ∙ same-where (isNote (getD kinds i 0)) (getD numbers next 0) (getD numbers (noteIdx kinds i) 0) 65535
-        (λ n. ap (λ (j : ℕ). getD numbers j 0) (next-is n))
+        (λ n. rw (next-is n))
         ∙ sym (per-note-at (λ (j : ℕ). getD numbers j 0) kinds i h));
     passed = notes-turn kinds i h next after (x .passed) e;
   }
@@ -93,6 +92,5 @@ module _ {table k at m : ℕ} {w₀ w : List ℕ} {i : ℕ} (x : Looked table k 
         fill-turn 0 (x .fill) h
         (fill-unread (table + getD w (at + i) 0) 0 (x .fill) (inr (omega (arith, x .room .write)))
         ∙ sym (getD-part table k w₀ (getD w (at + i) 0) 0 looked-below)
-        ∙ ap (λ (j : ℕ). getD (part table k w₀) j 0) number-is
-        ∙ sym (getD-gathered (part table k w₀) (part at m w₀) i (omega (arith, length-numbers table k at m w₀ (x .room)))));
+        ∙ rw number-is (sym (getD-gathered (part table k w₀) (part at m w₀) i (omega (arith, length-numbers table k at m w₀ (x .room))))));
   }

@@ -7,27 +7,37 @@ use native.Mathlib.Omega.{arith}
 use lib.ListN.{length, take, drop, getD}
 use lib.Seq.{length-take-le}
 use lib.Ieee.{Float}
-use Rattle.lent.specs.Over.{put, part, write, written}
+use Rattle.lent.specs.Over.{over, put, part, write, written}
 use Rattle.grouping_marks.specs.Marks.{groupCount, groupNumbers}
 use Rattle.grouping_marks.specs.Parted.{parted}
 use Rattle.lent.proofs.OverLaws.{length-over, front, put-front, length-put, take-put, drop-put, part-put-same, part-put-before, written-append}
 use Rattle.grouping_marks.proofs.MarksLaws.{count-le, length-numbers}
 use Rattle.grouping_marks.proofs.PartedLaws.{length-parted}
+use Rattle.grouping_chart.specs.Chart.{Chart}
 use Rattle.grouping_chart.specs.Object.{notes}
+use Rattle.grouping_chart.proofs.OutcomeLaws.{Accommodated}
 use Rattle.grouping_interval.specs.Notes.{noteObjects, ofNotes}
 use Rattle.grouping_chart.proofs.ObjectLaws.{notes-few}
 use Rattle.grouping_interval.proofs.NoteLaws.{length-note-objects, length-of-notes, object-below}
 use Rattle.grouping_interval.specs.IntervalGrouping.{intervalMarks}
 use Rattle.grouping_interval.proofs.IntervalLaws.{length-marks}
 use Rattle.grouping_interval.specs.passes.Rooms.{NotesListed}
-use Rattle.grouping_same_rhythm.specs.SameRhythm.{firstsOf, startsOf, intervalsOf, rhythmMarks, groupObjects, groupIntervals}
+use Rattle.grouping_same_rhythm.specs.SameRhythm.{firstsOf, startsOf, rhythmMarks, groupObjects, groupIntervals}
 use Rattle.grouping_same_rhythm.proofs.MadeLaws.{rhythmMarks-made, groupObjects-made, groupIntervals-made}
 use Rattle.grouping_same_rhythm.proofs.GroupsLaws.{length-starts, length-intervals, length-firsts, firsts-inside}
 use Rattle.call_rhythm.specs.Rhythm.{groupsIn, patternGroupsIn, countsOf}
-use Rattle.call_rhythm.specs.passes.Tables.{NumbersRoom, NotesNumbered, FirstsThere, GroupsNumbered, TablesRoom, notesWrites, workWrites, scratchWrites}
+use Rattle.call_rhythm.specs.passes.Tables.{NumbersRoom, numbersWrites, FirstsThere, intervalsFrom, patternsFrom, TablesRoom}
+use Rattle.call_rhythm.specs.passes.Tables.{notesWrites, workWrites, scratchWrites}
 use Rattle.call_rhythm.specs.declared.tables.GroupCounts.{GroupCounts}
 use Rattle.lent.proofs.WrittenLaws.{Ends, length-written, drop-written}
 use Rattle.call_rhythm.proofs.RegionLaws.{length-group-numbers}
+
+-- an accepted call has room for the tables
+pub accepted-tables : {c : Chart} {answers : List ℕ} (work : List ℕ) (scratch : List Float) → Accommodated c answers (length work) (length scratch)
+    → TablesRoom (c .kinds) (c .starts) (c .deltas) work scratch
+accepted-tables work scratch r =
+    let good = r .chart in
+    record { few = good .few; started = good .lengths .start; whole = good .lengths .delta; regions = r .regions; floats = r .floats }
 
 -- ---- how many there are
 
@@ -49,9 +59,8 @@ module _ (margin : Float) (kinds : List ℕ) (deltas : List Float) (e : length d
   pub length-first-objects : length (firstsOf (groupObjects margin kinds deltas)) ≡ groupsIn margin kinds deltas
   unfolding groupsIn
   length-first-objects =
-      ap (λ (l : List (List ℕ)). length (firstsOf l)) (groupObjects-made margin kinds deltas)
-      ∙ length-firsts (parted (rhythmMarks margin kinds deltas) (noteObjects kinds))
-      ∙ length-parted (rhythmMarks margin kinds deltas) (noteObjects kinds) (omega (arith, length-rhythm-marks, length-note-objects kinds))
+      rw (groupObjects-made margin kinds deltas) (length-firsts (parted (rhythmMarks margin kinds deltas) (noteObjects kinds))
+      ∙ length-parted (rhythmMarks margin kinds deltas) (noteObjects kinds) (omega (arith, length-rhythm-marks, length-note-objects kinds)))
 
   pub first-object-below : (k : ℕ) → k < length (firstsOf (groupObjects margin kinds deltas))
       → getD (firstsOf (groupObjects margin kinds deltas)) k 0 < length kinds
@@ -203,17 +212,17 @@ module _ {kinds : List ℕ} {starts deltas : List Float} {work₀ : List ℕ} {s
       pub marks-are : intervalMarks margin (take m scratch₁) ≡ rhythmMarks margin kinds deltas
       marks-are = ap (intervalMarks margin) values-are ∙ sym (rhythmMarks-made margin kinds deltas)
 
-      pub noted : {work : List ℕ} {groups : ℕ}
-          → NotesNumbered (intervalMarks margin (take m scratch₁)) (take (length (take m scratch₁)) work₁) (length kinds) work₁ work groups
+      pub noted : {work : List ℕ} {groups : ℕ} → (groups ≡ groupCount (intervalMarks margin (take m scratch₁)))
+          × (work ≡ written (numbersWrites (length kinds) (intervalMarks margin (take m scratch₁)) (take (length (take m scratch₁)) work₁)) work₁)
           → Noted margin kinds deltas work₀ work scratch₀ scratch₁ m groups
       unfolding groupsIn notesWrites
       noted a =
           let n : ℕ = length kinds in
           record {
             noted = noted-count;
-            grouped = a .count ∙ ap groupCount marks-are;
+            grouped = a .0 ∙ ap groupCount marks-are;
             memory =
-                a .tables
+                a .1
                 ∙ (λ t. put (2 * n) (groupNumbers (marks-are t)) (put n (firstsOf (parted (marks-are t) (objects-are t))) (l .numbers t)))
                 ∙ (λ t. put (2 * n) (groupNumbers (rhythmMarks margin kinds deltas))
                 (put n (firstsOf (sym (groupObjects-made margin kinds deltas) t)) (sym (put-front (noteObjects kinds) work₀) t)));
@@ -224,7 +233,7 @@ module _ {kinds : List ℕ} {starts deltas : List Float} {work₀ : List ℕ} {s
   -- the groups numbered
   module _ {margin : Float} {work₁ : List ℕ} {scratch₁ : List Float} {m groups : ℕ} (a : Noted margin kinds deltas work₀ work₁ scratch₀ scratch₁ m groups) where
     firsts-are : part (length kinds) groups work₁ ≡ firstsOf (groupObjects margin kinds deltas)
-    firsts-are = ap (λ (k : ℕ). part (length kinds) k work₁) (a .grouped) ∙ notes-left r (a .memory) .firsts
+    firsts-are = rw (a .grouped) (notes-left r (a .memory) .firsts)
 
     pub firsts-there : FirstsThere starts (length kinds) groups work₁ scratch₁
     firsts-there = record {
@@ -239,24 +248,25 @@ module _ {kinds : List ℕ} {starts deltas : List Float} {work₀ : List ℕ} {s
 
     -- by the intervals that start at the firsts
     module _ {work : List ℕ} {scratch : List Float} {patterns : ℕ}
-        (b : GroupsNumbered margin (intervalsOf margin (startsOf starts (part (length kinds) groups work₁))) (length kinds)
-        work₁ work scratch₁ scratch patterns) where
-      intervals-are : intervalsOf margin (startsOf starts (part (length kinds) groups work₁)) ≡ groupIntervals margin kinds starts deltas
-      intervals-are = ap (λ (xs : List ℕ). intervalsOf margin (startsOf starts xs)) firsts-are ∙ sym (groupIntervals-made margin kinds deltas starts)
+        (b : (patterns ≡ groupCount (patternsFrom margin starts (length kinds) groups work₁))
+        × ((work ≡ put (3 * length kinds) (groupNumbers (patternsFrom margin starts (length kinds) groups work₁)) work₁)
+        × (scratch ≡ over (intervalsFrom margin starts (length kinds) groups work₁) scratch₁))) where
+      intervals-are : intervalsFrom margin starts (length kinds) groups work₁ ≡ groupIntervals margin kinds starts deltas
+      intervals-are = rw firsts-are (sym (groupIntervals-made margin kinds deltas starts))
 
       pub counts-are : _≡_ {A = GroupCounts} (record { notes = m; groups = groups; patterns = patterns }) (countsOf margin kinds starts deltas)
       unfolding patternGroupsIn
       counts-are =
-          let p = b .count ∙ ap (λ (vs : List Float). groupCount (intervalMarks margin vs)) intervals-are in
+          let p = rw intervals-are at (b .0) in
           λ t. record { notes = a .noted t; groups = a .grouped t; patterns = p t }
 
       pub work-written : work ≡ written (workWrites margin kinds starts deltas) work₀
       unfolding workWrites
       work-written =
-          b .tables
+          b .1 .0
           ∙ (λ t. put (3 * length kinds) (groupNumbers (intervalMarks margin (intervals-are t))) (a .memory t))
           ∙ sym (written-append (notesWrites margin kinds deltas) _ work₀)
 
       pub scratch-written : scratch ≡ written (scratchWrites margin kinds starts deltas) scratch₀
       unfolding scratchWrites
-      scratch-written = b .floats ∙ sym (put-front _ scratch₁) ∙ (λ t. put 0 (intervals-are t) (a .scratch-memory t))
+      scratch-written = b .1 .1 ∙ sym (put-front _ scratch₁) ∙ (λ t. put 0 (intervals-are t) (a .scratch-memory t))

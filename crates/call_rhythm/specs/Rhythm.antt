@@ -18,10 +18,6 @@ unfoldable pub perNote : (ℕ → ℕ) → List ℕ → List ℕ
 perNote f kinds =
     tabulate (λ (i : ℕ). cond (isNote (getD kinds i 0)) (f (noteIdx kinds i)) 65535) (length kinds)
 
--- the same of a list that has a number for each note
-abbrev pub byObject : List ℕ → List ℕ → List ℕ
-byObject numbers kinds = perNote (λ (j : ℕ). getD numbers j 0) kinds
-
 -- the group of note number j
 unfoldable pub noteGroup : Float → List ℕ → List Float → ℕ → ℕ
 noteGroup margin kinds deltas j = getD (groupNumbers (rhythmMarks margin kinds deltas)) j 0

@@ -1,13 +1,14 @@
 // The tables of rhythm groups: each note's group, each group's pattern.
 ghost use mathlib.Core.Path.{_≡_};
+ghost use Prim.Native.Nat.{_*_};
 ghost use lib.ListN.{length, take};
-ghost use Rattle.lent.specs.Over.{part, written};
+ghost use Rattle.lent.specs.Over.{over, put, written};
 ghost use Rattle.lent.specs.Slice.{lent, left};
+ghost use Rattle.grouping_marks.specs.Marks.{groupCount, groupNumbers};
 ghost use Rattle.grouping_interval.specs.IntervalGrouping.{intervalMarks};
-ghost use Rattle.grouping_same_rhythm.specs.SameRhythm.{startsOf, intervalsOf};
 ghost use Rattle.call_rhythm.specs.Rhythm.{countsOf};
-ghost use Rattle.call_rhythm.specs.passes.Tables.{NumbersRoom, NotesNumbered, FirstsThere, GroupsNumbered};
-ghost use Rattle.call_rhythm.specs.passes.Tables.{TablesRoom, workWrites, scratchWrites};
+ghost use Rattle.call_rhythm.specs.passes.Tables.{NumbersRoom, numbersWrites, FirstsThere, intervalsFrom};
+ghost use Rattle.call_rhythm.specs.passes.Tables.{patternsFrom, TablesRoom, workWrites, scratchWrites};
 use grouping_interval::as_usize;
 use grouping_interval::group_by_interval;
 use grouping_interval::marks::mark_intervals;
@@ -30,8 +31,10 @@ pub struct GroupCounts {
 // numbers in their places. The result is how many groups there are, which is the last number and one more.
 pub fn number_notes(deltas: &[f64], margin: f64, work: &mut [u16], n: usize) -> usize
     requires { ⌜ NumbersRoom (now deltas) n (now work) ⌝ }
-    ensures { λ r. ⌜ NotesNumbered (intervalMarks margin (lent deltas)) (take (length (lent deltas)) (lent work)) n
-        (lent work) (left work) r ⌝ }
+    ensures { λ r. ⌜ r ≡ groupCount (intervalMarks margin (lent deltas)) ⌝ }
+    ensures { λ r. ⌜ left work
+        ≡ written (numbersWrites n (intervalMarks margin (lent deltas)) (take (length (lent deltas)) (lent work)))
+        (lent work) ⌝ }
 {
     let notes = deltas.len();
     if notes == 0 {
@@ -54,8 +57,10 @@ fn number_groups(
     scratch: &mut [f64],
 ) -> usize
     requires { ⌜ FirstsThere (now start) n groups (now work) (now scratch) ⌝ }
-    ensures { λ r. ⌜ GroupsNumbered margin (intervalsOf margin (startsOf (lent start) (part n groups (lent work)))) n
-        (lent work) (left work) (lent scratch) (left scratch) r ⌝ }
+    ensures { λ r. ⌜ r ≡ groupCount (patternsFrom margin (lent start) n groups (lent work)) ⌝ }
+    ensures { λ r. ⌜ left work
+        ≡ put (3 * n) (groupNumbers (patternsFrom margin (lent start) n groups (lent work))) (lent work) ⌝ }
+    ensures { λ r. ⌜ left scratch ≡ over (intervalsFrom margin (lent start) n groups (lent work)) (lent scratch) ⌝ }
 {
     fill_intervals(start, &work[n..n + groups], margin, scratch);
     group_by_interval(&scratch[..groups], margin, &mut work[3 * n..3 * n + groups])

@@ -44,8 +44,8 @@ use Rattle.examples.specs.Starred.{Example, encoding, starred}
 
 pub starred-right : map (λ (e : Example). answer (e .question)) starred ≡ map (λ (e : Example). e .outcome) starred
 unfolding starred encoding answer whole bitsOf plainChart encodeMemory colourMemory rhythmMemory encodeAnswer colourAnswer rhythmAnswer encodeShown colourShown
-    rhythmShown millis answered encode.encodeOutcome encode.filled calls.colourOutcome anyShort shortRefusal calls.filled rhythm.rhythmOutcome
-    rhythm.filled groupOf patternGroupOf perNote noteGroup groupsIn patternGroupsIn rhythmMarks groupObjects
+    rhythmShown millis answered encode.encodeOutcome encode.encodedKinds encode.filled calls.colourOutcome anyShort shortRefusal calls.filled
+    rhythm.rhythmOutcome rhythm.filled groupOf patternGroupOf perNote noteGroup groupsIn patternGroupsIn rhythmMarks groupObjects
     firstsOf startsOf intervalsOf groupIntervals patternNumber parted notesFrom noteObjects ofNotes verdict equallyLong firstRefused objectRefusal
     timeGood ratioGood within colourValues colourAt standingAt isFirst over tabulate scan endState gathered opened groupCount groupNumbers placeByMark
     groupPlaces sizesFrom groupSizes firstsFrom groupFirsts isNote notes noteIdx noteBefore previousNote continues opensStreak streakMarks streakOf

@@ -7,22 +7,21 @@ use native.Mathlib.Omega.{arith}
 use lib.ListN.{length, take, length-take}
 use lib.Seq.{take-all}
 use Rattle.lent.proofs.OverLaws.{front}
-use Rattle.grouping_colour.specs.MonoStreak.{streakOf}
-use Rattle.grouping_preprocessor.specs.Preprocessor.{alternatingOf, hitOf, intervalOf}
 use Rattle.grouping_colour.proofs.StreakListLaws.{length-streakOf}
 use Rattle.grouping_preprocessor.proofs.BoundLaws.{length-alternatingOf, length-hitOf, length-intervalOf}
 use Rattle.grouping_chart.specs.Settings.{baseSettings}
-use Rattle.call_encode.specs.Call.{Memory}
-use Rattle.call_encode.specs.passes.LookUps.{Encoded}
+use Rattle.call_encode.specs.Call.{Memory, encodedKinds}
+use Rattle.call_encode.proofs.CallLaws.{streaks-front, patterns-front, hits-front, intervals-front}
 use Rattle.letters_text.specs.declared.Reading.{Reading}
 use Rattle.letters_text.specs.declared.Reading.the-variants.{Long, Bad, Letters}
-use Rattle.letters_text.specs.Letters.{trimmed, kindsOf}
-use Rattle.letters_text.specs.Lines.{Columns, lines, badLine, longLine}
-use Rattle.letters_text.specs.passes.Memory.{ReadText, Written, LinesFit}
+use Rattle.letters_text.specs.Letters.{trimmed, kindsOf, ReadText, inputBytes}
+use Rattle.letters_text.specs.Lines.{Columns, columnsOf, lines, badLine, longLine, Written}
+use Rattle.letters_text.specs.passes.Memory.{LinesFit}
 use Rattle.letters_text.proofs.LetterLaws.{length-kinds}
-use Rattle.letters_text.proofs.PrintedLaws.{read-long, read-bad, read-letters, read-all, read-kinds, inputBytes, printed-front}
+use Rattle.letters_text.proofs.PrintedLaws.{read-long, read-bad, read-letters, read-all, read-kinds, printed-front}
 use Rattle.letters_text.proofs.WroteLaws.{written-same}
-use Rattle.letters_answer.specs.Output.{columns, lettersOutput, LettersRoom, Answered}
+use Rattle.letters_answer.specs.Output.{columns, lettersOutput, InputAnswered}
+use Rattle.letters_answer.specs.passes.Room.{LettersRoom}
 use Rattle.letters_answer.proofs.IntervalLaws.{interval-small}
 
 -- ---- the columns that are lent
@@ -30,7 +29,7 @@ use Rattle.letters_answer.proofs.IntervalLaws.{interval-small}
 columns-fit : (kinds : List ℕ) (room : ℕ) → LettersRoom (length kinds) room → LinesFit (columns kinds) room
 unfolding columns
 columns-fit kinds room x = record {
-  even = record {
+  oneLength = record {
     streaks = length-streakOf kinds;
     patterns = length-alternatingOf kinds;
     hits = length-hitOf kinds;
@@ -41,33 +40,22 @@ columns-fit kinds room x = record {
 }
 
 -- the kinds, and the first places of four answer slices after a call of `encode_kinds`
-abbrev lent : List ℕ → List ℕ → List ℕ → List ℕ → List ℕ → Columns
-lent kinds streak pattern hit interval = record {
-  kinds = kinds;
-  streaks = take (length kinds) streak;
-  patterns = take (length kinds) pattern;
-  hits = take (length kinds) hit;
-  intervals = take (length kinds) interval;
-}
+abbrev lent : List ℕ → Memory → Columns
+lent kinds new =
+    let n = length kinds in
+    columnsOf (λ (xs : List ℕ). xs) kinds (take n (new .streak)) (take n (new .pattern)) (take n (new .hit)) (take n (new .interval))
 
-module _ {kinds : List ℕ} {count : ℕ} {old new : Memory} (x : Encoded (baseSettings .limit) kinds count old new) where
-  lent-columns : columns kinds ≡ lent kinds (new .streak) (new .pattern) (new .hit) (new .interval)
+module _ (kinds : List ℕ) (old : Memory) {new : Memory} (x : new ≡ encodedKinds (baseSettings .limit) kinds old) where
+  lent-columns : columns kinds ≡ lent kinds new
   unfolding columns
   lent-columns =
-      let n : ℕ = length kinds in
-      let s : take n (new .streak) ≡ streakOf kinds = rw (x .streaks) (front (streakOf kinds) (old .streak) n (length-streakOf kinds)) in
-      let p : take n (new .pattern) ≡ alternatingOf kinds = rw (x .patterns) (front (alternatingOf kinds) (old .pattern) n (length-alternatingOf kinds)) in
-      let h : take n (new .hit) ≡ hitOf kinds = rw (x .hits) (front (hitOf kinds) (old .hit) n (length-hitOf kinds)) in
-      let i : take n (new .interval) ≡ intervalOf (baseSettings .limit) kinds =
-      rw (x .intervals) (front (intervalOf (baseSettings .limit) kinds) (old .interval) n (length-intervalOf kinds (baseSettings .limit))) in
-      cc
+      let limit : ℕ = baseSettings .limit in
+      rw (x, streaks-front limit kinds old, patterns-front limit kinds old, hits-front limit kinds old, intervals-front limit kinds old)
 
-  pub lines-fit : {room : ℕ} → LettersRoom (length kinds) room → LinesFit (lent kinds (new .streak) (new .pattern) (new .hit) (new .interval)) room
+  pub lines-fit : {room : ℕ} → LettersRoom (length kinds) room → LinesFit (lent kinds new) room
   lines-fit {room} y = rw lent-columns at (columns-fit kinds room y)
 
-  pub lines-written : {out₀ out : List ℕ} {r : ℕ}
-      → Written (lines (lent kinds (new .streak) (new .pattern) (new .hit) (new .interval))) out₀ out r
-      → Written (lines (columns kinds)) out₀ out r
+  pub lines-written : {out₀ out : List ℕ} {r : ℕ} → Written (lines (lent kinds new)) out₀ out r → Written (lines (columns kinds)) out₀ out r
   lines-written y = written-same (ap lines lent-columns) y
 
 -- ---- the three cases of a reading
@@ -94,7 +82,7 @@ module _ (text : List ℕ) {kinds₀ kinds : List ℕ} {r : Reading} (x : ReadTe
     pub answer-lines : (n : ℕ) → r ≡ Letters n → Written (lines (columns (take n kinds))) old new count → Written (lettersOutput text) old new count
     unfolding lettersOutput
     answer-lines n e y =
-        written-same (read-letters x n e (lines (columns (kindsOf (trimmed text)))) ∙ ap (λ (k : List ℕ). lines (columns k)) (kinds-read n e)) y
+        written-same (read-letters x n e (lines (columns (kindsOf (trimmed text)))) ∙ rw (kinds-read n e)) y
 
 -- ---- the first bytes of an input
 
@@ -110,16 +98,17 @@ output-front n text h = printed-front (λ (t : List ℕ). lines (columns (kindsO
 
 module _ {input old new : List ℕ} {count : ℕ} where
   -- so that what is printed for the bytes read is what is printed for all of the input
-  pub front-answered : (n : ℕ) → n ≤ length input → inputBytes ≤ length input → Written (lettersOutput (take n input)) old new count
-      → Answered input old new count
+  pub front-answered : (n : ℕ) → n ≤ length input → length input ≡ inputBytes → Written (lettersOutput (take n input)) old new count
+      → InputAnswered input old new count
   front-answered n h e y = record {
+    places = e;
     read = n;
     within = h;
-    output = λ text f. written-same (sym (output-front (length input) text e) ∙ ap lettersOutput f) y;
+    output = λ text f. written-same (sym (output-front (length input) text (omega arith)) ∙ ap lettersOutput f) y;
   }
 
   -- the answer lies within what was lent
-  pub answered-within : Answered input old new count → count ≤ length new
+  pub answered-within : InputAnswered input old new count → count ≤ length new
   answered-within x =
       let t : List ℕ = take (x .read) input in
       written-within (x .output t (take-all (length input) t (omega (arith, length-take (x .read) input))))

@@ -7,9 +7,8 @@ use lib.ListN.{length, take}
 use Rattle.grouping_colour.specs.MonoStreak.{streakOf}
 use Rattle.grouping_preprocessor.specs.Preprocessor.{alternatingOf, hitOf, intervalOf}
 use Rattle.grouping_chart.specs.Settings.{baseSettings}
-use Rattle.letters_text.specs.Letters.{trimmed, kindsOf, reading}
-use Rattle.letters_text.specs.Lines.{Columns, lines, printed}
-use Rattle.letters_text.specs.passes.Memory.{Written}
+use Rattle.letters_text.specs.Letters.{trimmed, kindsOf, reading, inputBytes}
+use Rattle.letters_text.specs.Lines.{Columns, lines, printed, Written}
 
 -- the numbers of encode that the lines show
 unfoldable pub columns : List ℕ → Columns
@@ -25,14 +24,10 @@ columns kinds = record {
 unfoldable pub lettersOutput : List ℕ → List ℕ
 lettersOutput text = printed (reading (trimmed text)) (lines (columns (kindsOf (trimmed text))))
 
--- n letters are few enough to be read, and there is room for five bytes a letter
-pub record LettersRoom (n room : ℕ) : Type 0 where
-  pub few : n ≤ 1024
-  pub enough : 5120 ≤ room
-
--- so many bytes were read to the front of `input`; of every text that begins with these, and has no more of them unless
--- `input` is full, the whole output stands at the front of the lent memory
-pub record Answered (input old new : List ℕ) (count : ℕ) : Type 0 where
+-- so many bytes were read to the front of `input`, which has places enough to tell all; of every text that begins with
+-- these, and has no more of them unless `input` is full, the whole output stands at the front of the lent memory
+pub record InputAnswered (input old new : List ℕ) (count : ℕ) : Type 0 where
+  pub places : length input ≡ inputBytes
   pub read : ℕ
   pub within : read ≤ length input
   pub output : (text : List ℕ) → take (length input) text ≡ take read input → Written (lettersOutput text) old new count

@@ -1,9 +1,9 @@
 // Everything that the letters program does but writing its output.
 ghost use lib.ListN.{length};
 ghost use Rattle.lent.specs.Slice.{lent, left};
-ghost use Rattle.letters_text.specs.Lines.{lines};
-ghost use Rattle.letters_text.specs.passes.Memory.{Written};
-ghost use Rattle.letters_answer.specs.Output.{columns, lettersOutput, LettersRoom, Answered};
+ghost use Rattle.letters_text.specs.Lines.{lines, Written};
+ghost use Rattle.letters_answer.specs.Output.{columns, lettersOutput, InputAnswered};
+ghost use Rattle.letters_answer.specs.passes.Room.{LettersRoom};
 use letters_text::Reading;
 
 // 1,024 letters, a line feed, and a byte more that tells a longer input.
@@ -61,7 +61,7 @@ fn answer(text: &[u8], out: &mut [u8; OUTPUT_BYTES]) -> usize
 // Reads the input, as much of it as tells all, and answers it as `answer` does.
 // How many bytes there were to read no promise can say: tests/letters sees that none was passed over.
 pub fn answer_input(fd: i32, input: &mut [u8; INPUT_BYTES], out: &mut [u8; OUTPUT_BYTES]) -> usize
-    ensures { λ r. ⌜ Answered (left input) (lent out) (left out) r ⌝ }
+    ensures { λ r. ⌜ InputAnswered (left input) (lent out) (left out) r ⌝ }
 {
     let n = io::read_full(fd, input);
     let text: &[u8] = input;

@@ -1,5 +1,5 @@
 -- The cases of what a text is, one law a case, and what is known of a text by its reading.
-use mathlib.Core.Path.{_≡_, refl, sym, ap, _∙_, subst}
+use mathlib.Core.Path.{_≡_, refl, sym, ap, _∙_}
 use mathlib.Core.Logic.{_⊎_, inl, inr, ⊎-elim}
 use mathlib.Core.List.{List, [], _∷_}
 use mathlib.Core.Bool.{Bool, true, false, cond}
@@ -15,8 +15,8 @@ use Rattle.lent.proofs.FillLaws.{getD-map}
 use Rattle.lent.proofs.NeverLaws.{never}
 use Rattle.letters_text.specs.declared.Reading.{Reading}
 use Rattle.letters_text.specs.declared.Reading.the-variants.{Long, Bad, Letters}
-use Rattle.letters_text.specs.Letters.{trimmed, isLetter, kindOf, letterOf, kindsOf, firstBad, reading}
-use Rattle.letters_text.specs.passes.Memory.{Front, kindsAfter, ReadText}
+use Rattle.letters_text.specs.Letters.{trimmed, isLetter, kindOf, letterOf, kindsOf, firstBad, reading, kindsAfter, ReadText}
+use Rattle.letters_text.specs.passes.Memory.{Front}
 
 -- ---- one line feed at the end
 
@@ -171,7 +171,7 @@ module _ (t : List ℕ) where
       record { answer = sym r; memory = rw r q }
 
 pub text-same : {t u old new : List ℕ} {r : Reading} → t ≡ u → ReadText u old new r → ReadText t old new r
-text-same {old} {new} {r} e x = subst (λ (l : List ℕ). ReadText l old new r) (sym e) x
+text-same e x = rw e x
 
 -- ---- what a reading tells of the text
 

@@ -1,5 +1,5 @@
 -- The text of the lines, object by object, and how long it is; the invariant of the loop that writes it.
-use mathlib.Core.Path.{_≡_, refl, ap, _∙_, subst}
+use mathlib.Core.Path.{_≡_, refl, ap, _∙_}
 use mathlib.Core.List.{List, [], _∷_, _++_}
 use mathlib.Core.Bool.{Bool, true, false, cond}
 use Prim.Native.Nat.{ℕ, suc, _+_, _*_, _≤_, _<_, suc-le-suc}
@@ -13,8 +13,8 @@ use Rattle.lent.proofs.FillLaws.{length-tabulate, getD-tabulate}
 use Rattle.letters_text.specs.declared.Object.{Object}
 use Rattle.letters_text.specs.Letters.{letterOf}
 use Rattle.letters_text.specs.Decimal.{decimal}
-use Rattle.letters_text.specs.Lines.{Columns, objectAt, objects, lineHead, parting, firstLetter, nextLetter, linesAfter, linesOf, lines}
-use Rattle.letters_text.specs.passes.Memory.{Wrote, Written, LinesFit}
+use Rattle.letters_text.specs.Lines.{Columns, objectAt, objects, lineHead, parting, firstLetter, nextLetter, linesAfter, linesOf, lines, Written}
+use Rattle.letters_text.specs.passes.Memory.{Wrote, LinesFit}
 use Rattle.letters_text.proofs.DecimalLaws.{decimal-two}
 use Rattle.letters_text.proofs.WroteLaws.{wrote-nothing, wrote-same, wrote-more, wrote-length, written}
 use Rattle.letters_text.proofs.WroteLaws.{Progress, progress-start, progress-room, progress-turn, progress-end}
@@ -159,7 +159,7 @@ module _ {c : Columns} {o : Object} {at : ℕ} {w₁ w : List ℕ} {last : Objec
     going =
         let e : linesAfter last (drop i (objects c)) ≡ nextLetter last next ++ linesAfter next (drop (i + 1) (objects c)) =
         rw here (ap (linesAfter last) (objects-here c i more)) in
-        subst (λ (l : List ℕ). Progress (linesAfter o (drop 1 (objects c))) l at w₁ w to) e (x .progress)
+        rw e at (x .progress)
 
     pub lines-room : to + length (nextLetter last next) ≤ length w
     lines-room = progress-room (nextLetter last next) (linesAfter next (drop (i + 1) (objects c))) going
@@ -174,7 +174,7 @@ module _ {c : Columns} {o : Object} {at : ℕ} {w₁ w : List ℕ} {last : Objec
   module _ (over : length (c .kinds) ≤ i) where
     ending : Progress (linesAfter o (drop 1 (objects c))) ((10 ∷ []) ++ []) at w₁ w to
     unfolding linesAfter
-    ending = subst (λ (l : List Object). Progress (linesAfter o (drop 1 (objects c))) (linesAfter last l) at w₁ w to) (objects-over c i over) (x .progress)
+    ending = rw (objects-over c i over) at (x .progress)
 
     pub last-room : to < length w
     last-room = omega (arith, progress-room (10 ∷ []) [] ending)

@@ -11,9 +11,8 @@ use lib.Seq.{take-all, length-take-le}
 use Rattle.lent.specs.Over.{over}
 use Rattle.letters_text.specs.declared.Reading.{Reading}
 use Rattle.letters_text.specs.declared.Reading.the-variants.{Long, Bad, Letters}
-use Rattle.letters_text.specs.Letters.{trimmed, kindsOf, reading}
+use Rattle.letters_text.specs.Letters.{trimmed, kindsOf, reading, kindsAfter, ReadText, inputBytes}
 use Rattle.letters_text.specs.Lines.{badLine, longLine, printed}
-use Rattle.letters_text.specs.passes.Memory.{kindsAfter, ReadText}
 use Rattle.letters_text.proofs.LetterLaws.{AllLetters, BadAt, letters-told, bad-told, length-trimmed, reading-long}
 
 module _ {t old new : List ℕ} {r : Reading} (x : ReadText t old new r) where
@@ -38,10 +37,6 @@ module _ {t old new : List ℕ} {r : Reading} (x : ReadText t old new r) where
   pub read-kinds : (n : ℕ) → r ≡ Letters n → new ≡ over (kindsOf t) old
   unfolding kindsAfter
   read-kinds n e = x .memory ∙ rw (sym (x .answer) ∙ e)
-
--- 1,024 letters, a line feed, and a byte more that tells a longer input
-abbrev pub inputBytes : ℕ
-inputBytes = 1026
 
 -- a program that reads only so many bytes of an input, or more, prints what it would print of the whole
 pub printed-front : (lines : List ℕ → List ℕ) (n : ℕ) (s : List ℕ) → inputBytes ≤ n

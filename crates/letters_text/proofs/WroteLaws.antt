@@ -1,14 +1,14 @@
 -- Texts written into lent memory one after another: what one call wrote and what the next wrote after it are one text.
 -- A loop that writes a whole text piece by piece has the invariant `Progress`: what it has written and what is left make up the whole.
-use mathlib.Core.Path.{_≡_, refl, sym, ap, _∙_, subst}
+use mathlib.Core.Path.{_≡_, refl, sym, ap, _∙_}
 use mathlib.Core.List.{List, [], _∷_, _++_, append-assoc, append-nil}
 use Prim.Native.Nat.{ℕ, _+_, _≤_, _<_}
 use native.Mathlib.Omega.{arith}
 use lib.ListN.{length, set, length-append}
-use Rattle.lent.specs.Over.{put}
 use Rattle.lent.proofs.OverLaws.{put-front, put-nothing, length-put}
 use Rattle.lent.proofs.AppendLaws.{put-append, put-one}
-use Rattle.letters_text.specs.passes.Memory.{Wrote, Written}
+use Rattle.letters_text.specs.Lines.{Written}
+use Rattle.letters_text.specs.passes.Memory.{Wrote}
 
 pub wrote-nothing : (at : ℕ) (w : List ℕ) → Wrote [] at w w at
 wrote-nothing at w = record { next = omega arith; memory = sym (put-nothing at w) }
@@ -17,17 +17,17 @@ pub wrote-byte : (b at : ℕ) (w : List ℕ) → at < length w → Wrote (b ∷ 
 wrote-byte b at w h = record { next = refl; memory = put-one at b w h }
 
 pub wrote-same : {s t : List ℕ} {at r : ℕ} {w₀ w : List ℕ} → t ≡ s → Wrote s at w₀ w r → Wrote t at w₀ w r
-wrote-same {at} {r} {w₀} {w} e x = subst (λ (l : List ℕ). Wrote l at w₀ w r) (sym e) x
+wrote-same e x = rw e x
 
 pub wrote-more : {s t : List ℕ} {at m r : ℕ} {w₀ w₁ w₂ : List ℕ} → Wrote s at w₀ w₁ m → Wrote t m w₁ w₂ r → Wrote (s ++ t) at w₀ w₂ r
 wrote-more {s} {t} {at} {m} {r} {w₀} {w₁} {w₂} x y = record {
   next = omega (arith, length-append s t);
-  memory = y .memory ∙ ap (λ (k : ℕ). put k t w₁) (x .next) ∙ ap (λ (l : List ℕ). put (at + length s) t l) (x .memory) ∙ put-append at s t w₀;
+  memory = rw (x .next, x .memory) at (y .memory) ∙ put-append at s t w₀;
 }
 
 -- the byte that follows is known by an equation
 pub wrote-then : {s : List ℕ} {b v at m r : ℕ} {w₀ w₁ w₂ : List ℕ} → Wrote s at w₀ w₁ m → v ≡ b → Wrote (v ∷ []) m w₁ w₂ r → Wrote (s ++ b ∷ []) at w₀ w₂ r
-wrote-then x e y = wrote-more x (wrote-same (ap (λ (k : ℕ). k ∷ []) (sym e)) y)
+wrote-then x e y = wrote-more x (rw e at y)
 
 pub wrote-length : {s : List ℕ} {at r : ℕ} {w₀ w : List ℕ} → Wrote s at w₀ w r → at + length s ≤ length w₀ → length w ≡ length w₀
 wrote-length {s} {at} {w₀} x h = ap length (x .memory) ∙ length-put at s w₀ h
@@ -36,7 +36,7 @@ pub written : {s : List ℕ} {r : ℕ} {w₀ w : List ℕ} → Wrote s 0 w₀ w 
 written {s} {r} {w₀} x = record { size = omega arith; memory = x .memory ∙ put-front s w₀ }
 
 pub written-same : {s t : List ℕ} {r : ℕ} {w₀ w : List ℕ} → t ≡ s → Written s w₀ w r → Written t w₀ w r
-written-same {r} {w₀} {w} e x = subst (λ (l : List ℕ). Written l w₀ w r) (sym e) x
+written-same e x = rw e x
 
 -- ---- a whole text from place `at` on, piece by piece
 

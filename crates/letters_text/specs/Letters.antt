@@ -2,11 +2,13 @@
 -- after them one line feed that counts for nothing. A text that is too long is told as that, whatever its bytes are;
 -- else its first byte that is no letter is told.
 -- A text is a list of bytes.
+use mathlib.Core.Path.{_≡_}
 use Prim.Native.Nat.{ℕ, suc, _-_}
 use mathlib.Core.Bool.{Bool, true, cond}
 use mathlib.Core.List.{List, [], _∷_, map}
 use lib.Dec.{eqb, ltb}
 use lib.ListN.{length, take, getD}
+use Rattle.lent.specs.Over.{over}
 use Rattle.letters_text.specs.declared.Reading.{Reading}
 use Rattle.letters_text.specs.declared.Reading.the-variants.{Long, Bad, Letters}
 
@@ -43,3 +45,20 @@ firstBad (b ∷ bs) = cond (isLetter b) (suc (firstBad bs)) 0
 unfoldable pub reading : List ℕ → Reading
 unfolding firstBad
 reading t = cond (ltb 1024 (length t)) Long (cond (ltb (firstBad t) (length t)) (Bad (firstBad t)) (Letters (length t)))
+
+-- what the lent kinds hold after a reading: the kinds of the letters over their front, or what they held
+unfoldable pub kindsAfter : Reading → List ℕ → List ℕ → List ℕ
+unfolding kindsOf
+kindsAfter Long t old = old
+kindsAfter (Bad p) t old = old
+kindsAfter (Letters n) t old = over (kindsOf t) old
+
+-- the reading of the trimmed text t
+pub record ReadText (t old new : List ℕ) (r : Reading) : Type 0 where
+  pub answer : r ≡ reading t
+  pub memory : new ≡ kindsAfter (reading t) t old
+
+-- so many bytes of an input tell all that is printed for it: 1,024 letters, a line feed, and a byte more, which tells a
+-- longer one
+abbrev pub inputBytes : ℕ
+inputBytes = 1026

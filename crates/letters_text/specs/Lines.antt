@@ -1,11 +1,13 @@
 -- What the letters program prints, by the scope's paragraph on it: a line for each hit pattern, with its interval
 -- and its letters, among which `|` parts alternating patterns and `,` streaks; or one line on what is wrong with the
 -- text. No letters, no line.
+use mathlib.Core.Path.{_≡_}
 use Prim.Native.Nat.{ℕ}
 use mathlib.Core.Bool.{cond}
 use mathlib.Core.List.{List, [], _∷_, _++_}
 use lib.Dec.{eqb}
 use lib.ListN.{length, getD}
+use Rattle.lent.specs.Over.{over}
 use Rattle.lent.specs.Scan.{tabulate}
 use Rattle.letters_text.specs.declared.Object.{Object}
 use Rattle.letters_text.specs.declared.Reading.{Reading}
@@ -56,14 +58,14 @@ pub record Columns : Type 0 where
   pub hits : List ℕ
   pub intervals : List ℕ
 
--- the five lists as columns
-abbrev pub columnsOf : List ℕ → List ℕ → List ℕ → List ℕ → List ℕ → Columns
-columnsOf kinds streaks patterns hits intervals = record {
-  kinds = kinds;
-  streaks = streaks;
-  patterns = patterns;
-  hits = hits;
-  intervals = intervals;
+-- the columns that are made of five slices, by how one of them is read
+abbrev pub columnsOf : {S : Type 0} → (S → List ℕ) → S → S → S → S → S → Columns
+columnsOf read kinds streaks patterns hits intervals = record {
+  kinds = read kinds;
+  streaks = read streaks;
+  patterns = read patterns;
+  hits = read hits;
+  intervals = read intervals;
 }
 
 unfoldable pub objectAt : Columns → ℕ → Object
@@ -98,3 +100,8 @@ unfolding badLine longLine
 printed Long ls = longLine
 printed (Bad p) ls = badLine p
 printed (Letters n) ls = ls
+
+-- the text stands at the front of what was `old` and is now `new`, and `count` is its length
+pub record Written (text old new : List ℕ) (count : ℕ) : Type 0 where
+  pub size : count ≡ length text
+  pub memory : new ≡ over text old

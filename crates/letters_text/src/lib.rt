@@ -5,11 +5,11 @@ ghost use Prim.Native.Nat.{_+_, _≤_, _<_};
 ghost use lib.ListN.{length};
 ghost use Rattle.lent.specs.Slice.{lent, left};
 ghost use Rattle.lent.specs.Over.{over};
-ghost use Rattle.letters_text.specs.Letters.{trimmed, isLetter, kindOf, letterOf, kindsOf, firstBad};
+ghost use Rattle.letters_text.specs.Letters.{trimmed, isLetter, kindOf, letterOf, kindsOf, firstBad, ReadText};
 ghost use Rattle.letters_text.specs.Decimal.{digitAt, decimal};
 ghost use Rattle.letters_text.specs.Lines.{columnsOf, objectAt, lineHead, parting, firstLetter, nextLetter};
-ghost use Rattle.letters_text.specs.Lines.{lines, badLine, longLine};
-ghost use Rattle.letters_text.specs.passes.Memory.{Front, ReadText, Wrote, Written, OneLength, LinesFit};
+ghost use Rattle.letters_text.specs.Lines.{lines, badLine, longLine, Written};
+ghost use Rattle.letters_text.specs.passes.Memory.{Front, Wrote, OneLength, LinesFit};
 
 // What a text is: over 1,024 bytes, a byte that is no letter at a place, or so many letters.
 pub enum Reading {
@@ -222,9 +222,8 @@ fn object_at(
     i: usize,
 ) -> Object
     requires { ⌜ (i < length (now kinds))
-        × OneLength (columnsOf (now kinds) (now streak) (now pattern) (now hit) (now interval)) ⌝ }
-    ensures { λ r. ⌜ r ≡ objectAt (columnsOf (lent kinds) (lent streak) (lent pattern)
-        (lent hit) (lent interval)) i ⌝ }
+        × OneLength (columnsOf now kinds streak pattern hit interval) ⌝ }
+    ensures { λ r. ⌜ r ≡ objectAt (columnsOf lent kinds streak pattern hit interval) i ⌝ }
 {
     Object {
         kind: kinds[i],
@@ -244,10 +243,8 @@ pub fn write_lines(
     interval: &[u8],
     out: &mut [u8],
 ) -> usize
-    requires { ⌜ LinesFit (columnsOf (now kinds) (now streak) (now pattern) (now hit) (now interval))
-        (length (now out)) ⌝ }
-    ensures { λ r. ⌜ Written (lines (columnsOf (lent kinds) (lent streak) (lent pattern)
-        (lent hit) (lent interval))) (lent out) (left out) r ⌝ }
+    requires { ⌜ LinesFit (columnsOf now kinds streak pattern hit interval) (length (now out)) ⌝ }
+    ensures { λ r. ⌜ Written (lines (columnsOf lent kinds streak pattern hit interval)) (lent out) (left out) r ⌝ }
 {
     let n = kinds.len();
     if n == 0 {

@@ -17,7 +17,8 @@ use Rattle.agreement.specs.colour.Claim.{Settled, HitsClaim, hitPatterns
 use Rattle.agreement.proofs.GroupLaws.{ReachesBack, same-groups}
 use Rattle.agreement.proofs.colour.HitsAgree.{colour-agree, landmark-late}
 use Rattle.agreement.proofs.colour.ValueAgree.{at-counterparts, value-agree}
-use Rattle.agreement.proofs.colour.StretchAgree.{valueAt, settled-onwards, same-stretch}
+use Rattle.call_colour.proofs.StretchValues.{valueAt}
+use Rattle.agreement.proofs.colour.StretchAgree.{settled-onwards, same-stretch}
 
 -- ---- one chart, cut between two hit patterns
 

@@ -2,20 +2,15 @@
 use mathlib.Core.Path.{_≡_}
 use Prim.Native.Nat.{ℕ, _+_, _-_, _≤_, _<_}
 use native.Mathlib.Omega.{arith}
-use lib.Ieee.{Float}
 use Rattle.grouping_chart.specs.Chart.{Chart, size}
 use Rattle.grouping_chart.specs.Settings.{Settings}
-use Rattle.evaluator_values.specs.Colour.{colourAt}
 use Rattle.call_colour.specs.Stretch.{GoodStretch}
 use Rattle.call_colour.proofs.StretchCases.{StretchLies, good-lies, lies-good}
+use Rattle.call_colour.proofs.StretchValues.{valueAt}
 use Rattle.call_colour.proofs.AlikeLaws.{mean-alike, tenths-alike}
 use Rattle.agreement.specs.CommonTail.{Counterparts}
 use Rattle.agreement.specs.colour.Claim.{hitPatterns, Settled, SameStretch}
 use Rattle.agreement.proofs.colour.RiseLaws.{hit-rises}
-
--- object i's colour value
-abbrev pub valueAt : Settings → Chart → ℕ → Float
-valueAt s c i = colourAt (s .limit) (s .tolerance) (c .kinds) (c .ratios) i
 
 -- hit patterns are numbered in order
 pub settled-onwards : (c : Chart) {limit p : ℕ} (i j : ℕ) → Settled limit (hitPatterns c) p i → i ≤ j → j < size c → Settled limit (hitPatterns c) p j
@@ -45,6 +40,6 @@ module _ (s : Settings) (c c′ : Chart) (p : ℕ)
       let good = other c c′ a′ b′ lies from to in
       record {
         accepted = good;
-        mean = mean-alike (s .limit) (s .tolerance) (c .kinds) (c .ratios) (c′ .kinds) (c′ .ratios) a b a′ b′ y good size same-values;
-        tenths = tenths-alike (s .limit) (s .tolerance) (c .kinds) (c .ratios) (c′ .kinds) (c′ .ratios) a b a′ b′ y good size same-values;
+        mean = mean-alike s c c′ a b a′ b′ y good size same-values;
+        tenths = tenths-alike s c c′ a b a′ b′ y good size same-values;
       }

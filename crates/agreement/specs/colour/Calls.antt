@@ -6,8 +6,8 @@ use Rattle.grouping_chart.specs.Chart.{Chart, size}
 use Rattle.grouping_chart.specs.Settings.{Settings}
 use Rattle.call_encode.specs.Call as encode
 use Rattle.call_encode.specs.Call.{encodeOutcome}
-use Rattle.call_colour.specs.Stretch.{GoodStretch}
-use Rattle.call_colour.specs.Call.{Memory, chartMean, chartTenths, colourOutcome, stretchOutcome}
+use Rattle.call_colour.specs.Stretch.{GoodStretch, chartMean, chartTenths}
+use Rattle.call_colour.specs.Call.{Memory, colourOutcome, stretchOutcome}
 use Rattle.call_colour.specs.declared.Stretching.the-variants.{Done}
 use Rattle.agreement.specs.CommonTail.{Counterparts}
 use Rattle.agreement.specs.SameGroups.{groups}

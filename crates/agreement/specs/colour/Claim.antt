@@ -10,8 +10,7 @@ use Rattle.grouping_chart.specs.Chart.{Chart, size}
 use Rattle.grouping_chart.specs.Settings.{Settings}
 use Rattle.grouping_preprocessor.specs.Preprocessor.{hitOf, intervalOf}
 use Rattle.evaluator_values.specs.Colour.{valuesOf}
-use Rattle.call_colour.specs.Stretch.{GoodStretch}
-use Rattle.call_colour.specs.Call.{chartMean, chartTenths}
+use Rattle.call_colour.specs.Stretch.{GoodStretch, chartMean, chartTenths}
 use Rattle.agreement.specs.CommonTail.{Counterparts}
 use Rattle.agreement.specs.SameGroups.{Groups, groups, groupAt, OpensAt, SameGroups}
 

@@ -8,12 +8,12 @@ use Rattle.grouping_chart.specs.Settings.{Settings}
 use Rattle.grouping_chart.specs.declared.chart.Verdict.{Verdict}
 use Rattle.grouping_chart.specs.declared.chart.Verdict.the-variants.{Accepted}
 use Rattle.grouping_chart.proofs.BaseLaws.{is-permitted}
-use Rattle.grouping_chart.proofs.OutcomeLaws.{verdict-judged, answered-refused}
+use Rattle.grouping_chart.proofs.OutcomeLaws.{verdict-judged, both-accepted, answered-refused}
 use Rattle.grouping_chart.proofs.RoomLaws.{short-joined}
 use Rattle.call_colour.specs.declared.Stretching.the-variants as answer
-use Rattle.call_colour.specs.Stretch.{meanTenths}
-use Rattle.call_colour.specs.Call.{Memory, held, answerLengths, judged, stretchVerdict, stretchOutcome}
-use Rattle.call_colour.proofs.CallLaws.{within-bounds, chart-room, stretch-done}
+use Rattle.call_colour.specs.Stretch.{stretchVerdict, chartTenths}
+use Rattle.call_colour.specs.Call.{Memory, held, answerLengths, judged, stretchOutcome}
+use Rattle.call_colour.proofs.CallLaws.{chart-room, stretch-done}
 use Rattle.call_colour.proofs.StretchLaws.{stretch-room, mean-is, mean-in-range}
 use borrow.Author.Needs.{needs}
 use Rattle.call_colour.proofs.stretch.Statement.{statement}
@@ -38,7 +38,7 @@ verdict-told : (c : tie.After-stretch-verdict) {v : Verdict} → c .stretch-verd
 verdict-told c e =
     let s = start c in
     let j = verdict-judged (chartOf s) (answerLengths (memoryOf s)) _ _ (short-joined (size (chartOf s)) _ _) (c .before .judge .ensures) refl in
-    ap (λ (v : Verdict). stretchVerdict v (s .args .kind .now) (s .args .a) (s .args .b)) j ∙ sym (c .stretch-verdict .ensures) ∙ e
+    rw j (sym (c .stretch-verdict .ensures) ∙ e)
 
 -- ---- once they are accepted
 accepted : (c : tie.After-enum-told) → verdictOf (start (c .before .before)) ≡ Accepted
@@ -51,7 +51,7 @@ fill-chart-requires : tie.Need-fill-chart-requires
 fill-chart-requires c κs =
     let b = c .before .before .before in
     let s = entered b in
-    chart-room (b .base .result) (chartOf s) (memoryOf s) (is-permitted (b .base .ensures)) (within-bounds _ _ _ _ (accepted (b .before)) .accepted)
+    chart-room (b .base .result) (chartOf s) (memoryOf s) (is-permitted (b .base .ensures)) (both-accepted _ _ (accepted (b .before)) .chart)
 
 -- ---- once the values are filled
 abbrev based : tie.After-fill-chart → tie.After-base
@@ -62,7 +62,7 @@ mean-requires c κs =
     let f = c .before .before .before .before .before .before .before in
     let b = based f in
     let s = entered b in
-    stretch-room (b .base .result) (is-permitted (b .base .ensures)) (chartOf s) (memoryOf s) _ _ (within-bounds _ _ _ _ (accepted (b .before))) _
+    stretch-room (b .base .result) (is-permitted (b .base .ensures)) (chartOf s) (memoryOf s) _ _ (both-accepted _ _ (accepted (b .before))) _
     (f .fill-chart .ensures)
 
 tenths-requires : tie.Need-tenths-requires
@@ -70,7 +70,7 @@ tenths-requires c κs =
     let f = c .before .before .before .before .before .before .before .before in
     let b = based f in
     let s = entered b in
-    mean-in-range (b .base .result) (is-permitted (b .base .ensures)) (chartOf s) (memoryOf s) _ _ (within-bounds _ _ _ _ (accepted (b .before))) _
+    mean-in-range (b .base .result) (is-permitted (b .base .ensures)) (chartOf s) (memoryOf s) _ _ (both-accepted _ _ (accepted (b .before))) _
     (f .fill-chart .ensures) _ (c .mean .ensures)
 
 returns : tie.Need-returns
@@ -80,13 +80,13 @@ returns c =
     answered-refused _ answer.Refused (memoryOf (start k)) (verdict-told k (c .before .number .given .1))
 
 returns-2 : tie.Need-returns-2
-unfolding meanTenths
+unfolding chartTenths
 returns-2 c =
     let f = c .before .before .before .before .before .before .before .before .before in
     let b = based f in
     let s = entered b in
     let mean =
-    mean-is (b .base .result) (is-permitted (b .base .ensures)) (chartOf s) (memoryOf s) _ _ (within-bounds _ _ _ _ (accepted (b .before))) _
+    mean-is (b .base .result) (is-permitted (b .base .ensures)) (chartOf s) (memoryOf s) _ _ (both-accepted _ _ (accepted (b .before))) _
     (f .fill-chart .ensures) _ (c .before .mean .ensures) in
     let tenths = toZ-ofZ (record { sfits = c .tenths .ok }) ∙ c .tenths .ensures ∙ ap tenthsOf mean in
     stretch-done (b .base .result) (chartOf s) (memoryOf s) _ _ _ _ _ (accepted (b .before)) mean tenths (f .fill-chart .ensures)

@@ -73,8 +73,8 @@ returns-2 c =
     let b = based e in
     let set = b .base .result in
     let s = start (b .before .before .before) in
-    let f = filled-is set (chartOf s) (memoryOf s) (e .encode-kinds .ensures) (c .before .before .clear-floats .ensures) in
-    done-outcome set (chartOf s) (memoryOf s) _ _ (accepted (b .before)) (e .encode-kinds .ensures .counted) f
+    let f = filled-is set (chartOf s) (memoryOf s) (e .encode-kinds .ensures .1) (c .before .before .clear-floats .ensures) in
+    done-outcome set (chartOf s) (memoryOf s) _ _ (accepted (b .before)) (e .encode-kinds .ensures .0) f
     ∙ ap (λ (x : Settings). encodeOutcome x (chartOf s) (memoryOf s)) (b .base .ensures)
 
 pub encode-spec : {M : Type 1} → statement M

@@ -45,12 +45,13 @@ returns : tie.Need-returns
 returns c =
     let g = c .before .before .before .before .before .before .before .before in
     let st = start (placed g) in
-    let a = st .args in
-    record {
-      places = looked-up (2 * a .n) (a .k .patterns) (a .work .now) refl _ (placed g .gather .ensures);
-      hits = looked-up (a .n) (a .k .patterns) (a .work .now) refl _ (g .gather2 .ensures);
-      intervals = looked-up (7 * a .n) (a .k .hits) (a .work .now) (hit-front (st .pre) _ (g .gather2 .ensures)) _ (c .before .before .gather-bytes .ensures);
-    }
+    let a = st .args in (
+      looked-up (2 * a .n) (a .k .patterns) (a .work .now) refl _ (placed g .gather .ensures),
+      (
+        looked-up (a .n) (a .k .patterns) (a .work .now) refl _ (g .gather2 .ensures),
+        looked-up (7 * a .n) (a .k .hits) (a .work .now) (hit-front (st .pre) _ (g .gather2 .ensures)) _ (c .before .before .gather-bytes .ensures),
+      ),
+    )
 
 pub spread-hits-spec : {M : Type 1} → statement M
 spread-hits-spec =

@@ -46,12 +46,13 @@ returns c =
     let g = c .before .before .before .before .before .before .before .before in
     let b = copied g in
     let a = start b .args in
-    let f = streak-front (start b .pre) _ (b .copy .ensures) in
-    record {
-      streaks = rw (lent-front (a .n) (a .work .now)) at (b .copy .ensures);
-      places = looked-up (4 * a .n) (a .k .streaks) (a .work .now) f _ (g .gather .ensures);
-      patterns = looked-up (3 * a .n) (a .k .streaks) (a .work .now) f _ (c .before .before .gather2 .ensures);
-    }
+    let f = streak-front (start b .pre) _ (b .copy .ensures) in (
+      rw (lent-front (a .n) (a .work .now)) at (b .copy .ensures),
+      (
+        looked-up (4 * a .n) (a .k .streaks) (a .work .now) f _ (g .gather .ensures),
+        looked-up (3 * a .n) (a .k .streaks) (a .work .now) f _ (c .before .before .gather2 .ensures),
+      ),
+    )
 
 pub spread-patterns-spec : {M : Type 1} → statement M
 spread-patterns-spec =

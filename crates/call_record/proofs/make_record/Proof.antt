@@ -11,7 +11,7 @@ start c = c .before .before .before .before .before .before .before .before
 returns : tie.Need-returns
 returns c =
     let p = c .before .before .before in
-    let f = p .before .before .before .before .before .before in
+    let f = p .before .before .before .before .before .before .before in
     let w = f .before .before .before .before in
     let g = w .before .before .before .before .before .before in
     let a = start g .args in

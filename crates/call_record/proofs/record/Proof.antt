@@ -1,7 +1,5 @@
 -- `record` meets its contract: the verdict of the definition is the one that the tests gave, and each case leaves its outcome.
-use mathlib.Core.Path.{_≡_, refl, sym, ap, _∙_}
-use mathlib.Core.Bool.{Bool, true, false, not}
-use native.Mathlib.Omega.{arith}
+use mathlib.Core.Path.{_≡_, ap, _∙_}
 use Rattle.grouping_chart.specs.Chart.{Chart, size, chartHeld}
 use Rattle.grouping_chart.specs.Settings.{Settings, baseSettings}
 use Rattle.grouping_chart.specs.Outcome.{Outcome}
@@ -9,21 +7,12 @@ use Rattle.grouping_chart.specs.declared.chart.Verdict.{Verdict}
 use Rattle.grouping_chart.specs.declared.chart.Verdict.the-variants.{Accepted}
 use Rattle.grouping_chart.proofs.OutcomeLaws.{verdict-judged}
 use Rattle.grouping_chart.proofs.RoomLaws.{none-asked}
-use Rattle.call_rhythm.proofs.TablesLaws.{groups-counted}
 use Rattle.call_record.specs.declared.Recording.{Recording}
-use Rattle.call_record.specs.Call.{Memory, held, answerLengths, judged, windowGood, groupsOf, recordOutcome}
-use Rattle.call_record.proofs.CallLaws.{lengths-same, group-room, chart-refused, window-refused, group-refused, record-done}
+use Rattle.call_record.specs.Call.{Memory, held, answerLengths, judged, recordOutcome}
+use Rattle.call_record.proofs.CallLaws.{lengths-same, outcome-refused, number-refused, group-room, outcome-done}
 use borrow.Author.Needs.{needs}
 use Rattle.call_record.proofs.record.Statement.{statement}
 use Rattle.call_record.proofs.record.Tie as tie
-
-not-true : (b : Bool) → not b ≡ true → b ≡ false
-not-true true h = sym h
-not-true false h = refl
-
-not-false : (b : Bool) → not b ≡ false → b ≡ true
-not-false true h = refl
-not-false false h = sym h
 
 -- the chart and the memory as lent
 abbrev chartOf : tie.Start → Chart
@@ -48,69 +37,57 @@ entered c = start (c .before .before)
 accepted : (c : tie.After-enum-told) → judged (chartOf (entered c)) (memoryOf (entered c)) ≡ Accepted
 accepted c = verdict-told (c .before .before) (c .enum-told .given .1)
 
--- ---- once the window is known to be good
-window : (c : tie.Else1) → windowGood (entered (c .before .before) .args .window) ≡ true
-window c = sym (c .before .window-good .ensures) ∙ not-false _ (c .if1 .left)
+-- ---- once the window and the group number are tested
+abbrev based : tie.After-record-refusal → tie.After-base
+based c = c .before
 
--- ---- once the groups are counted
-abbrev told : tie.After-base → tie.After-enum-told
-told c = c .before .before .before
+abbrev asked : tie.After-record-refusal → tie.Start
+asked c = entered (based c .before)
 
-counted : (c : tie.After-count-groups) → c .count-groups .result ≡ groupsOf (c .before .base .result) (chartOf (entered (told (c .before))))
-counted c =
-    let t = told (c .before) in
-    c .count-groups .ensures ∙ sym (groups-counted _ _ _ (lengths-same (chartOf (entered t)) (memoryOf (entered t)) (accepted t)))
+tested : (c : tie.After-record-refusal) → judged (chartOf (asked c)) (memoryOf (asked c)) ≡ Accepted
+tested c = accepted (based c .before)
 
 -- what is said under the settings that were made is said under the base's
 abbrev outcomeOf : tie.Start → Settings → Outcome Recording Memory
 outcomeOf s set = recordOutcome set (chartOf s) (s .args .g) (s .args .window) (memoryOf s)
 
-based : (c : tie.After-base) {o : Outcome Recording Memory} → o ≡ outcomeOf (entered (told c)) (c .base .result) → o ≡ outcomeOf (entered (told c)) baseSettings
-based c e = e ∙ ap (outcomeOf (entered (told c))) (c .base .ensures)
+at-base : (c : tie.After-record-refusal) {o : Outcome Recording Memory} → o ≡ outcomeOf (asked c) (based c .base .result) → o ≡ outcomeOf (asked c) baseSettings
+at-base c e = e ∙ ap (outcomeOf (asked c)) (based c .base .ensures)
+
+record-refusal-requires : tie.Need-record-refusal-requires
+record-refusal-requires c κs =
+    let s = entered (c .before) in
+    lengths-same (chartOf s) (memoryOf s) (accepted (c .before))
 
 returns : tie.Need-returns
 returns c =
-    let t = c .before .before in
-    let s = entered t in
-    window-refused baseSettings (chartOf s) (memoryOf s) (s .args .g) (s .args .window) (accepted t)
-    (sym (c .before .window-good .ensures) ∙ not-true _ (c .if1 .taken))
-
-count-groups-requires : tie.Need-count-groups-requires
-count-groups-requires c κs =
-    let t = told c in
-    lengths-same (chartOf (entered t)) (memoryOf (entered t)) (accepted t)
-
-returns-2 : tie.Need-returns-2
-returns-2 c =
     let k = c .before in
-    let b = k .before in
-    let s = entered (told b) in
-    based b
-    (group-refused (b .base .result) (chartOf s) (memoryOf s) (s .args .g) (s .args .window) (accepted (told b)) (window (b .before))
-    (omega (arith, counted k, c .if2 .taken)))
+    let s = asked k in
+    at-base k
+    (number-refused (based k .base .result) (chartOf s) (memoryOf s) (s .args .g) (s .args .window) (tested k) (k .record-refusal .ensures) (c .if1 .taken))
 
 make-record-requires : tie.Need-make-record-requires
 make-record-requires c κs =
     let k = c .before .before .before in
-    let t = told (k .before) in
-    let s = entered t in
-    group-room (k .before .base .result) (chartOf s) (memoryOf s) (s .args .g) (accepted t) (omega (arith, counted k, c .before .before .if2 .left))
+    let s = asked k in
+    group-room (based k .base .result) (chartOf s) (memoryOf s) (s .args .g) (s .args .window) (tested k) (k .record-refusal .ensures)
+    (c .before .before .if1 .left)
+
+returns-2 : tie.Need-returns-2
+returns-2 c =
+    let k = c .before .before .before in
+    let s = start k in
+    outcome-refused baseSettings (chartOf s) (memoryOf s) (s .args .g) (s .args .window) (verdict-told k (c .before .number .given .1))
 
 returns-3 : tie.Need-returns-3
 returns-3 c =
-    let k = c .before .before .before in
-    let s = start k in
-    chart-refused baseSettings (chartOf s) (memoryOf s) (s .args .g) (s .args .window) _ _ (verdict-told k (c .before .number .given .1))
-
-returns-4 : tie.Need-returns-4
-returns-4 c =
     let m = c .before .before .before .before in
-    let k = m .before .before .before .before in
-    let b = k .before in
-    let s = entered (told b) in
-    based b
-    (record-done (b .base .result) (chartOf s) (memoryOf s) (s .args .g) (s .args .window) (accepted (told b)) (window (b .before))
-    (omega (arith, counted k, m .before .before .before .if2 .left)) _ _ (m .make-record .ensures .0) (m .make-record .ensures .1))
+    let t = m .before .before .before in
+    let k = t .before in
+    let s = asked k in
+    at-base k
+    (outcome-done (based k .base .result) (chartOf s) (memoryOf s) (s .args .g) (s .args .window) (tested k) (k .record-refusal .ensures) (t .if1 .left) _ _
+    (m .make-record .ensures .0) (m .make-record .ensures .1))
 
 pub record-spec : {M : Type 1} → statement M
 record-spec =
@@ -120,12 +97,10 @@ record-spec =
     (λ c. search needs)
     (λ c. search needs)
     (λ c κs. search needs)
+    record-refusal-requires
     returns
-    (λ c κs. search needs)
-    count-groups-requires
-    returns-2
     make-record-requires
-    returns-3
+    returns-2
     (λ c. search needs)
     (λ c. search needs)
-    returns-4)
+    returns-3)

@@ -36,10 +36,7 @@ locatedAt margin kinds starts deltas g = record {
 -- and of the group
 abbrev pub foundAt : Float → List ℕ → List Float → List Float → ℕ → FoundGroup
 foundAt margin kinds starts deltas g = record {
-  first = record { 0 = getD (objectsIn margin kinds deltas g) 0 0 };
-  notes = length (objectsIn margin kinds deltas g);
-  owns = ownsAt margin kinds deltas g;
-  duration = durationOf starts (objectsIn margin kinds deltas g);
+  located = locatedAt margin kinds starts deltas g;
   interval = getD (groupIntervals margin kinds starts deltas) g nan;
   pattern = patternOf margin (groupIntervals margin kinds starts deltas) g;
 }

@@ -5,14 +5,16 @@ use Prim.Native.Nat.{ℕ, _+_, _*_, _≤_, _<_}
 use mathlib.Core.List.{List, [], _∷_, _++_}
 use lib.ListN.{length, getD}
 use lib.Ieee.{Float}
-use Rattle.lent.specs.Over.{over, put, part, Write, write}
+use Rattle.lent.specs.Over.{part, Write, write}
 use Rattle.lent.specs.Scan.{gathered}
-use Rattle.grouping_marks.specs.Marks.{groupCount, groupNumbers}
+use Rattle.grouping_marks.specs.Marks.{groupNumbers}
 use Rattle.grouping_marks.specs.Parted.{parted}
 use Rattle.grouping_chart.specs.Object.{notes}
 use Rattle.grouping_interval.specs.Notes.{noteObjects, ofNotes}
 use Rattle.grouping_interval.specs.IntervalGrouping.{intervalMarks}
-use Rattle.grouping_same_rhythm.specs.SameRhythm.{firstsOf, rhythmMarks, groupObjects, groupIntervals}
+use Rattle.grouping_same_rhythm.specs.SameRhythm.{firstsOf, startsOf, intervalsOf}
+use Rattle.grouping_same_rhythm.specs.SameRhythm.{rhythmMarks, groupObjects, groupIntervals}
+use Rattle.call_rhythm.specs.Rhythm.{perNote}
 use Rattle.call_rhythm.specs.Call.{Memory}
 use Rattle.call_rhythm.specs.declared.tables.GroupCounts.{GroupCounts}
 
@@ -24,10 +26,10 @@ pub record NumbersRoom (deltas : List Float) (n : ℕ) (work : List ℕ) : Type 
   pub notes : length deltas ≤ n
   pub regions : 8 * n ≤ length work
 
--- by the marks of the notes and their objects: each group's first object in region 1, each note's group in region 2
-pub record NotesNumbered (marks objects : List ℕ) (n : ℕ) (work₀ work : List ℕ) (r : ℕ) : Type 0 where
-  pub count : r ≡ groupCount marks
-  pub tables : work ≡ put (2 * n) (groupNumbers marks) (put n (firstsOf (parted marks objects)) work₀)
+-- what is written of it by the marks of the notes and their objects: each group's first object in region 1, each
+-- note's group in region 2
+abbrev pub numbersWrites : ℕ → List ℕ → List ℕ → List (Write ℕ)
+numbersWrites n marks objects = write n (firstsOf (parted marks objects)) ∷ write (2 * n) (groupNumbers marks) ∷ []
 
 -- the groups' first objects, each with a start, are in region 1
 pub record FirstsThere (starts : List Float) (n groups : ℕ) (work : List ℕ) (scratch : List Float) : Type 0 where
@@ -37,12 +39,12 @@ pub record FirstsThere (starts : List Float) (n groups : ℕ) (work : List ℕ) 
   pub floats : n ≤ length scratch
   pub inside : (k : ℕ) → k < groups → getD (part n groups work) k 0 < length starts
 
--- by the groups' intervals, which the scratch slice takes: each group's pattern in region 3
-pub record GroupsNumbered (margin : Float) (intervals : List Float) (n : ℕ) (work₀ work : List ℕ)
-    (scratch₀ scratch : List Float) (r : ℕ) : Type 0 where
-  pub count : r ≡ groupCount (intervalMarks margin intervals)
-  pub tables : work ≡ put (3 * n) (groupNumbers (intervalMarks margin intervals)) work₀
-  pub floats : scratch ≡ over intervals scratch₀
+-- the intervals of these groups, by the starts of all objects, and the marks of their patterns
+abbrev pub intervalsFrom : Float → List Float → ℕ → ℕ → List ℕ → List Float
+intervalsFrom margin starts n groups work = intervalsOf margin (startsOf starts (part n groups work))
+
+abbrev pub patternsFrom : Float → List Float → ℕ → ℕ → List ℕ → List ℕ
+patternsFrom margin starts n groups work = intervalMarks margin (intervalsFrom margin starts n groups work)
 
 -- a start and a delta for each object, and room in the work slices
 pub record TablesRoom (kinds : List ℕ) (starts deltas : List Float) (work : List ℕ) (scratch : List Float)
@@ -92,6 +94,10 @@ pub record LookRoom (w : List ℕ) (table k at m : ℕ) : Type 0 where
   pub read : table + k ≤ length w
   pub write : at + m ≤ table
   pub below : (i : ℕ) → i < m → getD (part at m w) i 0 < k
+
+-- what a list says of each note, object by object
+abbrev pub byObject : List ℕ → List ℕ → List ℕ
+byObject numbers kinds = perNote (λ (j : ℕ). getD numbers j 0) kinds
 
 -- the notes' groups, which region 2 has
 abbrev pub noteGroups : List ℕ → GroupCounts → List ℕ → List ℕ

@@ -1,4 +1,4 @@
--- `answer` meets its contract, case by case of what was read.
+-- `answer` meets its contract: what is printed hangs on the reading alone, and in each of its three cases that is what was written.
 use mathlib.Core.Path.{sym}
 use lib.Seq.{length-take-le}
 use native.Mathlib.Omega.{arith}

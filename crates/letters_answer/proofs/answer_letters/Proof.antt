@@ -7,16 +7,22 @@ use borrow.Author.Needs.{needs}
 use Rattle.letters_answer.proofs.answer_letters.Statement.{statement}
 use Rattle.letters_answer.proofs.answer_letters.Tie as tie
 
+-- the entry, and where the kinds are encoded
+abbrev start : tie.After-encode-kinds → tie.Start
+start c = c .before .before .before .before .before .before .before .before .before .before
+
+abbrev encoded : tie.After-write-lines-arg → tie.After-encode-kinds
+encoded c = c .before .before .before .before .before .before .before .before .before .before .before .before
+
 write-lines-requires : tie.Need-write-lines-requires
 write-lines-requires c κs =
-    let encoded = c .before .before .before .before .before .before .before .before .before .before .before .before in
-    let start = encoded .before .before .before .before .before .before .before .before .before .before in
-    lines-fit (encoded .encode-kinds .ensures) (start .pre)
+    let k = encoded c in
+    lines-fit _ _ (k .encode-kinds .ensures .1) (start k .pre)
 
 returns : tie.Need-returns
 returns c =
-    let encoded = c .before .before .before .before .before .before .before .before .before .before .before .before .before .before .before in
-    lines-written (encoded .encode-kinds .ensures) (c .before .before .write-lines .ensures)
+    let w = c .before .before in
+    lines-written _ _ (encoded (w .before) .encode-kinds .ensures .1) (w .write-lines .ensures)
 
 pub answer-letters-spec : {M : Type 1} → statement M
 answer-letters-spec =

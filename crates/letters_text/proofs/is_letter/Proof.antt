@@ -1,4 +1,4 @@
--- `is_letter` meets its contract, case by case.
+-- `is_letter` meets its contract: the arm's three bytes are the definition's letters, and no other byte is one.
 use Rattle.letters_text.proofs.LetterLaws.{letter-yes, letter-no}
 use Rattle.letters_text.proofs.is_letter.Statement.{statement}
 use Rattle.letters_text.proofs.is_letter.Tie as tie

@@ -1,4 +1,4 @@
--- `kind_of` meets its contract, case by case.
+-- `kind_of` meets its contract: each arm is the definition's choice for the bytes that it takes.
 use Rattle.letters_text.proofs.LetterLaws.{kind-d, kind-k, kind-n}
 use Rattle.letters_text.proofs.kind_of.Statement.{statement}
 use Rattle.letters_text.proofs.kind_of.Tie as tie

@@ -1,4 +1,4 @@
--- `put_digit` meets its contract, case by case.
+-- `put_digit` meets its contract: a number below `worth` has no digit there, and any other has one, which is what is put.
 use mathlib.Core.Path.{ap}
 use native.Mathlib.Omega.{arith}
 use lib.ListN.{length}

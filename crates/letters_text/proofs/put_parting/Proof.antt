@@ -1,4 +1,4 @@
--- `put_parting` meets its contract, case by case.
+-- `put_parting` meets its contract: the first number that differs, in the definition's order, says what parts the two, and so how much room is there.
 use mathlib.Core.Path.{ap}
 use native.Mathlib.Omega.{arith}
 use lib.ListN.{length}

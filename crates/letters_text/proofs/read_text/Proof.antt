@@ -1,4 +1,4 @@
--- `read_text` meets its contract, case by case.
+-- `read_text` meets its contract: the length is tested before the first bad byte, as the definition has it, and the kinds are filled where both tests pass.
 use native.Mathlib.Omega.{arith}
 use Rattle.letters_text.proofs.LetterLaws.{text-long, text-bad, text-letters}
 use Rattle.letters_text.proofs.read_text.Statement.{statement}

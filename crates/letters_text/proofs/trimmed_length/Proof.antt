@@ -1,4 +1,4 @@
--- `trimmed_length` meets its contract, case by case.
+-- `trimmed_length` meets its contract: a text has no last byte, or it is a line feed, which is left out, or the text is whole.
 use native.Mathlib.Omega.{arith}
 use Rattle.letters_text.proofs.LetterLaws.{trimmed-none, trimmed-feed, trimmed-whole}
 use Rattle.letters_text.proofs.trimmed_length.Statement.{statement}

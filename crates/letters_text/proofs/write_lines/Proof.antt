@@ -1,5 +1,6 @@
 -- `write_lines` meets its contract. The invariant: the letters of the objects before i stand after the first, and what is left follows `last`.
-use Prim.Native.Nat.{_-_}
+use mathlib.Core.List.{List}
+use Prim.Native.Nat.{ℕ, _-_}
 use native.Mathlib.Omega.{arith}
 use lib.ListN.{length}
 use Rattle.letters_text.specs.Lines.{columnsOf}
@@ -9,7 +10,7 @@ use Rattle.letters_text.proofs.write_lines.Tie as tie
 
 abbrev Inv-loop : tie.InvT-loop
 Inv-loop kinds streak pattern hit interval out₀ n last₀ to₀ i₀ out last to i =
-    LinesWalk (columnsOf kinds streak pattern hit interval) last₀ to₀ out₀ out last to i
+    LinesWalk (columnsOf (λ (xs : List ℕ). xs) kinds streak pattern hit interval) last₀ to₀ out₀ out last to i
 
 abbrev μ-loop : tie.MeasureT-loop
 μ-loop kinds streak pattern hit interval out₀ n last₀ to₀ i₀ out last to i = length kinds - i
@@ -17,26 +18,27 @@ abbrev μ-loop : tie.MeasureT-loop
 returns : tie.Need-returns Inv-loop μ-loop
 returns c = lines-none _ _ (c .if1 .taken)
 
+-- the places that the needs go back to: the entry, where there is an object, and the loop's start
+abbrev start : tie.Else1 Inv-loop μ-loop → tie.Start Inv-loop μ-loop
+start c = c .before .before .before .before .before .before .before
+
+abbrev entered : tie.At-loop Inv-loop μ-loop → tie.Else1 Inv-loop μ-loop
+entered c = c .before .before .before .before .before .before
+
 object-at-requires : tie.Need-object-at-requires Inv-loop μ-loop
-object-at-requires c κs =
-    let start = c .before .before .before .before .before .before .before in
-    (omega arith, start .pre .even)
+object-at-requires c κs = (omega arith, start c .pre .oneLength)
 
 put-first-requires : tie.Need-put-first-requires Inv-loop μ-loop
 put-first-requires c κs =
-    first-room _ (omega arith) (c .before .object-at .ensures)
-    (c .before .before .before .before .before .before .before .before .before .pre)
+    first-room _ (omega arith) (c .before .object-at .ensures) (start (c .before .before) .pre)
 
 loop-holds : tie.Need-loop-holds Inv-loop μ-loop
 loop-holds c =
     let first = c .before .before .before .before in
-    let start = first .before .before .before .before .before .before .before .before in
-    lines-start _ (omega arith) (first .object-at .ensures) (start .pre) (c .before .before .put-first .ensures)
+    lines-start _ (omega arith) (first .object-at .ensures) (start (first .before) .pre) (c .before .before .put-first .ensures)
 
 object-at-requires-2 : tie.Need-object-at-requires-2 Inv-loop μ-loop
-object-at-requires-2 c κs =
-    let start = c .before .before .before .before .before .before .before .before .before .before .before .before .before .before in
-    (c .loop-test .taken, start .pre .even)
+object-at-requires-2 c κs = (c .loop-test .taken, start (entered (c .before)) .pre .oneLength)
 
 put-next-requires : tie.Need-put-next-requires Inv-loop μ-loop
 put-next-requires c κs = lines-room (c .before .before .before .loop .inv) (c .before .before .loop-test .taken) (c .before .object-at2 .ensures)
@@ -44,8 +46,7 @@ put-next-requires c κs = lines-room (c .before .before .before .loop .inv) (c .
 add-i : tie.Need-add-i Inv-loop μ-loop
 add-i c =
     let loop = c .before .before .before .before .before .before in
-    let start = loop .before .before .before .before .before .before .before .before .before .before .before .before .before in
-    omega (arith, start .good .0)
+    omega (arith, start (entered loop) .good .0)
 
 loop-again : tie.Need-loop-again Inv-loop μ-loop
 loop-again c =

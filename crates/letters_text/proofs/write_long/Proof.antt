@@ -1,4 +1,4 @@
--- `write_long` meets its contract: one word.
+-- `write_long` meets its contract: the word that it puts at the front is the line, byte by byte.
 use native.Mathlib.Omega.{arith}
 use Rattle.letters_text.specs.Lines.{longLine}
 use Rattle.letters_text.proofs.WroteLaws.{written}

@@ -3,10 +3,7 @@ use mathlib.Core.Path.{_≡_}
 use Prim.Native.Nat.{ℕ, _+_, _*_, _≤_, _<_}
 use mathlib.Core.List.{List}
 use lib.ListN.{length, take, getD}
-use Rattle.lent.specs.Over.{over, put}
-use Rattle.letters_text.specs.declared.Reading.{Reading}
-use Rattle.letters_text.specs.declared.Reading.the-variants.{Long, Bad, Letters}
-use Rattle.letters_text.specs.Letters.{reading, kindsOf}
+use Rattle.lent.specs.Over.{put}
 use Rattle.letters_text.specs.Lines.{Columns}
 
 -- t is the first n bytes of s
@@ -14,27 +11,10 @@ pub record Front (s t : List ℕ) (n : ℕ) : Type 0 where
   pub within : n ≤ length s
   pub same : t ≡ take n s
 
--- what the lent kinds hold after a reading: the kinds of the letters over their front, or what they held
-unfoldable pub kindsAfter : Reading → List ℕ → List ℕ → List ℕ
-unfolding kindsOf
-kindsAfter Long t old = old
-kindsAfter (Bad p) t old = old
-kindsAfter (Letters n) t old = over (kindsOf t) old
-
--- the reading of the trimmed text t
-pub record ReadText (t old new : List ℕ) (r : Reading) : Type 0 where
-  pub answer : r ≡ reading t
-  pub memory : new ≡ kindsAfter (reading t) t old
-
 -- the text stands from place `at` on, and `to` is the place after it
 pub record Wrote (text : List ℕ) (at : ℕ) (old new : List ℕ) (to : ℕ) : Type 0 where
   pub next : to ≡ at + length text
   pub memory : new ≡ put at text old
-
--- the text stands at the front
-pub record Written (text old new : List ℕ) (count : ℕ) : Type 0 where
-  pub size : count ≡ length text
-  pub memory : new ≡ over text old
 
 -- the five lists are of one length
 pub record OneLength (c : Columns) : Type 0 where
@@ -45,6 +25,6 @@ pub record OneLength (c : Columns) : Type 0 where
 
 -- the intervals have at most two digits, so that five bytes an object are room enough
 pub record LinesFit (c : Columns) (room : ℕ) : Type 0 where
-  pub even : OneLength c
+  pub oneLength : OneLength c
   pub small : (i : ℕ) → i < length (c .kinds) → getD (c .intervals) i 0 < 100
   pub enough : 5 * length (c .kinds) ≤ room

@@ -25,21 +25,21 @@ located-is c =
     }
 
 add-fill-intervals : tie.Need-add-fill-intervals
-add-fill-intervals c = omega (arith, groups-small (located-is (c .before .before .before .before .before .before)))
+add-fill-intervals c = omega (arith, groups-small (located-is (c .before .before .before .before)))
 
 part-fill-intervals-end : tie.Need-part-fill-intervals-end
 part-fill-intervals-end c =
-    let l = c .before .before .before .before .before .before .before in
+    let l = c .before .before .before .before .before in
     region-inside (located-is l)
 
 fill-intervals-requires : tie.Need-fill-intervals-requires
 fill-intervals-requires c κs =
-    let l = c .before .before .before .before .before .before .before .before .before in
+    let l = c .before .before .before .before .before .before .before in
     intervals-room (located-is l)
 
 -- ---- once the intervals are filled
 abbrev place : tie.After-fill-intervals → tie.After-locate
-place c = c .before .before .before .before .before .before .before .before .before .before
+place c = c .before .before .before .before .before .before .before .before
 
 mul-interval : tie.Need-mul-interval
 mul-interval c =

@@ -19,6 +19,9 @@ notes c = c .before .before .before .before .before .before .before
 abbrev numbered : tie.After-reach → tie.After-number-notes
 numbered c = c .before .before .before .before
 
+abbrev reached : tie.After-owns → tie.After-reach
+reached c = c .before .before .before
+
 reading : (c : tie.After-reach) → Readable (start (notes (numbered c)) .args .start .now) (numbered c .number-notes .last .1 .1 .0) (c .reach .result)
 reading c =
     let f = numbered c in
@@ -46,17 +49,17 @@ number-notes-requires c κs =
 
 slice-relend-prefix-reach : tie.Need-slice-relend-prefix-reach
 slice-relend-prefix-reach c =
-    let l = c .before .before .before .before .before .before .before .before .before in
+    let l = notes (c .before .before) in
     notes-lent (start l .pre .tables) (l .list-notes .ensures)
 
 slice-aggregate-reach : tie.Need-slice-aggregate-reach
 slice-aggregate-reach c =
-    let l = c .before .before .before .before .before .before .before .before .before .before in
+    let l = notes (c .before .before .before) in
     front-counted (start l .pre) (l .list-notes .ensures)
 
 reach-requires : tie.Need-reach-requires
 reach-requires c κs =
-    let l = c .before .before .before .before .before .before .before .before .before .before in
+    let l = notes (c .before .before .before) in
     group-there (start l .pre) (l .list-notes .ensures)
 
 mul-first : tie.Need-mul-first
@@ -106,12 +109,12 @@ mul-duration-2 c =
 
 shared-slice-read-duration-2 : tie.Need-shared-slice-read-duration-2
 shared-slice-read-duration-2 c =
-    let r = c .before .before .before .before .before .before .before in
+    let r = reached (c .before .before .before .before) in
     reading r .started _ (reading r .from)
 
 returns : tie.Need-returns
 returns c =
-    let r = c .before .before .before .before .before .before .before in
+    let r = reached (c .before .before .before .before) in
     let f = numbered r in
     let l = notes f in
     let room = start l .pre in

@@ -1,10 +1,5 @@
 -- The first answer is what stands in region 2; then each number there is looked up in region 3, and the second answer is what stands there.
-use mathlib.Core.Path.{ap, _∙_}
-use mathlib.Core.List.{List}
-use Prim.Native.Nat.{ℕ}
 use native.Mathlib.Omega.{arith}
-use Rattle.lent.specs.Over.{over}
-use Rattle.call_rhythm.specs.Rhythm.{byObject}
 use Rattle.call_rhythm.proofs.AnswerLaws.{notes-most, look-room, groups-lent, patterns-lent}
 use borrow.Author.Needs.{needs}
 use Rattle.call_rhythm.proofs.spread.fill_answers.Statement.{statement}
@@ -46,11 +41,10 @@ returns c =
     let p = c .before .before in
     let l = p .before .before .before .before .before .before in
     let g = spread l in
-    let s = start g in
-    let kinds = s .args .kind .now in (
-      g .spread .ensures ∙ ap (λ (xs : List ℕ). over (byObject xs kinds) (s .args .group .now)) (groups-lent (s .pre)),
+    let s = start g in (
+      rw (groups-lent (s .pre)) at (g .spread .ensures),
       (
-        p .spread2 .ensures ∙ ap (λ (xs : List ℕ). over (byObject xs kinds) (s .args .pattern .now)) (patterns-lent (s .pre) (l .look-up .ensures)),
+        rw (patterns-lent (s .pre) (l .look-up .ensures)) at (p .spread2 .ensures),
         l .look-up .ensures,
       ),
     )

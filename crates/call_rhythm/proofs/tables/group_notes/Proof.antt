@@ -1,4 +1,4 @@
--- The three passes in their order.
+-- Each pass finds what it asks for where those before left it: it writes a region of its own, and the scratch slice is read before it is written over.
 use mathlib.Core.Path.{sym}
 use lib.Seq.{length-take-le}
 use Rattle.call_rhythm.proofs.TablesLaws.{notes-lent, numbers-room, noted, firsts-there, counts-are, work-written, scratch-written}

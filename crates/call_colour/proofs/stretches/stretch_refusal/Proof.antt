@@ -1,8 +1,8 @@
 -- `stretch_refusal` meets its contract: the tests that were run are the definition's.
 use mathlib.Core.Path.{sym}
 use Rattle.call_colour.proofs.StretchCases.{none-refused, past-refused, lies-good}
-use Rattle.call_colour.proofs.mean.stretch_refusal.Statement.{statement}
-use Rattle.call_colour.proofs.mean.stretch_refusal.Tie as tie
+use Rattle.call_colour.proofs.stretches.stretch_refusal.Statement.{statement}
+use Rattle.call_colour.proofs.stretches.stretch_refusal.Tie as tie
 
 returns : tie.Need-returns
 returns c = none-refused _ _ _ (c .if1 .taken)

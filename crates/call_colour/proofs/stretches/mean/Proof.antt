@@ -3,8 +3,8 @@ use mathlib.Core.Path.{ap, _∙_}
 use Rattle.lent.proofs.PieceLaws.{part-pieces}
 use Rattle.call_colour.specs.Stretch.{averageOf}
 use borrow.Author.Needs.{needs}
-use Rattle.call_colour.proofs.mean.mean.Statement.{statement}
-use Rattle.call_colour.proofs.mean.mean.Tie as tie
+use Rattle.call_colour.proofs.stretches.mean.Statement.{statement}
+use Rattle.call_colour.proofs.stretches.mean.Tie as tie
 
 returns : tie.Need-returns
 returns c = c .average .ensures ∙ ap averageOf (part-pieces _ _ _)

@@ -1,5 +1,5 @@
 -- `sum` meets its contract. The invariant: what is left of the slice, added to the sum so far, is the whole sum.
-use mathlib.Core.Path.{_≡_, refl, sym, ap, _∙_}
+use mathlib.Core.Path.{_≡_, refl, sym, _∙_}
 use mathlib.Core.List.{List}
 use Prim.Native.Nat.{ℕ, _≤_, _<_, _-_, _+_}
 use native.Mathlib.Omega.{arith}
@@ -10,17 +10,17 @@ use lib.Seq.{drop-cons}
 use lib.Ieee.{Float, nan, binary64, add, ofBits}
 use Rattle.numeric.specs.Constants.{zero64}
 use Rattle.call_colour.specs.Stretch.{sumFrom}
-use Rattle.call_colour.proofs.mean.sum.Statement.{statement}
-use Rattle.call_colour.proofs.mean.sum.Tie as tie
+use Rattle.call_colour.proofs.stretches.sum.Statement.{statement}
+use Rattle.call_colour.proofs.stretches.sum.Tie as tie
 
 -- one element more
 step : (acc : Float) (xs : List Float) (i : ℕ) → i < length xs → sumFrom (add binary64 acc (getD xs i nan)) (drop (i + 1) xs) ≡ sumFrom acc (drop i xs)
 unfolding sumFrom
-step acc xs i h = ap (λ (n : ℕ). sumFrom (add binary64 acc (getD xs i nan)) (drop n xs)) (add-one i) ∙ sym (ap (sumFrom acc) (drop-cons xs i nan h))
+step acc xs i h = rw (add-one, drop-cons xs i nan)
 
 done : (acc : Float) (xs : List Float) (i : ℕ) → length xs ≤ i → sumFrom acc (drop i xs) ≡ acc
 unfolding sumFrom
-done acc xs i h = ap (sumFrom acc) (drop-of-length-le xs h)
+done acc xs i h = rw (drop-of-length-le xs h)
 
 abbrev Inv-loop : tie.InvT-loop
 Inv-loop values sum₀ i₀ sum i = (i ≤ length values) × (sumFrom sum (drop i values) ≡ sumFrom zero64 values)

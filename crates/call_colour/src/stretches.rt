@@ -1,12 +1,11 @@
-// The mean of a stretch, and its refusals.
+// What is refused of a stretch, the verdict on it, and its mean.
 ghost use mathlib.Core.Path.{_≡_};
 ghost use Prim.Native.Nat.{_-_, _≤_};
 ghost use lib.ListN.{length};
 ghost use Rattle.lent.specs.Slice.{lent};
 ghost use Rattle.numeric.specs.Constants.{zero64};
 ghost use Rattle.lent.specs.Over.{part};
-ghost use Rattle.call_colour.specs.Stretch.{stretchRefusal, sumFrom, averageOf};
-ghost use Rattle.call_colour.specs.Call.{stretchVerdict};
+ghost use Rattle.call_colour.specs.Stretch.{stretchRefusal, stretchVerdict, sumFrom, averageOf};
 ghost use Rattle.call_colour.specs.passes.Rooms.{StretchRoom};
 use grouping_chart::chart::Verdict;
 use grouping_chart::object::ObjectIndex;

@@ -1,15 +1,13 @@
 -- `average` meets its contract: a count up to 2 ^ 53 is a value of the format.
-use mathlib.Core.Path.{ap}
 use Prim.Native.Nat.{ℕ, _≤_, _^_}
 use native.Mathlib.Nat.{le-trans}
 use lib.Dec.{T, le→leb, lit≤}
 use lib.IntN.{pos}
-use lib.ListN.{length}
-use lib.Ieee.{Float, binary64, inFloat, div, ofInt}
+use lib.Ieee.{binary64, inFloat}
 use Rattle.call_colour.specs.Stretch.{averageOf}
 use borrow.Author.Needs.{needs}
-use Rattle.call_colour.proofs.mean.average.Statement.{statement}
-use Rattle.call_colour.proofs.mean.average.Tie as tie
+use Rattle.call_colour.proofs.stretches.average.Statement.{statement}
+use Rattle.call_colour.proofs.stretches.average.Tie as tie
 
 counted : (n : ℕ) → n ≤ 16384 → T (inFloat binary64 (pos n))
 unfolding inFloat
@@ -20,7 +18,7 @@ int-to-float-result c = counted _ (c .before .before .before .pre)
 
 returns : tie.Need-returns
 unfolding averageOf
-returns c = ap (λ (z : Float). div binary64 z (ofInt binary64 (pos (length (c .before .before .before .args .values .now))))) (c .before .sum .ensures)
+returns c = rw (c .before .sum .ensures)
 
 pub average-spec : {M : Type 1} → statement M
 average-spec = tie.close (tie.spec (λ c κs. search needs) int-to-float-result returns)
