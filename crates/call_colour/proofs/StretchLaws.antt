@@ -45,7 +45,7 @@ module _ (s : Settings) (p : Permitted s) (c : Chart) (m : Memory) (a b : ℕ) (
 
   written : new .value ≡ over values (m .value)
   unfolding filled
-  written = ap (λ (x : Memory). x .value) e
+  written = rw e
 
   pub stretch-room : StretchRoom (new .value) a b
   stretch-room = record {

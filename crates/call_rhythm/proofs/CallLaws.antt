@@ -1,5 +1,5 @@
 -- The outcome of rhythm, case by case, over plain lists: a refusal leaves all as lent, and an accepted call has room in every slice.
-use mathlib.Core.Path.{_≡_, refl, sym, ap, _∙_}
+use mathlib.Core.Path.{_≡_, refl, _∙_}
 use mathlib.Core.Bool.{true}
 use Prim.Native.Nat.{ℕ, _<_}
 use native.Mathlib.Omega.{arith}
@@ -9,7 +9,7 @@ use Rattle.lent.proofs.PieceLaws.{getD-over}
 use Rattle.grouping_chart.specs.Object.{isNote, noteIdx}
 use Rattle.grouping_interval.specs.Notes.{ofNotes}
 use Rattle.grouping_chart.specs.Chart.{Chart, size}
-use Rattle.grouping_chart.specs.Outcome.{Outcome, outcome}
+use Rattle.grouping_chart.specs.Outcome.{outcome}
 use Rattle.grouping_chart.specs.Settings.{Settings}
 use Rattle.grouping_chart.specs.declared.chart.Verdict.the-variants.{Accepted}
 use Rattle.grouping_chart.proofs.OutcomeLaws.{accommodated, answered-done}
@@ -38,9 +38,8 @@ module _ (s : Settings) (c : Chart) (m : Memory) where
   unfolding rhythmOutcome
   rhythm-done k new h e f = answered-done _ answer.Refused m h (λ t. outcome (groupingDone (e t)) (f t))
 
-  left : judged c m ≡ Accepted → filled s (c .kinds) (c .starts) (c .deltas) m ≡ rhythmOutcome s c m .memory
-  unfolding rhythmOutcome
-  left h = ap (λ (o : Outcome _ Memory). o .memory) (answered-done _ answer.Refused m h refl)
+  left : judged c m ≡ Accepted → rhythmOutcome s c m .memory ≡ filled s (c .kinds) (c .starts) (c .deltas) m
+  left h = rw (← rhythm-done _ _ h refl refl)
 
   -- what an accepted call writes for an object that is a note: the group of its note, by the notes' deltas
   pub group-written : judged c m ≡ Accepted → (o : ℕ) → o < size c → isNote (getD (c .kinds) o 0) ≡ true
@@ -48,8 +47,8 @@ module _ (s : Settings) (c : Chart) (m : Memory) where
       ≡ getD (groupNumbers (intervalMarks (s .margin) (ofNotes (c .kinds) (c .deltas)))) (noteIdx (c .kinds) o) 0
   unfolding filled groupOf noteGroup
   group-written h o l n =
-      ap (λ (n : Memory). getD (n .group) o 0) (sym (left h))
-      ∙ getD-over (groupOf (s .margin) (c .kinds) (c .deltas)) (m .group) o 0
+      rw (left h)
+      (getD-over (groupOf (s .margin) (c .kinds) (c .deltas)) (m .group) o 0
       (omega (arith, length-per-note (noteGroup (s .margin) (c .kinds) (c .deltas)) (c .kinds)))
       ∙ per-note-at (noteGroup (s .margin) (c .kinds) (c .deltas)) (c .kinds) o l
-      ∙ rw (n, rhythmMarks-made (s .margin) (c .kinds) (c .deltas))
+      ∙ rw (n, rhythmMarks-made (s .margin) (c .kinds) (c .deltas)))
