@@ -1,4 +1,4 @@
--- Floats that a column names by their places in a table of distinct ones, or that stand in turn.
+-- Floats that a column names by their numbers in a table of distinct ones, or that stand in turn.
 use mathlib.Core.Bool.{cond}
 use mathlib.Core.List.{List}
 use Prim.Native.Nat.{ℕ}

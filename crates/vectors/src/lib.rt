@@ -1,4 +1,4 @@
-// Stored cases of the original: reading them out of bytes, holding lent slices to them, and counting how many hold.
+// Stored cases of the original: reading them out of bytes, and holding lent slices to them.
 pub mod case;
 pub mod form;
 pub mod held;

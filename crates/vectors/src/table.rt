@@ -1,4 +1,4 @@
-// A column of places in a table of floats: reading the floats that it names into a slice.
+// A column of entry numbers, each of a float in a table: reading these floats into a slice.
 ghost use mathlib.Core.Path.{_≡_};
 ghost use Prim.Native.Nat.{_^_, _≤_, _<_};
 ghost use Rattle.lent.specs.Slice.{lent, left};
