@@ -1,5 +1,5 @@
 -- What a call on a chart comes to: its answer, and the lent memory afterwards. A refusal leaves all memory as it was
--- lent.
+-- lent (demand 1; scope: "Refused by number").
 use Prim.Native.Nat.{ℕ}
 use mathlib.Core.Bool.{cond}
 use mathlib.Core.List.{List}
