@@ -5,18 +5,18 @@ use Prim.Native.Nat.{ℕ}
 use Rattle.grouping_chart.specs.Chart.{Chart}
 use Rattle.grouping_chart.specs.Refusal.{verdict}
 use Rattle.grouping_chart.specs.Settings.{Settings}
-use Rattle.grouping_chart.specs.declared.chart.Verdict.the-variants.{Accepted}
+use Rattle.grouping_chart.specs.declared.refusal.Verdict.the-variants.{Accepted}
 use Rattle.grouping_chart.proofs.AcceptedLaws.{accepted-good}
 use Rattle.agreement.specs.TailAgreement.{AlikeTails, TailAgreement}
 use Rattle.agreement.proofs.colour.Claimed.{colour-claim}
 use Rattle.agreement.proofs.rhythm.Claimed.{chart-claim}
 use Rattle.agreement.proofs.rhythm.NoteLaws.{same-note}
 
-pub tails-agree : (s : Settings) (c c′ : Chart) (beside beside′ m : ℕ) → verdict c beside ≡ Accepted → verdict c′ beside′ ≡ Accepted → AlikeTails c c′ m
+pub tails-agree : (s : Settings) (c c′ : Chart) (refusal refusal′ m : ℕ) → verdict c refusal ≡ Accepted → verdict c′ refusal′ ≡ Accepted → AlikeTails c c′ m
     → TailAgreement s c c′ m
-tails-agree s c c′ beside beside′ m accepted accepted′ t =
-    let long = accepted-good c beside accepted .lengths in
-    let long′ = accepted-good c′ beside′ accepted′ .lengths in
+tails-agree s c c′ refusal refusal′ m accepted accepted′ t =
+    let long = accepted-good c refusal accepted .lengths in
+    let long′ = accepted-good c′ refusal′ accepted′ .lengths in
     record {
       colour = λ p p′ far landmark. colour-claim s c c′ (long .ratio) (long′ .ratio) (t .kinds) (t .ratios) far landmark;
       rhythm = chart-claim s c c′ (long .delta) (long′ .delta) (t .kinds) (t .deltas);

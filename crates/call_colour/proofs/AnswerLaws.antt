@@ -7,7 +7,7 @@ use lib.Ieee.{nan}
 use Rattle.lent.proofs.PieceLaws.{getD-over}
 use Rattle.grouping_chart.specs.Chart.{Chart, size}
 use Rattle.grouping_chart.specs.Settings.{Settings}
-use Rattle.grouping_chart.specs.declared.chart.Verdict.the-variants.{Accepted}
+use Rattle.grouping_chart.specs.declared.refusal.Verdict.the-variants.{Accepted}
 use Rattle.grouping_chart.proofs.OutcomeLaws.{none-refused}
 use Rattle.evaluator_values.specs.Colour.{valuesOf}
 use Rattle.evaluator_values.proofs.StandingLaws.{length-values}

@@ -17,7 +17,7 @@ use Rattle.numeric.proofs.Bounded as bounds
 use Rattle.numeric.proofs.Bounded.{Bounded, bounded-more, bounded-number, bounded-tenths, add-bounded}
 use Rattle.grouping_chart.specs.Chart.{Chart, size}
 use Rattle.grouping_chart.specs.Refusal.{verdict}
-use Rattle.grouping_chart.specs.declared.chart.Verdict.the-variants.{Accepted}
+use Rattle.grouping_chart.specs.declared.refusal.Verdict.the-variants.{Accepted}
 use Rattle.grouping_chart.specs.Settings.{Settings}
 use Rattle.grouping_chart.proofs.AcceptedLaws.{accepted-good}
 use Rattle.evaluator_values.proofs.StandingLaws.{value-of}
@@ -49,7 +49,7 @@ average-bounded B xs some few k l g =
     (rw zero-add at (sum-bounded B 0 zero64 xs (omega arith) (leb→le 0 0 tt) g))
 
 -- ---- the mean of a stretch of an accepted chart
-module _ (s : Settings) (c : Chart) (beside : ℕ) (accepted : verdict c beside ≡ Accepted) (a b : ℕ) (x : GoodStretch (c .kinds) a b) where
+module _ (s : Settings) (c : Chart) (refusal : ℕ) (accepted : verdict c refusal ≡ Accepted) (a b : ℕ) (x : GoodStretch (c .kinds) a b) where
   -- the values that the mean is made of: some, few, and each bounded
   abbrev made : List Float
   made = stretchValues s c a b
@@ -61,14 +61,14 @@ module _ (s : Settings) (c : Chart) (beside : ℕ) (accepted : verdict c beside 
   made-some = omega (arith, length-made, good-lies (c .kinds) a b x)
 
   made-few : length made ≤ 16384
-  made-few = omega (arith, length-made, good-lies (c .kinds) a b x, accepted-good c beside accepted .few)
+  made-few = omega (arith, length-made, good-lies (c .kinds) a b x, accepted-good c refusal accepted .few)
 
   made-bounded : (i : ℕ) → i < length made → Bounded (getD made i nan) largestColour
   made-bounded i h =
       let l : i < b - a = omega (arith, length-made) in
       let k : a + i < size c = omega (arith, good-lies (c .kinds) a b x) in
       let v = value-of (s .limit) (s .tolerance) (c .kinds) (c .ratios) (a + i) k in
-      rw (stretch-value s c a b x i l, ← v) (value-bounded s c beside accepted (a + i) k)
+      rw (stretch-value s c a b x i l, ← v) (value-bounded s c refusal accepted (a + i) k)
 
   pub mean-bounded : Bounded (chartMean s c a b) largestColour
   unfolding chartMean

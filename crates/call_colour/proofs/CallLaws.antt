@@ -6,8 +6,8 @@ use lib.IntN.{ℤ}
 use lib.Ieee.{Float}
 use Rattle.grouping_chart.specs.Chart.{Chart}
 use Rattle.grouping_chart.specs.Outcome.{outcome}
-use Rattle.grouping_chart.specs.declared.chart.Verdict.{Verdict}
-use Rattle.grouping_chart.specs.declared.chart.Verdict.the-variants.{Accepted}
+use Rattle.grouping_chart.specs.declared.refusal.Verdict.{Verdict}
+use Rattle.grouping_chart.specs.declared.refusal.Verdict.the-variants.{Accepted}
 use Rattle.grouping_chart.proofs.OutcomeLaws.{accommodated, BothAccepted, answered-done}
 use Rattle.grouping_chart.specs.Settings.{Settings, Permitted}
 use Rattle.call_colour.specs.declared.Colouring.the-variants as colouring

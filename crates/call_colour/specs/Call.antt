@@ -10,7 +10,7 @@ use Rattle.grouping_chart.specs.Chart.{Chart}
 use Rattle.grouping_chart.specs.Room.{clearedWork, clearedScratch}
 use Rattle.grouping_chart.specs.Outcome.{Outcome, outcome, judgedBy, answered}
 use Rattle.lent.specs.Slice.{SliceAt, Slice, lent, left}
-use Rattle.grouping_chart.specs.declared.chart.Verdict.{Verdict}
+use Rattle.grouping_chart.specs.declared.refusal.Verdict.{Verdict}
 use Rattle.grouping_chart.specs.Settings.{Settings}
 use Rattle.evaluator_values.specs.Colour.{colourValues}
 use Rattle.call_colour.specs.Stretch.{stretchVerdict, chartMean, chartTenths}

@@ -14,7 +14,7 @@ use Rattle.lent.specs.Over.{part}
 use Rattle.grouping_chart.specs.Chart.{Chart}
 use Rattle.grouping_chart.specs.Outcome.{refusedThen}
 use Rattle.grouping_chart.specs.Settings.{Settings}
-use Rattle.grouping_chart.specs.declared.chart.Verdict.{Verdict}
+use Rattle.grouping_chart.specs.declared.refusal.Verdict.{Verdict}
 use Rattle.evaluator_values.specs.Colour.{valuesOf}
 
 -- the number of what is refused of a stretch, or 0: 9 where it is empty or ends past the chart

@@ -5,10 +5,11 @@ ghost use lib.ListN.{length};
 ghost use Rattle.lent.specs.Slice.{lent};
 ghost use Rattle.numeric.specs.Constants.{zero64};
 ghost use Rattle.lent.specs.Over.{part};
+ghost use Rattle.grouping_chart.specs.Chart.{largest};
 ghost use Rattle.call_colour.specs.Stretch.{stretchRefusal, stretchVerdict, sumFrom, averageOf};
 ghost use Rattle.call_colour.specs.passes.Rooms.{StretchRoom};
-use grouping_chart::chart::Verdict;
 use grouping_chart::object::ObjectIndex;
+use grouping_chart::refusal::Verdict;
 
 // The number of what is refused of a stretch, or 0: 9 where a is not below b or b is above n.
 fn stretch_refusal(kind: &[u8], a: usize, b: usize) -> u8
@@ -55,7 +56,7 @@ fn sum(values: &[f64]) -> f64
 
 // The sum divided by how many there are.
 fn average(values: &[f64]) -> f64
-    requires { ⌜ length (now values) ≤ 16384 ⌝ }
+    requires { ⌜ length (now values) ≤ largest ⌝ }
     ensures { λ r. ⌜ r ≡ averageOf (lent values) ⌝ }
 {
     let n = values.len();

@@ -11,7 +11,7 @@ use Rattle.lent.proofs.PieceLaws.{getD-over}
 use Rattle.grouping_chart.specs.Chart.{Chart, size}
 use Rattle.grouping_chart.specs.Outcome.{outcome}
 use Rattle.grouping_chart.specs.Settings.{Settings, Permitted}
-use Rattle.grouping_chart.specs.declared.chart.Verdict.the-variants.{Accepted}
+use Rattle.grouping_chart.specs.declared.refusal.Verdict.the-variants.{Accepted}
 use Rattle.grouping_chart.proofs.OutcomeLaws.{answered-done, accommodated}
 use Rattle.grouping_colour.specs.MonoStreak.{streakOf}
 use Rattle.grouping_colour.proofs.StreakListLaws.{length-streakOf}

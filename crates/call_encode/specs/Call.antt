@@ -11,7 +11,7 @@ use Rattle.grouping_chart.specs.Room.{clearedWork, clearedScratch}
 use Rattle.grouping_chart.specs.Outcome.{Outcome, outcome, judgedBy, answered}
 use Rattle.lent.specs.Slice.{SliceAt, Slice, lent, left}
 use Rattle.grouping_chart.specs.Settings.{Settings}
-use Rattle.grouping_chart.specs.declared.chart.Verdict.{Verdict}
+use Rattle.grouping_chart.specs.declared.refusal.Verdict.{Verdict}
 use Rattle.grouping_colour.specs.MonoStreak.{streakOf}
 use Rattle.grouping_preprocessor.specs.Preprocessor.{streakPlaceOf, alternatingOf, patternPlaceOf}
 use Rattle.grouping_preprocessor.specs.Preprocessor.{hitOf, intervalOf, hitCount}

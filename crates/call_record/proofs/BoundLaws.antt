@@ -16,7 +16,7 @@ use Rattle.grouping_chart.specs.Chart.{Chart, size}
 use Rattle.grouping_chart.specs.Refusal.{verdict}
 use Rattle.grouping_interval.specs.Notes.{noteObjects}
 use Rattle.grouping_chart.specs.Settings.{Settings}
-use Rattle.grouping_chart.specs.declared.chart.Verdict.the-variants.{Accepted}
+use Rattle.grouping_chart.specs.declared.refusal.Verdict.the-variants.{Accepted}
 use Rattle.grouping_chart.proofs.AcceptedLaws.{GoodChart, accepted-good}
 use Rattle.grouping_interval.proofs.NoteLaws.{object-below}
 use Rattle.grouping_chart.proofs.RangeLaws.{time-range}
@@ -29,16 +29,16 @@ use Rattle.evaluator_rhythm.proofs.PenaltyLaws as penalty
 use Rattle.call_record.specs.Record.{objectsIn, ownsAt, durationOf, recordAt}
 use Rattle.call_record.specs.Call.{windowGood}
 
-start-bounded : {c : Chart} {beside : ℕ} → GoodChart c beside → (i : ℕ) → i < size c → Bounded (getD (c .starts) i nan) (2 ^ 24)
+start-bounded : {c : Chart} {refusal : ℕ} → GoodChart c refusal → (i : ℕ) → i < size c → Bounded (getD (c .starts) i nan) (2 ^ 24)
 start-bounded {c} good i h =
     let r = time-range (getD (c .starts) i nan) (good .objects i nan h .start) in
     le-bounded (getD (c .starts) i nan) 24 (r .0) (r .1)
 
-module _ (s : Settings) (c : Chart) (beside g : ℕ) (accepted : verdict c beside ≡ Accepted) (there : g < groupsIn (s .margin) (c .kinds) (c .deltas)) where
+module _ (s : Settings) (c : Chart) (refusal g : ℕ) (accepted : verdict c refusal ≡ Accepted) (there : g < groupsIn (s .margin) (c .kinds) (c .deltas)) where
   -- group g is one of the groups
   group-there : g < length (groupObjects (s .margin) (c .kinds) (c .deltas))
   group-there =
-      let l = length-first-objects (s .margin) (c .kinds) (c .deltas) (accepted-good c beside accepted .lengths .delta) in
+      let l = length-first-objects (s .margin) (c .kinds) (c .deltas) (accepted-good c refusal accepted .lengths .delta) in
       omega (arith, l, length-firsts (groupObjects (s .margin) (c .kinds) (c .deltas)))
 
   objects : List ℕ
@@ -62,7 +62,7 @@ module _ (s : Settings) (c : Chart) (beside g : ℕ) (accepted : verdict c besid
   duration-bounded : Bounded (durationOf (c .starts) objects) (2 ^ 25)
   unfolding durationOf
   duration-bounded =
-      let good = accepted-good c beside accepted in
+      let good = accepted-good c refusal accepted in
       sub-bounded (getD (c .starts) (getD objects (length objects - 1) 0) nan) (getD (c .starts) (getD objects 0 0) nan) (2 ^ 24) (2 ^ 24) (lit≤ tt)
       (start-bounded good (getD objects (length objects - 1) 0) (object-inside (length objects - 1) (omega (arith, has-object))))
       (start-bounded good (getD objects 0 0) (object-inside 0 has-object))

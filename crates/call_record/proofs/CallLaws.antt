@@ -15,7 +15,7 @@ use Rattle.grouping_chart.specs.Refusal.{timeGood}
 use Rattle.grouping_chart.specs.Outcome.{outcome}
 use Rattle.grouping_chart.specs.Settings.{Settings}
 use Rattle.grouping_chart.specs.declared.object.ObjectIndex.{ObjectIndex}
-use Rattle.grouping_chart.specs.declared.chart.Verdict.the-variants.{Accepted, Refused}
+use Rattle.grouping_chart.specs.declared.refusal.Verdict.the-variants.{Accepted, Refused}
 use Rattle.grouping_chart.proofs.RangeLaws.{time-range}
 use Rattle.grouping_chart.proofs.OutcomeLaws.{accommodated, chart-refused, none-refused, then-refused, answered-refused, answered-done}
 use Rattle.call_rhythm.proofs.TablesLaws.{accepted-tables}

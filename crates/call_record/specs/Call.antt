@@ -13,7 +13,7 @@ use Rattle.grouping_chart.specs.Room.{clearedWork, clearedScratch}
 use Rattle.grouping_chart.specs.Outcome.{Outcome, outcome, judgedBy, refusedThen, answered}
 use Rattle.lent.specs.Slice.{SliceAt, Slice, lent, left}
 use Rattle.grouping_chart.specs.Settings.{Settings}
-use Rattle.grouping_chart.specs.declared.chart.Verdict.{Verdict}
+use Rattle.grouping_chart.specs.declared.refusal.Verdict.{Verdict}
 use Rattle.call_rhythm.specs.Rhythm.{groupsIn}
 use Rattle.call_record.specs.Record.{recordAt}
 use Rattle.call_record.specs.declared.Recording.{Recording}

@@ -11,7 +11,7 @@ use Rattle.grouping_interval.specs.Notes.{ofNotes}
 use Rattle.grouping_chart.specs.Chart.{Chart, size}
 use Rattle.grouping_chart.specs.Outcome.{outcome}
 use Rattle.grouping_chart.specs.Settings.{Settings}
-use Rattle.grouping_chart.specs.declared.chart.Verdict.the-variants.{Accepted}
+use Rattle.grouping_chart.specs.declared.refusal.Verdict.the-variants.{Accepted}
 use Rattle.grouping_chart.proofs.OutcomeLaws.{accommodated, answered-done}
 use Rattle.grouping_interval.specs.IntervalGrouping.{intervalMarks}
 use Rattle.grouping_same_rhythm.proofs.MadeLaws.{rhythmMarks-made}

@@ -10,7 +10,7 @@ use Rattle.grouping_chart.specs.Chart.{Chart}
 use Rattle.grouping_chart.specs.Room.{clearedWork, clearedScratch}
 use Rattle.grouping_chart.specs.Outcome.{Outcome, outcome, judgedBy, answered}
 use Rattle.grouping_chart.specs.Settings.{Settings}
-use Rattle.grouping_chart.specs.declared.chart.Verdict.{Verdict}
+use Rattle.grouping_chart.specs.declared.refusal.Verdict.{Verdict}
 use Rattle.call_rhythm.specs.Rhythm.{groupOf, patternGroupOf, countsOf}
 use Rattle.call_rhythm.specs.declared.tables.GroupCounts.{GroupCounts}
 use Rattle.call_rhythm.specs.declared.Grouping.{Grouping}

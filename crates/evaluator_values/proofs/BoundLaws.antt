@@ -12,7 +12,7 @@ use Rattle.numeric.proofs.Values.{Number, number-no-nan}
 use Rattle.numeric.proofs.Bounded.{Bounded, bounded-number}
 use Rattle.grouping_chart.specs.Chart.{Chart, size}
 use Rattle.grouping_chart.specs.Refusal.{verdict}
-use Rattle.grouping_chart.specs.declared.chart.Verdict.the-variants.{Accepted}
+use Rattle.grouping_chart.specs.declared.refusal.Verdict.the-variants.{Accepted}
 use Rattle.grouping_chart.specs.Settings.{Settings}
 use Rattle.grouping_chart.proofs.AcceptedLaws.{GoodChart, accepted-good}
 use Rattle.grouping_chart.proofs.RangeLaws.{ratio-range}
@@ -32,14 +32,14 @@ value-is : (s : Settings) (c : Chart) (i : ℕ) → i < size c
 unfolding colourAt
 value-is s c i h = value-of (s .limit) (s .tolerance) (c .kinds) (c .ratios) i h
 
-ratio-at : {c : Chart} {beside : ℕ} → GoodChart c beside → (i : ℕ) → i < size c
+ratio-at : {c : Chart} {refusal : ℕ} → GoodChart c refusal → (i : ℕ) → i < size c
     → T (le leastRatio (getD (c .ratios) i nan)) × T (le (getD (c .ratios) i nan) greatestRatio)
 ratio-at {c} g i h = ratio-range (getD (c .ratios) i nan) (g .objects i nan h .ratio)
 
-module _ (s : Settings) (c : Chart) (beside : ℕ) (accepted : verdict c beside ≡ Accepted) where
+module _ (s : Settings) (c : Chart) (refusal : ℕ) (accepted : verdict c refusal ≡ Accepted) where
   pub value-bounded : (i : ℕ) → i < size c → Bounded (getD (valuesOf s c) i nan) largestColour
   value-bounded i h =
-      let good = accepted-good c beside accepted in
+      let good = accepted-good c refusal accepted in
       let r = ratio-at good i h in
       let p = ratio-at good (i - 2) (omega arith) in
       rw (value-is s c i h)

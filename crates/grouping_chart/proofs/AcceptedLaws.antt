@@ -11,8 +11,8 @@ use lib.ListN.{length, getD}
 use lib.Ieee.{Float, nan}
 use Rattle.lent.proofs.NeverLaws.{never}
 use Rattle.grouping_chart.specs.declared.object.ObjectIndex.{ObjectIndex}
-use Rattle.grouping_chart.specs.declared.chart.Verdict.{Verdict}
-use Rattle.grouping_chart.specs.declared.chart.Verdict.the-variants.{Accepted, Refused}
+use Rattle.grouping_chart.specs.declared.refusal.Verdict.{Verdict}
+use Rattle.grouping_chart.specs.declared.refusal.Verdict.the-variants.{Accepted, Refused}
 use Rattle.grouping_chart.specs.Chart.{Chart, equallyLong}
 use Rattle.grouping_chart.specs.Refusal.{kindGood, timeGood, ratioGood, objectRefusal, firstRefused, verdict}
 use Rattle.grouping_chart.specs.passes.Good.{SameLengths, allGood}
@@ -27,9 +27,9 @@ pub record GoodObject (k : ℕ) (s d r : Float) : Type 0 where
   pub ratio : T (ratioGood r)
 
 -- a chart that is not refused, in a call of which nothing is refused beside it
-pub record GoodChart (c : Chart) (beside : ℕ) : Type 0 where
+pub record GoodChart (c : Chart) (refusal : ℕ) : Type 0 where
   pub few : length (c .kinds) ≤ 16384
-  pub room : beside ≡ 0
+  pub room : refusal ≡ 0
   pub lengths : SameLengths (length (c .kinds)) (c .starts) (c .deltas) (c .ratios)
   pub objects : (i : ℕ) (z : Float) → i < length (c .kinds)
       → GoodObject (getD (c .kinds) i 0) (getD (c .starts) i z) (getD (c .deltas) i z) (getD (c .ratios) i z)
@@ -118,15 +118,15 @@ equal-lengths c e =
     let t = all-three _ _ _ e in
     record { start = eqb-true _ _ (t .0); delta = eqb-true _ _ (t .1 .0); ratio = eqb-true _ _ (t .1 .1) }
 
-pub accepted-good : (c : Chart) (beside : ℕ) → verdict c beside ≡ Accepted → GoodChart c beside
+pub accepted-good : (c : Chart) (refusal : ℕ) → verdict c refusal ≡ Accepted → GoodChart c refusal
 unfolding verdict
-accepted-good c beside e =
+accepted-good c refusal e =
     let few = test-failed _ _ _ _ e in
     let lengths = test-held _ _ _ _ (few .1) in
     let room = test-held _ _ _ _ (lengths .1) in
     let same = equal-lengths c (lengths .0) in
     record { few = ltb-false _ _ (few .0); room = eqb-true _ 0 (room .0); lengths = same; objects = objects-good 0 _ _ _ _ same (room .1) }
 
-pub good-accepted : {c : Chart} {beside : ℕ} → GoodChart c beside → verdict c beside ≡ Accepted
-good-accepted {c} {beside} g =
-    verdict-objects c beside (g .few) (sym (all-equal c (g .lengths))) (g .room) ∙ good-objects 0 _ _ _ _ (g .objects)
+pub good-accepted : {c : Chart} {refusal : ℕ} → GoodChart c refusal → verdict c refusal ≡ Accepted
+good-accepted {c} {refusal} g =
+    verdict-objects c refusal (g .few) (sym (all-equal c (g .lengths))) (g .room) ∙ good-objects 0 _ _ _ _ (g .objects)

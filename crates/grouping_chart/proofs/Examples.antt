@@ -3,8 +3,8 @@ use mathlib.Core.Path.{_≡_, refl}
 use mathlib.Core.List.{List, [], _∷_, map}
 use Prim.Native.Nat.{ℕ}
 use lib.Ieee.{Float, binary64, ofBits, le}
-use Rattle.grouping_chart.specs.declared.chart.Verdict.{Verdict}
-use Rattle.grouping_chart.specs.declared.chart.Verdict.the-variants.{Accepted, Refused}
+use Rattle.grouping_chart.specs.declared.refusal.Verdict.{Verdict}
+use Rattle.grouping_chart.specs.declared.refusal.Verdict.the-variants.{Accepted, Refused}
 use Rattle.grouping_chart.specs.Chart.{Chart, equallyLong}
 use Rattle.numeric.specs.Range.{within}
 use Rattle.grouping_chart.specs.Refusal.{timeGood, ratioGood, objectRefusal, firstRefused, refused, verdict}
@@ -44,7 +44,7 @@ minus-infinite = 0xfff0_0000_0000_0000
 
 record Example : Type 0 where
   chart : Chart
-  beside : ℕ
+  refusal : ℕ
   outcome : Verdict
 
 floats : List ℕ → List Float
@@ -54,13 +54,13 @@ floats = map (ofBits binary64)
 lists : List ℕ → List ℕ → List ℕ → List ℕ → Verdict → Example
 lists kinds starts deltas ratios outcome = record {
   chart = record { kinds = kinds; starts = floats starts; deltas = floats deltas; ratios = floats ratios };
-  beside = 0;
+  refusal = 0;
   outcome = outcome;
 }
 
 -- a call that is refused 3 where its chart is looked at
 short : List ℕ → List ℕ → List ℕ → List ℕ → Verdict → Example
-short kinds starts deltas ratios outcome = record { chart = lists kinds starts deltas ratios outcome .chart; beside = 3; outcome = outcome }
+short kinds starts deltas ratios outcome = record { chart = lists kinds starts deltas ratios outcome .chart; refusal = 3; outcome = outcome }
 
 -- a call on one object
 object : ℕ → ℕ → ℕ → ℕ → Verdict → Example
@@ -105,6 +105,6 @@ examples =
     ∷ short (3 ∷ []) [] [] [] (refused 2)
     ∷ []
 
-shown : map (λ (e : Example). verdict (e .chart) (e .beside)) examples ≡ map (λ (e : Example). e .outcome) examples
+shown : map (λ (e : Example). verdict (e .chart) (e .refusal)) examples ≡ map (λ (e : Example). e .outcome) examples
 unfolding examples object short lists floats ofBits le within timeGood ratioGood objectRefusal firstRefused equallyLong verdict
 shown = refl

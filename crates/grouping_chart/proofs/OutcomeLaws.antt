@@ -11,8 +11,8 @@ use Rattle.grouping_chart.specs.Refusal.{refused, verdict}
 use Rattle.grouping_chart.specs.Room.{anyShort, shortRefusal, refusalBeside}
 use Rattle.grouping_chart.specs.Outcome.{Outcome, outcome, refusedThen, answered}
 use Rattle.grouping_chart.specs.declared.object.ObjectIndex.{ObjectIndex}
-use Rattle.grouping_chart.specs.declared.chart.Verdict.{Verdict}
-use Rattle.grouping_chart.specs.declared.chart.Verdict.the-variants.{Accepted, Refused}
+use Rattle.grouping_chart.specs.declared.refusal.Verdict.{Verdict}
+use Rattle.grouping_chart.specs.declared.refusal.Verdict.the-variants.{Accepted, Refused}
 use Rattle.grouping_chart.proofs.AcceptedLaws.{GoodChart, accepted-good}
 use Rattle.grouping_chart.proofs.RoomLaws.{AllLong, roomy, all-long}
 

@@ -9,7 +9,7 @@ use borrow.Author.Tests.{lt-ltb, le-ltb, le-leb, lt-leb, eq-eqb, ne-eqb}
 use lib.ListN.{length, drop, getD, drop-of-length-le}
 use lib.Seq.{drop-cons}
 use lib.Ieee.{Float}
-use Rattle.grouping_chart.specs.declared.chart.Verdict.the-variants.{Accepted, Refused}
+use Rattle.grouping_chart.specs.declared.refusal.Verdict.the-variants.{Accepted, Refused}
 use Rattle.grouping_chart.specs.Chart.{Chart, equallyLong}
 use Rattle.grouping_chart.specs.Refusal.{timeGood, ratioGood, objectRefusal, firstRefused, refused, verdict}
 use Rattle.grouping_chart.specs.passes.Good.{SameLengths}
@@ -90,20 +90,20 @@ module _ (c : Chart) where
 
 -- ---- a call's verdict
 
-module _ (c : Chart) (beside : ℕ) where
-  pub verdict-1 : 16384 < length (c .kinds) → verdict c beside ≡ refused 1
+module _ (c : Chart) (refusal : ℕ) where
+  pub verdict-1 : 16384 < length (c .kinds) → verdict c refusal ≡ refused 1
   unfolding verdict
   verdict-1 h = rw (lt-ltb _ _ h)
 
-  pub verdict-2 : length (c .kinds) ≤ 16384 → equallyLong c ≡ false → verdict c beside ≡ refused 2
+  pub verdict-2 : length (c .kinds) ≤ 16384 → equallyLong c ≡ false → verdict c refusal ≡ refused 2
   unfolding verdict
   verdict-2 h e = rw (le-ltb _ _ h, e)
 
-  pub verdict-beside : length (c .kinds) ≤ 16384 → equallyLong c ≡ true → (beside ≡ 0 → ⊥) → verdict c beside ≡ refused beside
+  pub verdict-beside : length (c .kinds) ≤ 16384 → equallyLong c ≡ true → (refusal ≡ 0 → ⊥) → verdict c refusal ≡ refused refusal
   unfolding verdict
   verdict-beside h e n = rw (le-ltb _ _ h, e, ne-eqb _ _ n)
 
-  pub verdict-objects : length (c .kinds) ≤ 16384 → equallyLong c ≡ true → beside ≡ 0
-      → verdict c beside ≡ firstRefused 0 (c .kinds) (c .starts) (c .deltas) (c .ratios)
+  pub verdict-objects : length (c .kinds) ≤ 16384 → equallyLong c ≡ true → refusal ≡ 0
+      → verdict c refusal ≡ firstRefused 0 (c .kinds) (c .starts) (c .deltas) (c .ratios)
   unfolding verdict
   verdict-objects h e n = rw (le-ltb _ _ h, e, eq-eqb _ _ n)

@@ -10,8 +10,8 @@ use Rattle.grouping_chart.specs.Chart.{Chart, size}
 use Rattle.grouping_chart.specs.Refusal.{refused, verdict}
 use Rattle.grouping_chart.specs.Room.{refusalBeside}
 use Rattle.grouping_chart.specs.declared.object.ObjectIndex.{ObjectIndex}
-use Rattle.grouping_chart.specs.declared.chart.Verdict.{Verdict}
-use Rattle.grouping_chart.specs.declared.chart.Verdict.the-variants.{Accepted, Refused}
+use Rattle.grouping_chart.specs.declared.refusal.Verdict.{Verdict}
+use Rattle.grouping_chart.specs.declared.refusal.Verdict.the-variants.{Accepted, Refused}
 
 pub record Outcome (Answer Memory : Type 0) : Type 0 where
   pub answer : Answer

@@ -8,8 +8,8 @@ use lib.Dec.{eqb, leb, ltb}
 use lib.Ieee.{Float}
 use Rattle.numeric.specs.Range.{within, earliest, latest, leastRatio, greatestRatio}
 use Rattle.grouping_chart.specs.Chart.{Chart, size, largest, equallyLong}
-use Rattle.grouping_chart.specs.declared.chart.Verdict.{Verdict}
-use Rattle.grouping_chart.specs.declared.chart.Verdict.the-variants.{Accepted, Refused}
+use Rattle.grouping_chart.specs.declared.refusal.Verdict.{Verdict}
+use Rattle.grouping_chart.specs.declared.refusal.Verdict.the-variants.{Accepted, Refused}
 
 -- Center, Rim and NonHit
 abbrev pub kindGood : ℕ → Bool
@@ -40,10 +40,10 @@ firstRefused i (k ∷ kinds) (s ∷ starts) (d ∷ deltas) (r ∷ ratios) =
 abbrev pub refused : ℕ → Verdict
 refused number = Refused number (record { 0 = 0 })
 
--- refusals 1 to 7 of a call on a chart; `beside` is the number of what is refused beside it, or 0
+-- refusals 1 to 7 of a call on a chart; `refusal` is the number of what is refused beside it, or 0
 unfoldable pub verdict : Chart → ℕ → Verdict
-verdict c beside =
+verdict c refusal =
     cond (ltb largest (size c)) (refused 1)
     (cond (equallyLong c)
-    (cond (eqb beside 0) (firstRefused 0 (c .kinds) (c .starts) (c .deltas) (c .ratios)) (refused beside))
+    (cond (eqb refusal 0) (firstRefused 0 (c .kinds) (c .starts) (c .deltas) (c .ratios)) (refused refusal))
     (refused 2))

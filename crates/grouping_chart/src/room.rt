@@ -5,8 +5,8 @@ ghost use Rattle.lent.specs.Slice.{lent};
 ghost use Rattle.grouping_chart.specs.Chart.{chart};
 ghost use Rattle.grouping_chart.specs.Refusal.{verdict};
 ghost use Rattle.grouping_chart.specs.Room.{shortRefusal};
-use crate::chart;
-use crate::chart::Verdict;
+use crate::refusal;
+use crate::refusal::Verdict;
 
 // 3, or 0 where no slice is too short for n objects; `answers` says that an answer slice is.
 fn short_refusal(answers: bool, n: usize, work: usize, scratch: usize) -> u8
@@ -39,6 +39,6 @@ pub fn judge(
     ensures { λ r. ⌜ r
         ≡ verdict (chart kind start delta ratio) (shortRefusal short (length (lent kind)) work scratch) ⌝ }
 {
-    let beside = short_refusal(short, kind.len(), work, scratch);
-    chart::check(kind, start, delta, ratio, beside)
+    let number = short_refusal(short, kind.len(), work, scratch);
+    refusal::check(kind, start, delta, ratio, number)
 }

@@ -7,7 +7,7 @@ use Prim.Native.Nat.{ℕ}
 use native.Mathlib.Omega.{arith}
 use Rattle.grouping_chart.specs.Chart.{Chart, size}
 use Rattle.grouping_chart.specs.Refusal.{verdict}
-use Rattle.grouping_chart.specs.declared.chart.Verdict.the-variants.{Accepted}
+use Rattle.grouping_chart.specs.declared.refusal.Verdict.the-variants.{Accepted}
 use Rattle.grouping_chart.specs.Settings.{Settings}
 use Rattle.grouping_chart.proofs.AcceptedLaws.{accepted-good}
 use Rattle.call_encode.specs.Call as encode

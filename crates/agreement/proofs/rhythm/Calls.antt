@@ -12,7 +12,7 @@ use Rattle.grouping_chart.specs.Object.{isNote, notes}
 use Rattle.grouping_interval.specs.Notes.{notesFrom, noteObjects}
 use Rattle.grouping_chart.specs.Chart.{Chart}
 use Rattle.grouping_chart.specs.Settings.{Settings}
-use Rattle.grouping_chart.specs.declared.chart.Verdict.the-variants.{Accepted}
+use Rattle.grouping_chart.specs.declared.refusal.Verdict.the-variants.{Accepted}
 use Rattle.grouping_chart.proofs.AcceptedLaws.{accepted-good}
 use Rattle.grouping_chart.proofs.ObjectLaws.{seen₀, seenAfter, seenAfter-take, seenNext-notes, seen-count, notes-few}
 use Rattle.grouping_interval.proofs.NoteLaws.{length-note-objects, length-of-notes, objects-all, objects-step, objects-over}

@@ -2,8 +2,8 @@
 use mathlib.Core.Path.{_≡_, ap, _∙_}
 use Rattle.grouping_chart.specs.Chart.{Chart, size, chartHeld}
 use Rattle.grouping_chart.specs.Settings.{Settings}
-use Rattle.grouping_chart.specs.declared.chart.Verdict.{Verdict}
-use Rattle.grouping_chart.specs.declared.chart.Verdict.the-variants.{Accepted}
+use Rattle.grouping_chart.specs.declared.refusal.Verdict.{Verdict}
+use Rattle.grouping_chart.specs.declared.refusal.Verdict.the-variants.{Accepted}
 use Rattle.grouping_chart.proofs.BaseLaws.{is-permitted}
 use Rattle.grouping_chart.proofs.OutcomeLaws.{verdict-judged, answered-refused}
 use Rattle.grouping_chart.proofs.RoomLaws.{short-joined}

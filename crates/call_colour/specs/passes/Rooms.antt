@@ -4,6 +4,7 @@ use Prim.Native.Nat.{ℕ, _≤_}
 use mathlib.Core.List.{List}
 use lib.ListN.{length}
 use lib.Ieee.{Float}
+use Rattle.grouping_chart.specs.Chart.{largest}
 use Rattle.grouping_chart.specs.Settings.{Settings, Permitted}
 use Rattle.grouping_preprocessor.specs.passes.Steps.{Regions}
 use Rattle.call_colour.specs.Call.{Memory}
@@ -20,4 +21,4 @@ pub record ChartRoom (s : Settings) (kinds : List ℕ) (ratios : List Float) (m 
 pub record StretchRoom (value : List Float) (a b : ℕ) : Type 0 where
   pub ordered : a ≤ b
   pub inside : b ≤ length value
-  pub few : b ≤ 16384
+  pub few : b ≤ largest

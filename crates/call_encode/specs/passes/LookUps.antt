@@ -4,6 +4,7 @@ use mathlib.Core.List.{List}
 use lib.ListN.{length, take, getD}
 use Rattle.lent.specs.Over.{part}
 use Rattle.lent.specs.Scan.{gathered}
+use Rattle.grouping_chart.specs.Chart.{largest}
 use Rattle.grouping_preprocessor.specs.declared.Levels.{Levels}
 use Rattle.call_encode.specs.Call.{Memory}
 
@@ -13,7 +14,7 @@ pub record Below (n : ℕ) (numbers : List ℕ) (k : ℕ) : Type 0 where
 
 -- the streaks' tables, and room for three answers
 pub record PatternsRoom (n : ℕ) (k : Levels) (work streak place pattern : List ℕ) : Type 0 where
-  pub few : n ≤ 16384
+  pub few : n ≤ largest
   pub streaks : k .streaks ≤ n
   pub tables : 8 * n ≤ length work
   pub streak-room : n ≤ length streak
@@ -27,7 +28,7 @@ byStreak a n k work = gathered (part a (k .streaks) work) (part 0 n work)
 
 -- the patterns' tables, and room for three answers
 pub record HitsRoom (n : ℕ) (k : Levels) (work pattern place hit interval : List ℕ) : Type 0 where
-  pub few : n ≤ 16384
+  pub few : n ≤ largest
   pub patterns : k .patterns ≤ n
   pub hits : k .hits ≤ n
   pub tables : 8 * n ≤ length work
@@ -45,7 +46,7 @@ byPattern a n k work pattern = gathered (part a (k .patterns) work) (take n patt
 
 -- room for n objects in each answer slice and in the work slice, and a search limit whose intervals are bytes
 pub record KindsRoom (n limit : ℕ) (m : Memory) : Type 0 where
-  pub few : n ≤ 16384
+  pub few : n ≤ largest
   pub streak : n ≤ length (m .streak)
   pub streakPlace : n ≤ length (m .streakPlace)
   pub pattern : n ≤ length (m .pattern)

@@ -3,8 +3,8 @@ use mathlib.Core.Path.{_≡_, ap, _∙_}
 use Rattle.grouping_chart.specs.Chart.{Chart, size, chartHeld}
 use Rattle.grouping_chart.specs.Settings.{Settings, baseSettings}
 use Rattle.grouping_chart.specs.Outcome.{Outcome}
-use Rattle.grouping_chart.specs.declared.chart.Verdict.{Verdict}
-use Rattle.grouping_chart.specs.declared.chart.Verdict.the-variants.{Accepted}
+use Rattle.grouping_chart.specs.declared.refusal.Verdict.{Verdict}
+use Rattle.grouping_chart.specs.declared.refusal.Verdict.the-variants.{Accepted}
 use Rattle.grouping_chart.proofs.OutcomeLaws.{verdict-judged}
 use Rattle.grouping_chart.proofs.RoomLaws.{none-asked}
 use Rattle.call_record.specs.declared.Recording.{Recording}

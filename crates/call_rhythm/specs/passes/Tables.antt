@@ -9,6 +9,7 @@ use Rattle.lent.specs.Over.{part, Write, write}
 use Rattle.lent.specs.Scan.{gathered}
 use Rattle.grouping_marks.specs.Marks.{groupNumbers}
 use Rattle.grouping_marks.specs.Parted.{parted}
+use Rattle.grouping_chart.specs.Chart.{largest}
 use Rattle.grouping_chart.specs.Object.{notes}
 use Rattle.grouping_interval.specs.Notes.{noteObjects, ofNotes}
 use Rattle.grouping_interval.specs.IntervalGrouping.{intervalMarks}
@@ -22,7 +23,7 @@ use Rattle.call_rhythm.specs.declared.tables.GroupCounts.{GroupCounts}
 
 -- at most n notes, whose objects are in front, and room for the regions
 pub record NumbersRoom (deltas : List Float) (n : ℕ) (work : List ℕ) : Type 0 where
-  pub few : n ≤ 16384
+  pub few : n ≤ largest
   pub notes : length deltas ≤ n
   pub regions : 8 * n ≤ length work
 
@@ -33,7 +34,7 @@ numbersWrites n marks objects = write n (firstsOf (parted marks objects)) ∷ wr
 
 -- the groups' first objects, each with a start, are in region 1
 pub record FirstsThere (starts : List Float) (n groups : ℕ) (work : List ℕ) (scratch : List Float) : Type 0 where
-  pub few : n ≤ 16384
+  pub few : n ≤ largest
   pub most : groups ≤ n
   pub regions : 8 * n ≤ length work
   pub floats : n ≤ length scratch
@@ -49,7 +50,7 @@ patternsFrom margin starts n groups work = intervalMarks margin (intervalsFrom m
 -- a start and a delta for each object, and room in the work slices
 pub record TablesRoom (kinds : List ℕ) (starts deltas : List Float) (work : List ℕ) (scratch : List Float)
     : Type 0 where
-  pub few : length kinds ≤ 16384
+  pub few : length kinds ≤ largest
   pub started : length starts ≡ length kinds
   pub whole : length deltas ≡ length kinds
   pub regions : 8 * length kinds ≤ length work
@@ -90,7 +91,7 @@ pub record SpreadRoom (kinds numbers out : List ℕ) : Type 0 where
 
 -- the numbers at `at`, each below k, are looked up in the table of k places at `table`, which lies apart from them
 pub record LookRoom (w : List ℕ) (table k at m : ℕ) : Type 0 where
-  pub few : m ≤ 16384
+  pub few : m ≤ largest
   pub read : table + k ≤ length w
   pub write : at + m ≤ table
   pub below : (i : ℕ) → i < m → getD (part at m w) i 0 < k
@@ -109,7 +110,7 @@ notePatterns kinds k work = gathered (part (3 * length kinds) (k .groups) work) 
 
 -- each note's group, which has a pattern, and room for each object in two answers
 pub record TablesThere (kinds : List ℕ) (k : GroupCounts) (work group pattern : List ℕ) : Type 0 where
-  pub few : length kinds ≤ 16384
+  pub few : length kinds ≤ largest
   pub noted : k .notes ≡ length (notes kinds)
   pub most : k .groups ≤ length kinds
   pub regions : 8 * length kinds ≤ length work

@@ -5,16 +5,17 @@ use mathlib.Core.List.{List}
 use lib.ListN.{length}
 use lib.Ieee.{Float}
 use Rattle.lent.specs.Over.{over}
+use Rattle.grouping_chart.specs.Chart.{largest}
 use Rattle.grouping_interval.specs.Notes.{noteObjects, ofNotes}
 
 -- room for a number for each value
 pub record ValuesRoom (values : List Float) (group : List ℕ) : Type 0 where
-  pub few : length values ≤ 16384
+  pub few : length values ≤ largest
   pub room : length values ≤ length group
 
 -- a delta for each object, and room for as many notes
 pub record NotesRoom (kinds : List ℕ) (deltas : List Float) (objects : List ℕ) (values : List Float) : Type 0 where
-  pub few : length kinds ≤ 16384
+  pub few : length kinds ≤ largest
   pub whole : length deltas ≡ length kinds
   pub objects-room : length kinds ≤ length objects
   pub values-room : length kinds ≤ length values

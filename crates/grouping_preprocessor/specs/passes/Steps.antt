@@ -6,6 +6,7 @@ use mathlib.Core.List.{List}
 use lib.ListN.{length, drop}
 use Rattle.lent.specs.Over.{part, written}
 use Rattle.grouping_marks.specs.Marks.{groupCount, groupNumbers, groupPlaces, groupSizes, groupFirsts}
+use Rattle.grouping_chart.specs.Chart.{largest}
 use Rattle.grouping_hits.specs.RepeatingHitPatterns.{hitMarks, secondLengths}
 use Rattle.grouping_colour.specs.MonoStreak.{streakMarks, streakOf, streakLengths, streakTypes}
 use Rattle.grouping_colour.specs.AlternatingMonoPattern.{patternMarks}
@@ -17,7 +18,7 @@ use Rattle.grouping_preprocessor.specs.declared.Levels.{Levels}
 
 -- room for n objects
 pub record Regions (n : ℕ) (w : List ℕ) : Type 0 where
-  pub few : n ≤ 16384
+  pub few : n ≤ largest
   pub room : 8 * n ≤ length w
 
 -- nothing past the regions has changed

@@ -2,8 +2,8 @@
 use borrow.Author.Needs.{needs}
 use lib.Ieee.{ofBits}
 use Rattle.grouping_chart.specs.Refusal.{ratioGood}
-use Rattle.grouping_chart.proofs.chart.ratio_good.Statement.{statement}
-use Rattle.grouping_chart.proofs.chart.ratio_good.Tie as tie
+use Rattle.grouping_chart.proofs.refusal.ratio_good.Statement.{statement}
+use Rattle.grouping_chart.proofs.refusal.ratio_good.Tie as tie
 
 returns : tie.Need-returns
 unfolding ratioGood ofBits

@@ -2,8 +2,8 @@
 use borrow.Author.Needs.{needs}
 use lib.Ieee.{ofBits, neg}
 use Rattle.grouping_chart.specs.Refusal.{timeGood}
-use Rattle.grouping_chart.proofs.chart.time_good.Statement.{statement}
-use Rattle.grouping_chart.proofs.chart.time_good.Tie as tie
+use Rattle.grouping_chart.proofs.refusal.time_good.Statement.{statement}
+use Rattle.grouping_chart.proofs.refusal.time_good.Tie as tie
 
 returns : tie.Need-returns
 unfolding timeGood ofBits neg

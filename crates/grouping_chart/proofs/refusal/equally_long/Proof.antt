@@ -1,8 +1,8 @@
 -- Each return is one case of the definition: the first length that differs, or none.
 use native.Mathlib.Omega.{arith}
 use Rattle.grouping_chart.proofs.RefusalLaws.{starts-differ, deltas-differ, ratios-differ, all-equal}
-use Rattle.grouping_chart.proofs.chart.equally_long.Statement.{statement}
-use Rattle.grouping_chart.proofs.chart.equally_long.Tie as tie
+use Rattle.grouping_chart.proofs.refusal.equally_long.Statement.{statement}
+use Rattle.grouping_chart.proofs.refusal.equally_long.Tie as tie
 
 returns : tie.Need-returns
 returns c = starts-differ _ (c .if1 .taken)

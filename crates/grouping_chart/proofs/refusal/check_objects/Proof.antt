@@ -2,8 +2,8 @@
 use mathlib.Core.Path.{sym, _∙_}
 use Rattle.grouping_chart.proofs.AcceptedLaws.{all-good-accepted}
 use borrow.Author.Needs.{needs}
-use Rattle.grouping_chart.proofs.chart.check_objects.Statement.{statement}
-use Rattle.grouping_chart.proofs.chart.check_objects.Tie as tie
+use Rattle.grouping_chart.proofs.refusal.check_objects.Statement.{statement}
+use Rattle.grouping_chart.proofs.refusal.check_objects.Tie as tie
 
 returns : tie.Need-returns
 returns c = all-good-accepted _ _ _ _ (c .before .before .before .before .before .before .pre) (sym (c .before .all-good .ensures) ∙ c .if1 .taken)

@@ -2,8 +2,8 @@
 use mathlib.Core.Path.{_∙_}
 use native.Mathlib.Omega.{arith}
 use Rattle.grouping_chart.proofs.RefusalLaws.{refusal-kind, refusal-4}
-use Rattle.grouping_chart.proofs.chart.object_refusal.Statement.{statement}
-use Rattle.grouping_chart.proofs.chart.object_refusal.Tie as tie
+use Rattle.grouping_chart.proofs.refusal.object_refusal.Statement.{statement}
+use Rattle.grouping_chart.proofs.refusal.object_refusal.Tie as tie
 
 returns : tie.Need-returns
 returns c = c .times-refusal .ensures ∙ refusal-kind _ _ _ (c .before .before .args .kind) (omega arith)

@@ -2,8 +2,8 @@
 use mathlib.Core.Path.{sym, _∙_}
 use Rattle.grouping_chart.proofs.RefusalLaws.{verdict-1, verdict-2, verdict-beside, verdict-objects}
 use Rattle.grouping_chart.proofs.AcceptedLaws.{equal-lengths}
-use Rattle.grouping_chart.proofs.chart.check.Statement.{statement}
-use Rattle.grouping_chart.proofs.chart.check.Tie as tie
+use Rattle.grouping_chart.proofs.refusal.check.Statement.{statement}
+use Rattle.grouping_chart.proofs.refusal.check.Tie as tie
 
 returns : tie.Need-returns
 returns c = sym (verdict-1 _ _ (c .if1 .taken))

@@ -7,8 +7,8 @@ use lib.ListN.{length, drop}
 use lib.Ieee.{Float}
 use Rattle.grouping_chart.specs.Refusal.{firstRefused}
 use Rattle.grouping_chart.proofs.RefusalLaws.{first-here, first-later, first-none}
-use Rattle.grouping_chart.proofs.chart.first_refused.Statement.{statement}
-use Rattle.grouping_chart.proofs.chart.first_refused.Tie as tie
+use Rattle.grouping_chart.proofs.refusal.first_refused.Statement.{statement}
+use Rattle.grouping_chart.proofs.refusal.first_refused.Tie as tie
 
 -- no object before `at` is refused: the first refused one from `at` on is the first of all
 record Passed (kind : List ℕ) (start delta ratio : List Float) (at : ℕ) : Type 0 where

@@ -96,16 +96,16 @@ fn equally_long(kind: &[u8], start: &[f64], delta: &[f64], ratio: &[f64]) -> boo
     true
 }
 
-// Refusals 1 to 7 of a call on a chart; `beside` is the number of what is refused straight after 2, or 0.
-pub fn check(kind: &[u8], start: &[f64], delta: &[f64], ratio: &[f64], beside: u8) -> Verdict
-    ensures { λ r. ⌜ r ≡ verdict (chart kind start delta ratio) beside ⌝ }
+// Refusals 1 to 7 of a call on a chart; `refusal` is the number of what is refused straight after 2, or 0.
+pub fn check(kind: &[u8], start: &[f64], delta: &[f64], ratio: &[f64], refusal: u8) -> Verdict
+    ensures { λ r. ⌜ r ≡ verdict (chart kind start delta ratio) refusal ⌝ }
 {
     if 16384 < kind.len() {
         return Verdict::Refused(1, ObjectIndex(0));
     }
     if equally_long(kind, start, delta, ratio) {
-        if beside != 0 {
-            return Verdict::Refused(beside, ObjectIndex(0));
+        if refusal != 0 {
+            return Verdict::Refused(refusal, ObjectIndex(0));
         }
         return check_objects(kind, start, delta, ratio);
     }

@@ -3,8 +3,8 @@ use mathlib.Core.Path.{_≡_, sym, _∙_}
 use mathlib.Core.Bool.{true}
 use Rattle.grouping_chart.specs.Refusal.{timeGood}
 use Rattle.grouping_chart.proofs.RefusalLaws.{refusal-0, refusal-7, refusal-6, refusal-5}
-use Rattle.grouping_chart.proofs.chart.times_refusal.Statement.{statement}
-use Rattle.grouping_chart.proofs.chart.times_refusal.Tie as tie
+use Rattle.grouping_chart.proofs.refusal.times_refusal.Statement.{statement}
+use Rattle.grouping_chart.proofs.refusal.times_refusal.Tie as tie
 
 -- what the two tests before the last one told
 start-good : (c : tie.Then1) → timeGood (c .before .before .args .start) ≡ true
