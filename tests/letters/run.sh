@@ -45,6 +45,7 @@ else
 fi
 
 expect "the scope's example" 'dkkddk\n' '17 d\n17 kk,dd\n2 k\n'
+expect "the guide's chart" 'dkdkkdkknkkddkdkkdkk\n' '17 d,k,d\n17 kk|d|kk\n17 nkk\n17 dd\n4 k,d\n4 kk|d|kk\n'
 expect 'a letter and no line feed' 'd' '17 d\n'
 expect 'a first byte that is no letter' 'xdk\n' 'bad 0\n'
 expect 'a later byte that is no letter' 'dkndKx\n' 'bad 4\n'

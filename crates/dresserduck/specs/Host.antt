@@ -1,5 +1,5 @@
--- What a host gets for each answer: a record of plain numbers. `refusal` is 0 on acceptance; on refusal every other
--- field but `place` is 0.
+-- What a host gets for each answer (scope: "Calls and what they fill"): a record of plain numbers. `refusal` is 0 on
+-- acceptance; on refusal every other field but `place` is 0.
 use Prim.Native.Nat.{ℕ}
 use lib.IntN.{pos}
 use lib.Ieee.{binary64, ofBits, toBits}

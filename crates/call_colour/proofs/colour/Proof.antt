@@ -1,7 +1,6 @@
 -- `colour` meets its contract: the verdict of the definition is the one that the tests gave, and each case leaves its outcome.
-use mathlib.Core.Path.{_≡_, ap, _∙_}
+use mathlib.Core.Path.{_≡_}
 use Rattle.grouping_chart.specs.Chart.{Chart, size, chartHeld}
-use Rattle.grouping_chart.specs.Settings.{Settings}
 use Rattle.grouping_chart.specs.declared.refusal.Verdict.{Verdict}
 use Rattle.grouping_chart.specs.declared.refusal.Verdict.the-variants.{Accepted}
 use Rattle.grouping_chart.proofs.BaseLaws.{is-permitted}
@@ -51,8 +50,7 @@ returns-2 c =
     let f = c .before .before .before .before .before .before in
     let b = f .before .before .before .before in
     let s = start (b .before .before .before) in
-    colour-done (b .base .result) (chartOf s) (memoryOf s) _ (accepted (b .before)) (f .fill-chart .ensures)
-    ∙ ap (λ (set : Settings). colourOutcome set (chartOf s) (memoryOf s)) (b .base .ensures)
+    rw (b .base .ensures) at (colour-done (b .base .result) (chartOf s) (memoryOf s) _ (accepted (b .before)) (f .fill-chart .ensures))
 
 pub colour-spec : {M : Type 1} → statement M
 colour-spec =

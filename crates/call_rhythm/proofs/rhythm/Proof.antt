@@ -1,7 +1,6 @@
 -- The verdict of the definition is the one that the tests gave, and each case leaves its outcome.
-use mathlib.Core.Path.{_≡_, ap, _∙_}
+use mathlib.Core.Path.{_≡_}
 use Rattle.grouping_chart.specs.Chart.{Chart, size, chartHeld}
-use Rattle.grouping_chart.specs.Settings.{Settings}
 use Rattle.grouping_chart.specs.declared.refusal.Verdict.{Verdict}
 use Rattle.grouping_chart.specs.declared.refusal.Verdict.the-variants.{Accepted}
 use Rattle.grouping_chart.proofs.OutcomeLaws.{verdict-judged, answered-refused}
@@ -50,8 +49,8 @@ returns-2 c =
     let f = c .before .before .before .before .before .before .before .before in
     let b = f .before .before .before .before .before in
     let s = start (b .before .before .before) in
-    rhythm-done (b .base .result) (chartOf s) (memoryOf s) _ _ (accepted (b .before)) (f .fill-groups .ensures .0) (f .fill-groups .ensures .1)
-    ∙ ap (λ (set : Settings). rhythmOutcome set (chartOf s) (memoryOf s)) (b .base .ensures)
+    let counted = f .fill-groups .ensures in
+    rw (b .base .ensures) at (rhythm-done (b .base .result) (chartOf s) (memoryOf s) _ _ (accepted (b .before)) (counted .0) (counted .1))
 
 pub rhythm-spec : {M : Type 1} → statement M
 rhythm-spec =
