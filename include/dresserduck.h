@@ -111,7 +111,7 @@ typedef struct dresserduck_coloured {
  * it, and the tempo is for the host, or for the player's limit, to bring in. Where the colour stays it is 0. In an even rhythm
  * (every ratio 1) a value is at most about 2.99 from the third object on, and at most about 4.98 at the first two. In other
  * rhythms the ratio two objects earlier decides from the fifth object on: a value is at most about 1 after a ratio of 2, and
- * negative after one above 2.5. Long alternations of one length have the lowest values of all that change. Never a NaN or an
+ * negative after one above 2.5. In an even rhythm alternations of one length score lowest of all that change. Never a NaN or an
  * infinity. */
 dresserduck_coloured dresserduck_colour(
     const uint8_t *kind, size_t kind_count,

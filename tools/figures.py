@@ -17,6 +17,7 @@ from library import GUIDE, ROOT, Chart, colour, encode, open_library, record, rh
 
 # the searches go through every chart of up to ALL objects, and through RANDOM longer ones of up to LONG
 ALL, RANDOM, LONG, SEED = 9, 3000, 60, 1
+NOTES = 11
 WINDOW = 50.0
 WORDS = ["none", "one", "two", "three", "four", "five", "six", "seven", "eight", "nine"]
 
@@ -99,6 +100,16 @@ def below_zero_behind_three(library):
     return [-extremes_behind(library, 3.0)[0]]
 
 
+def lowest_alternate(library):
+    """From and up to how many notes the lowest mean is that of streaks of one length, among charts with both colours."""
+    for n in range(3, NOTES + 1):
+        charts = [("d",) + rest for rest in itertools.product("dk", repeat=n - 1) if "k" in rest]
+        lowest = min(charts, key=lambda letters: stretch(library, even(letters), 0, n)[0])
+        streaks = {len(list(streak)) for _, streak in itertools.groupby(lowest)}
+        demand(len(streaks) == 1, "of charts with " + str(n) + " notes one with unequal streaks scores lowest: " + "".join(lowest))
+    return [3, NOTES]
+
+
 def means_of_two(library):
     return [stretch(library, even(letters), 0, len(letters))[0] for letters in ("ddkdkkd", "dkdkdkdk")]
 
@@ -172,6 +183,7 @@ def other_penalty(library):
 
 # the file, the phrase, and what gives its figures
 FIGURES = [
+    ("docs/GUIDE.md", "every such chart of {} to {} notes", lowest_alternate),
     ("docs/GUIDE.md", "at most about {:.2f} from the third object on", from_third),
     ("docs/GUIDE.md", "The first two objects go up to {:.2f}", first_two),
     ("docs/GUIDE.md", "{:.2f} at most after a ratio of 0.5", highest_behind_half),
