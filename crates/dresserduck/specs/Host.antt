@@ -4,6 +4,8 @@ use Prim.Native.Nat.{ℕ}
 use lib.IntN.{pos}
 use lib.Ieee.{binary64, ofBits, toBits}
 use Rattle.grouping_chart.specs.Outcome.{Outcome, outcome}
+use Rattle.call_build.specs.declared.Building.{Building}
+use Rattle.call_build.specs.declared.Building.the-variants as building
 use Rattle.call_encode.specs.declared.Encoding.{Encoding}
 use Rattle.call_encode.specs.declared.Encoding.the-variants as encoding
 use Rattle.call_colour.specs.declared.Colouring.{Colouring}
@@ -16,11 +18,16 @@ use Rattle.call_rhythm.specs.declared.Grouping.{Grouping}
 use Rattle.call_rhythm.specs.declared.Grouping.the-variants as grouping
 use Rattle.call_record.specs.declared.Recording.{Recording}
 use Rattle.call_record.specs.declared.Recording.the-variants as record-answer
+use Rattle.dresserduck.specs.declared.Built.{Built}
 use Rattle.dresserduck.specs.declared.Encoded.{Encoded}
 use Rattle.dresserduck.specs.declared.Coloured.{Coloured}
 use Rattle.dresserduck.specs.declared.Stretched.{Stretched}
 use Rattle.dresserduck.specs.declared.Grouped.{Grouped}
 use Rattle.dresserduck.specs.declared.Recorded.{Recorded}
+
+unfoldable pub builtOf : Building → Built
+builtOf (building.Done objects) = record { refusal = 0; place = 0; objects = objects }
+builtOf (building.Refused number place) = record { refusal = number; place = place .0; objects = 0 }
 
 unfoldable pub encodedOf : Encoding → Encoded
 encodedOf (encoding.Done count) = record { refusal = 0; place = 0; hitpatterns = count }

@@ -3,13 +3,16 @@ ghost use mathlib.Core.Path.{_≡_};
 ghost use Rattle.grouping_chart.specs.Settings.{baseSettings};
 ghost use Rattle.grouping_chart.specs.Outcome.{outcome};
 ghost use Rattle.grouping_chart.specs.Chart.{chart};
+ghost use Rattle.call_build.specs.Build.{raw};
+ghost use Rattle.call_build.specs.Call as build;
 ghost use Rattle.call_encode.specs.Call as encode;
 ghost use Rattle.call_colour.specs.Call as calls;
 ghost use Rattle.call_rhythm.specs.Call as rhythm;
 ghost use Rattle.call_record.specs.Call as recording;
 ghost use Rattle.call_record.specs.declared.Recording.the-variants as answer;
-ghost use Rattle.dresserduck.specs.Host.{encodedOf, colouredOf, stretchedOf, groupedOf, recordedOf};
+ghost use Rattle.dresserduck.specs.Host.{builtOf, encodedOf, colouredOf, stretchedOf, groupedOf, recordedOf};
 ghost use Rattle.dresserduck.specs.Host.{hasOwn, ownBits, forHost};
+use call_build::Building;
 use call_colour::Colouring;
 use call_colour::Stretching;
 use call_encode::Encoding;
@@ -17,6 +20,51 @@ use call_record::Recording;
 use call_rhythm::Grouping;
 use grouping_same_rhythm::own::Own;
 use numeric::canonical::bits;
+
+// dresserduck_built in the header.
+#[repr(C)]
+pub struct Built {
+    pub refusal: u64,
+    pub place: u64,
+    pub objects: u64,
+}
+
+fn built_of(answer: Building) -> Built
+    ensures { λ r. ⌜ r ≡ builtOf answer ⌝ }
+{
+    match answer {
+        Building::Done(objects) => Built {
+            refusal: 0,
+            place: 0,
+            objects: objects as u64,
+        },
+        Building::Refused(number, place) => {
+            let at = place.0;
+            Built {
+                refusal: number as u64,
+                place: at as u64,
+                objects: 0,
+            }
+        }
+    }
+}
+
+#[no_mangle]
+pub extern "C" fn dresserduck_build(
+    kind: &[u8],
+    time: &[f64],
+    rate: f64,
+    built_kind: &mut [u8],
+    start: &mut [f64],
+    delta: &mut [f64],
+    ratio: &mut [f64],
+) -> Built
+    ensures { λ r. ⌜ outcome r (build.after «built_kind» start delta ratio)
+        ≡ forHost builtOf (build.buildOutcome rate (raw kind time) (build.before «built_kind» start delta ratio)) ⌝ }
+{
+    let answer = call_build::build(kind, time, rate, built_kind, start, delta, ratio);
+    built_of(answer)
+}
 
 // dresserduck_encoded in the header.
 #[repr(C)]

@@ -14,7 +14,7 @@ use Rattle.grouping_chart.specs.declared.object.ObjectIndex.{ObjectIndex
 use Rattle.grouping_chart.specs.declared.refusal.Verdict.{Verdict}
 use Rattle.grouping_chart.specs.declared.refusal.Verdict.the-variants.{Accepted, Refused}
 use Rattle.grouping_chart.specs.Chart.{Chart, equallyLong}
-use Rattle.grouping_chart.specs.Refusal.{kindGood, timeGood, ratioGood, objectRefusal, firstRefused, verdict}
+use Rattle.grouping_chart.specs.Refusal.{kindGood, timeGood, ratioGood, objectRefusal, firstRefused, inOrder, verdict}
 use Rattle.grouping_chart.specs.passes.Good.{SameLengths, allGood}
 use Rattle.grouping_chart.proofs.AllLaws.{both-true, all-each}
 use Rattle.grouping_chart.proofs.RefusalLaws.{all-equal, verdict-objects}
@@ -118,14 +118,27 @@ equal-lengths c e =
     let t = all-three _ _ _ e in
     record { start = eqb-true _ _ (t .0); delta = eqb-true _ _ (t .1 .0); ratio = eqb-true _ _ (t .1 .1) }
 
+-- no test refuses, of those that a call makes in their order
+pub record AllPassed (large equal : Bool) (refusal : ℕ) (objects : Verdict) : Type 0 where
+  pub few : large ≡ false
+  pub same : equal ≡ true
+  pub beside : refusal ≡ 0
+  pub good : objects ≡ Accepted
+
+pub all-passed : (large equal : Bool) (refusal : ℕ) (objects : Verdict) → inOrder large equal refusal objects ≡ Accepted
+    → AllPassed large equal refusal objects
+all-passed large equal refusal objects e =
+    let few = test-failed _ _ _ _ e in
+    let same = test-held _ _ _ _ (few .1) in
+    let beside = test-held _ _ _ _ (same .1) in
+    record { few = few .0; same = same .0; beside = eqb-true _ 0 (beside .0); good = beside .1 }
+
 pub accepted-good : (c : Chart) (refusal : ℕ) → verdict c refusal ≡ Accepted → GoodChart c refusal
 unfolding verdict
 accepted-good c refusal e =
-    let few = test-failed _ _ _ _ e in
-    let lengths = test-held _ _ _ _ (few .1) in
-    let room = test-held _ _ _ _ (lengths .1) in
-    let same = equal-lengths c (lengths .0) in
-    record { few = ltb-false _ _ (few .0); room = eqb-true _ 0 (room .0); lengths = same; objects = objects-good 0 _ _ _ _ same (room .1) }
+    let p = all-passed _ (equallyLong c) refusal _ e in
+    let same = equal-lengths c (p .same) in
+    record { few = ltb-false _ _ (p .few); room = p .beside; lengths = same; objects = objects-good 0 _ _ _ _ same (p .good) }
 
 pub good-accepted : {c : Chart} {refusal : ℕ} → GoodChart c refusal → verdict c refusal ≡ Accepted
 good-accepted {c} {refusal} g =

@@ -45,3 +45,9 @@ unfolding all
 all-each test [] e i d h = absurd (omega arith)
 all-each test (x ∷ xs) e zero d h = both-true (test x) (all test xs) e .0
 all-each test (x ∷ xs) e (suc i) d h = all-each test xs (both-true (test x) (all test xs) e .1) i d (omega arith)
+
+-- where each passes, all do
+pub each-all : {A : Type 0} (test : A → Bool) (xs : List A) (d : A) → ((i : ℕ) → i < length xs → test (getD xs i d) ≡ true) → all test xs ≡ true
+unfolding all
+each-all test [] d e = refl
+each-all test (x ∷ xs) d e = rw (e 0 (omega arith), each-all test xs d (λ i h. e (suc i) (omega arith)))

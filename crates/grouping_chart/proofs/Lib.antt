@@ -8,6 +8,6 @@ pub mod SeenLaws
 pub mod RangeLaws
 pub mod BaseLaws
 pub mod CutLaws
-mod RefusalLaws
-mod AllLaws
+pub mod RefusalLaws
+pub mod AllLaws
 mod Examples

@@ -1,4 +1,4 @@
--- The cases of the definitions of refusals 1 to 7, one law a case: the proofs of this crate's functions cite these.
+-- The cases of the definitions of refusals 1 to 7, one law a case: the proofs of functions that refuse cite these.
 use mathlib.Core.Path.{_≡_}
 use mathlib.Core.List.{List}
 use mathlib.Core.Bool.{true, false}
@@ -40,6 +40,11 @@ module _ (s d r : Float) where
   pub refusal-4 : (k : ℕ) → 2 < k → 4 ≡ objectRefusal k s d r
   unfolding objectRefusal
   refusal-4 k h = rw (lt-leb k 2 h)
+
+-- a good ratio may stand for another
+pub refusal-ratio : (k : ℕ) (s d r r′ : Float) → ratioGood r ≡ true → ratioGood r′ ≡ true → objectRefusal k s d r ≡ objectRefusal k s d r′
+unfolding objectRefusal
+refusal-ratio k s d r r′ e f = rw (e, f)
 
 -- ---- the first refused object from object i on: it is i, or it stands later, or there is none
 

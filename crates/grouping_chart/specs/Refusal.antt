@@ -40,10 +40,15 @@ firstRefused i (k ∷ kinds) (s ∷ starts) (d ∷ deltas) (r ∷ ratios) =
 abbrev pub refused : ℕ → Verdict
 refused number = Refused number (record { 0 = 0 })
 
+-- the order of the tests: whether there are too many objects, whether the slices are of one length, the number of what
+-- is refused beside the chart, or 0, and the verdict on the objects
+abbrev pub inOrder : Bool → Bool → ℕ → Verdict → Verdict
+inOrder large equal refusal objects =
+    cond large (refused 1) (cond equal (cond (eqb refusal 0) objects (refused refusal)) (refused 2))
+
+abbrev pub objectsVerdict : Chart → Verdict
+objectsVerdict c = firstRefused 0 (c .kinds) (c .starts) (c .deltas) (c .ratios)
+
 -- refusals 1 to 7 of a call on a chart; `refusal` is the number of what is refused beside it, or 0
 unfoldable pub verdict : Chart → ℕ → Verdict
-verdict c refusal =
-    cond (ltb largest (size c)) (refused 1)
-    (cond (equallyLong c)
-    (cond (eqb refusal 0) (firstRefused 0 (c .kinds) (c .starts) (c .deltas) (c .ratios)) (refused refusal))
-    (refused 2))
+verdict c refusal = inOrder (ltb largest (size c)) (equallyLong c) refusal (objectsVerdict c)

@@ -17,7 +17,7 @@ fn kind_good(kind: u8) -> bool
     }
 }
 
-fn kinds_good(kind: &[u8]) -> bool
+pub fn kinds_good(kind: &[u8]) -> bool
     ensures { λ r. ⌜ r ≡ all kindGood (lent kind) ⌝ }
 {
     let mut good = true;

@@ -15,7 +15,7 @@ pub enum Verdict {
     Refused(u8, ObjectIndex),
 }
 
-fn time_good(time: f64) -> bool
+pub fn time_good(time: f64) -> bool
     ensures { λ r. ⌜ r ≡ timeGood time ⌝ }
 {
     range::is_within(range::EARLIEST, range::LATEST, time)

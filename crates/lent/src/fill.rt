@@ -20,6 +20,17 @@ pub fn copy(src: &[u16], out: &mut [u16])
     }
 }
 
+pub fn copy_bytes(src: &[u8], out: &mut [u8])
+    requires { ⌜ length (now src) ≤ length (now out) ⌝ }
+    ensures { λ r. ⌜ left out ≡ over (lent src) (lent out) ⌝ }
+{
+    let mut i = 0;
+    while i < src.len() {
+        out[i] = src[i];
+        i += 1;
+    }
+}
+
 // What the table has at each number.
 pub fn gather(table: &[u16], idx: &[u16], out: &mut [u16])
     requires { ⌜ (length (now idx) ≤ length (now out)) × AllBelow (now idx) (length (now table)) ⌝ }

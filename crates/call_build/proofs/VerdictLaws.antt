@@ -1,0 +1,53 @@
+-- The verdict on a call, case by case, in the order of the tests.
+use mathlib.Core.Path.{_≡_, refl}
+use mathlib.Core.Bool.{Bool, true, false}
+use Prim.Native.Nat.{ℕ, _≤_, _<_}
+use native.Mathlib.Omega.{arith}
+use borrow.Author.Tests.{lt-ltb, le-ltb, ltb-false, eq-eqb, ne-eqb, eqb-true}
+use lib.Dec.{eqb, ltb}
+use lib.ListN.{length}
+use lib.Ieee.{Float}
+use Rattle.grouping_chart.specs.Refusal.{refused, objectsVerdict}
+use Rattle.grouping_chart.specs.declared.refusal.Verdict.{Verdict}
+use Rattle.grouping_chart.specs.declared.refusal.Verdict.the-variants.{Accepted}
+use Rattle.grouping_chart.proofs.AcceptedLaws as chart
+use Rattle.call_build.specs.Build.{Raw, builtChart}
+use Rattle.call_build.specs.Call.{rateRefusal, verdictOf}
+
+-- what is known of an accepted call
+pub record Passed (rate : Float) (r : Raw) (short : Bool) : Type 0 where
+  pub few : length (r .kinds) ≤ 16386
+  pub times : length (r .times) ≡ length (r .kinds)
+  pub long : short ≡ false
+  pub objects : objectsVerdict (builtChart rate r) ≡ Accepted
+
+long-enough : (short : Bool) (rate : Float) → rateRefusal short rate ≡ 0 → short ≡ false
+unfolding rateRefusal
+long-enough true rate e = absurd (omega arith)
+long-enough false rate e = refl
+
+module _ (rate : Float) (r : Raw) (short : Bool) where
+  pub all-passed : verdictOf rate r short ≡ Accepted → Passed rate r short
+  unfolding verdictOf
+  all-passed h =
+      let p =
+      chart.all-passed (ltb 16386 (length (r .kinds))) (eqb (length (r .times)) (length (r .kinds))) (rateRefusal short rate)
+      (objectsVerdict (builtChart rate r)) h in
+      record { few = ltb-false _ _ (p .few); times = eqb-true _ _ (p .same); long = long-enough short rate (p .beside); objects = p .good }
+
+  pub refused-1 : 16386 < length (r .kinds) → refused 1 ≡ verdictOf rate r short
+  unfolding verdictOf
+  refused-1 h = rw (lt-ltb _ _ h)
+
+  pub refused-2 : length (r .kinds) ≤ 16386 → (length (r .times) ≡ length (r .kinds) → ⊥) → refused 2 ≡ verdictOf rate r short
+  unfolding verdictOf
+  refused-2 h e = rw (le-ltb _ _ h, ne-eqb _ _ e)
+
+  module _ {number : ℕ} (few : length (r .kinds) ≤ 16386) (same : length (r .times) ≡ length (r .kinds)) (told : number ≡ rateRefusal short rate) where
+    pub refused-beside : (number ≡ 0 → ⊥) → refused number ≡ verdictOf rate r short
+    unfolding verdictOf
+    refused-beside n = rw (le-ltb _ _ few, eq-eqb _ _ same, ← told, ne-eqb _ _ n)
+
+    pub objects-judged : {v : Verdict} → number ≡ 0 → v ≡ objectsVerdict (builtChart rate r) → v ≡ verdictOf rate r short
+    unfolding verdictOf
+    objects-judged n e = rw (le-ltb _ _ few, eq-eqb _ _ same, ← told, eq-eqb _ _ n) e

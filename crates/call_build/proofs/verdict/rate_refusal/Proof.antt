@@ -1,0 +1,20 @@
+-- Each return is one case of the definition.
+use mathlib.Core.Path.{sym, _∙_}
+use Rattle.call_build.specs.Call.{rateRefusal}
+use Rattle.call_build.proofs.verdict.rate_refusal.Statement.{statement}
+use Rattle.call_build.proofs.verdict.rate_refusal.Tie as tie
+
+returns : tie.Need-returns
+unfolding rateRefusal
+returns c = rw (c .if1 .taken)
+
+returns-2 : tie.Need-returns-2
+unfolding rateRefusal
+returns-2 c = rw (c .before .before .if1 .left, ← c .before .rate-good .ensures, c .if2 .taken)
+
+returns-3 : tie.Need-returns-3
+unfolding rateRefusal
+returns-3 c = rw (c .before .before .if1 .left, ← c .before .rate-good .ensures, c .if2 .left)
+
+pub rate-refusal-spec : {M : Type 1} → statement M
+rate-refusal-spec = tie.close (tie.spec returns (λ c κs. tt) returns-2 returns-3)
