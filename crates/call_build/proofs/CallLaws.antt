@@ -3,22 +3,26 @@ use mathlib.Core.Path.{_≡_, refl, sym, _∙_}
 use mathlib.Core.Bool.{Bool}
 use mathlib.Core.List.{List}
 use Prim.Native.Nat.{ℕ, _≤_}
+use native.Mathlib.Omega.{arith}
 use lib.ListN.{length, take, drop}
 use lib.Ieee.{Float}
 use Rattle.lent.specs.Over.{over}
 use Rattle.lent.proofs.OverLaws.{front}
 use Rattle.lent.proofs.FillLaws.{length-tabulate}
 use Rattle.grouping_chart.specs.Outcome.{outcome}
+use Rattle.grouping_chart.specs.Refusal.{verdict}
 use Rattle.grouping_chart.specs.Room.{anyShort}
 use Rattle.grouping_chart.specs.declared.refusal.Verdict.{Verdict}
 use Rattle.grouping_chart.specs.declared.refusal.Verdict.the-variants.{Accepted}
+use Rattle.grouping_chart.proofs.RefusalLaws.{all-equal, verdict-objects}
 use Rattle.grouping_chart.proofs.RoomLaws.{all-long}
 use Rattle.grouping_chart.proofs.OutcomeLaws.{answered-done}
 use Rattle.call_build.specs.Build.{Raw, deltaAt, builtSize, builtStarts, builtDeltas, builtRatios, builtChart}
-use Rattle.call_build.specs.Call.{Memory, answerLengths, verdictOf, judged, filled, buildOutcome}
+use Rattle.call_build.specs.Call.{Memory, answerLengths, verdictOf, judged, filled, chartIn, buildOutcome}
 use Rattle.call_build.specs.declared.Building.the-variants.{Done}
 use Rattle.call_build.specs.declared.Building.the-variants as answer
 use Rattle.call_build.specs.passes.Room.{BuildRoom}
+use Rattle.call_build.proofs.ChartLaws.{built-size, built-lengths}
 use Rattle.call_build.proofs.VerdictLaws.{all-passed}
 
 -- from whether an answer slice is short, and what `judge` answered
@@ -60,3 +64,32 @@ module _ (rate : Float) (r : Raw) (m : Memory) {n : ℕ} (size : builtSize r ≡
   pub build-done : {new : Memory} → judged rate r m ≡ Accepted → new ≡ filled (builtChart rate r) m → outcome (Done n) new ≡ buildOutcome rate r m
   unfolding buildOutcome
   build-done h e = rw (← size) (answered-done _ answer.Refused m h (λ t. outcome (Done (builtSize r)) (e t)))
+
+-- ---- what an accepted call wrote
+
+module _ (rate : Float) (r : Raw) (m : Memory) (accepted : judged rate r m ≡ Accepted) where
+  left : buildOutcome rate r m .memory ≡ filled (builtChart rate r) m
+  left = rw (← build-done rate r m refl accepted refl)
+
+  -- its first n places are the built chart
+  pub built-written : chartIn (builtSize r) (buildOutcome rate r m .memory) ≡ builtChart rate r
+  unfolding filled
+  built-written =
+      let c = builtChart rate r in
+      let n = builtSize r in
+      let l = built-lengths rate r in
+      let k = built-size rate r in
+      rw (
+        left,
+        front (c .kinds) (m .kind) n k,
+        front (c .starts) (m .start) n (l .start ∙ k),
+        front (c .deltas) (m .delta) n (l .delta ∙ k),
+        front (c .ratios) (m .ratio) n (l .ratio ∙ k),
+      ) refl
+
+  -- every other call accepts it, where nothing is refused beside it
+  pub built-accepted : (refusal : ℕ) → refusal ≡ 0 → verdict (chartIn (builtSize r) (buildOutcome rate r m .memory)) refusal ≡ Accepted
+  built-accepted refusal e =
+      let p = all-passed rate r _ accepted in
+      rw built-written
+      (verdict-objects (builtChart rate r) refusal (omega (arith, p .few, built-size rate r)) (sym (all-equal _ (built-lengths rate r))) e ∙ p .objects)

@@ -62,6 +62,9 @@ module _ (rate : Float) (r : Raw) where
       rw (getD-tabulate (ratioAt deltas) (length deltas) i nan (omega (arith, length-tabulate (deltaAt rate (r .times)) (builtSize r))))
       (ratio-good deltas i)
 
+  pub all-ratios-good : all ratioGood (builtChart rate r .ratios) ≡ true
+  all-ratios-good = each-all ratioGood _ nan (λ i h. ratios-good i (omega (arith, built-lengths .ratio, built-size)))
+
   -- where kinds, starts and deltas are good, no object is refused
   good-lists : all kindGood (drop 2 (r .kinds)) ≡ true → all timeGood (builtStarts rate (r .times) (builtSize r)) ≡ true
       → all timeGood (builtDeltas rate (r .times) (builtSize r)) ≡ true → all ratioGood (builtChart rate r .ratios) ≡ true
@@ -75,8 +78,7 @@ module _ (rate : Float) (r : Raw) where
       let k = both-true _ _ t in
       let s = both-true _ _ (k .1) in
       all-good-accepted _ _ _ _ built-lengths
-      (good-lists (sym e ∙ k .0) (rw size (sym f ∙ s .0)) (rw size (sym g ∙ s .1))
-      (each-all ratioGood _ nan (λ i h. ratios-good i (omega (arith, built-lengths .ratio, built-size)))))
+      (good-lists (sym e ∙ k .0) (rw size (sym f ∙ s .0)) (rw size (sym g ∙ s .1)) all-ratios-good)
 
   -- the number of object i, as it is found with the raw object's kind, and with 1.0 for the ratio
   pub number-found : (i : ℕ) {v : ℕ} {s d : Float} → i < builtSize r → s ≡ startAt rate (r .times) i → d ≡ deltaAt rate (r .times) i

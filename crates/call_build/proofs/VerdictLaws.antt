@@ -1,6 +1,6 @@
--- The verdict on a call, case by case, in the order of the tests.
+-- The verdict on a call, case by case, in the order of the tests; it is never refusal 7.
 use mathlib.Core.Path.{_≡_, refl}
-use mathlib.Core.Bool.{Bool, true, false}
+use mathlib.Core.Bool.{Bool, true, false, cond}
 use Prim.Native.Nat.{ℕ, _≤_, _<_}
 use native.Mathlib.Omega.{arith}
 use borrow.Author.Tests.{lt-ltb, le-ltb, ltb-false, eq-eqb, ne-eqb, eqb-true}
@@ -9,10 +9,13 @@ use lib.ListN.{length}
 use lib.Ieee.{Float}
 use Rattle.grouping_chart.specs.Refusal.{refused, objectsVerdict}
 use Rattle.grouping_chart.specs.declared.refusal.Verdict.{Verdict}
-use Rattle.grouping_chart.specs.declared.refusal.Verdict.the-variants.{Accepted}
+use Rattle.grouping_chart.specs.declared.refusal.Verdict.the-variants.{Accepted, Refused}
+use Rattle.grouping_chart.specs.declared.object.ObjectIndex.{ObjectIndex}
+use Rattle.grouping_chart.proofs.RefusalLaws.{NotSeven, neither-seven, objects-not-seven}
 use Rattle.grouping_chart.proofs.AcceptedLaws as chart
 use Rattle.call_build.specs.Build.{Raw, builtChart}
-use Rattle.call_build.specs.Call.{rateRefusal, verdictOf}
+use Rattle.call_build.specs.Call.{rateGood, rateRefusal, verdictOf}
+use Rattle.call_build.proofs.ChartLaws.{all-ratios-good}
 
 -- what is known of an accepted call
 pub record Passed (rate : Float) (r : Raw) (short : Bool) : Type 0 where
@@ -51,3 +54,24 @@ module _ (rate : Float) (r : Raw) (short : Bool) where
     pub objects-judged : {v : Verdict} → number ≡ 0 → v ≡ objectsVerdict (builtChart rate r) → v ≡ verdictOf rate r short
     unfolding verdictOf
     objects-judged n e = rw (le-ltb _ _ few, eq-eqb _ _ same, ← told, eq-eqb _ _ n) e
+
+-- ---- refusal 7 never applies
+
+rate-not-seven : (short good : Bool) → _≡_ {A = ℕ} (cond short 3 (cond good 0 10)) 7 → ⊥
+rate-not-seven true good e = omega arith
+rate-not-seven false true e = omega arith
+rate-not-seven false false e = omega arith
+
+not-seven : (rate : Float) (r : Raw) (short : Bool) → NotSeven (verdictOf rate r short)
+unfolding verdictOf rateRefusal
+not-seven rate r short =
+    let number = rateRefusal short rate in
+    let objects = objectsVerdict (builtChart rate r) in
+    let beside = neither-seven (eqb number 0) objects (refused number) (objects-not-seven 0 _ _ _ _ (all-ratios-good rate r))
+    (rate-not-seven short (rateGood rate)) in
+    let lengths = neither-seven (eqb (length (r .times)) (length (r .kinds))) _ (refused 2) beside (λ e. omega arith) in
+    neither-seven (ltb 16386 (length (r .kinds))) (refused 1) _ (λ e. omega arith) lengths
+
+-- so a built ratio is never refused
+pub never-7 : (rate : Float) (r : Raw) (short : Bool) (place : ObjectIndex) → verdictOf rate r short ≡ Refused 7 place → ⊥
+never-7 rate r short place e = (rw e at (not-seven rate r short)) refl

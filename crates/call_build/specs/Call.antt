@@ -4,7 +4,7 @@ use mathlib.Core.Bool.{Bool, false, cond}
 use mathlib.Core.List.{List, [], _∷_}
 use lib.Dec.{eqb, ltb}
 use lib.IntN.{pos, negsuc}
-use lib.ListN.{length}
+use lib.ListN.{length, take}
 use lib.Ieee.{Float, fin}
 use denote.Ref.{now}
 use Rattle.lent.specs.Over.{over}
@@ -77,6 +77,15 @@ filled c m = record {
   start = over (c .starts) (m .start);
   delta = over (c .deltas) (m .delta);
   ratio = over (c .ratios) (m .ratio);
+}
+
+-- the chart in the first n places of the four slices, as a host lends it to another call
+abbrev pub chartIn : ℕ → Memory → Chart
+chartIn n m = record {
+  kinds = take n (m .kind);
+  starts = take n (m .start);
+  deltas = take n (m .delta);
+  ratios = take n (m .ratio);
 }
 
 unfoldable pub buildOutcome : Float → Raw → Memory → Outcome Building Memory

@@ -111,9 +111,9 @@ pub fn judge(kind: &[u8], time: &[f64], rate: f64, n: usize, short: bool) -> Ver
     if time.len() != kind.len() {
         return Verdict::Refused(2, ObjectIndex(0));
     }
-    let number = rate_refusal(short, rate);
-    if number != 0 {
-        return Verdict::Refused(number, ObjectIndex(0));
+    let beside = rate_refusal(short, rate);
+    if beside != 0 {
+        return Verdict::Refused(beside, ObjectIndex(0));
     }
     check_objects(kind, time, rate, n)
 }

@@ -1,18 +1,21 @@
 -- The cases of the definitions of refusals 1 to 7, one law a case: the proofs of functions that refuse cite these.
 use mathlib.Core.Path.{_≡_}
-use mathlib.Core.List.{List}
-use mathlib.Core.Bool.{true, false}
+use mathlib.Core.List.{List, [], _∷_}
+use mathlib.Core.Bool.{Bool, true, false, cond}
 use Prim.Native.Nat.{ℕ, _+_, _≤_, _<_}
 use native.Mathlib.Numerals.{add-one}
 use native.Mathlib.Omega.{arith}
 use borrow.Author.Tests.{lt-ltb, le-ltb, le-leb, lt-leb, eq-eqb, ne-eqb}
 use lib.ListN.{length, drop, getD, drop-of-length-le}
 use lib.Seq.{drop-cons}
+use lib.Dec.{eqb}
 use lib.Ieee.{Float}
+use Rattle.grouping_chart.specs.declared.refusal.Verdict.{Verdict}
 use Rattle.grouping_chart.specs.declared.refusal.Verdict.the-variants.{Accepted, Refused}
 use Rattle.grouping_chart.specs.Chart.{Chart, equallyLong}
-use Rattle.grouping_chart.specs.Refusal.{timeGood, ratioGood, objectRefusal, firstRefused, refused, verdict}
-use Rattle.grouping_chart.specs.passes.Good.{SameLengths}
+use Rattle.grouping_chart.specs.Refusal.{kindGood, timeGood, ratioGood, objectRefusal, firstRefused, refused, verdict}
+use Rattle.grouping_chart.specs.passes.Good.{SameLengths, all}
+use Rattle.grouping_chart.proofs.AllLaws.{both-true}
 
 -- ---- the number of an object's refusal
 
@@ -72,6 +75,37 @@ pub first-none : (kinds : List ℕ) (starts deltas ratios : List Float) (i : ℕ
     → Accepted ≡ firstRefused i (drop i kinds) (drop i starts) (drop i deltas) (drop i ratios)
 unfolding firstRefused
 first-none kinds starts deltas ratios i h = rw (drop-of-length-le kinds h)
+
+-- ---- where all ratios are good, refusal 7 applies to no object
+
+abbrev pub NotSeven : Verdict → Type 0
+NotSeven Accepted = Unit {0}
+NotSeven (Refused number place) = number ≡ 7 → ⊥
+
+pub neither-seven : (b : Bool) (v w : Verdict) → NotSeven v → NotSeven w → NotSeven (cond b v w)
+neither-seven true v w p q = p
+neither-seven false v w p q = q
+
+no-seven : (k s d : Bool) → _≡_ {A = ℕ} (cond k (cond s (cond d 0 6) 5) 4) 7 → ⊥
+no-seven true true true e = omega arith
+no-seven true true false e = omega arith
+no-seven true false d e = omega arith
+no-seven false s d e = omega arith
+
+object-not-seven : (k : ℕ) (s d r : Float) → ratioGood r ≡ true → objectRefusal k s d r ≡ 7 → ⊥
+unfolding objectRefusal
+object-not-seven k s d r g e = no-seven (kindGood k) (timeGood s) (timeGood d) (rw g at e)
+
+pub objects-not-seven : (i : ℕ) (kinds : List ℕ) (starts deltas ratios : List Float) → all ratioGood ratios ≡ true
+    → NotSeven (firstRefused i kinds starts deltas ratios)
+unfolding firstRefused all
+objects-not-seven i [] ss ds rs g = tt
+objects-not-seven i (k ∷ ks) [] ds rs g = tt
+objects-not-seven i (k ∷ ks) (s ∷ ss) [] rs g = tt
+objects-not-seven i (k ∷ ks) (s ∷ ss) (d ∷ ds) [] g = tt
+objects-not-seven i (k ∷ ks) (s ∷ ss) (d ∷ ds) (r ∷ rs) g =
+    let t = both-true _ _ g in
+    neither-seven (eqb (objectRefusal k s d r) 0) _ (Refused (objectRefusal k s d r) _) (objects-not-seven (i + 1) ks ss ds rs (t .1)) (object-not-seven k s d r (t .0))
 
 -- ---- the chart's lengths
 
