@@ -1,9 +1,11 @@
 -- An object's ratio: the common ratio that lies nearest to the quotient of its delta and the delta before (change
 -- requests: 1/12; `RhythmData::new` of rhythm_data.rs).
-use Prim.Native.Nat.{ℕ}
-use mathlib.Core.Bool.{false, cond}
+use Prim.Native.Nat.{ℕ, _<_}
+use mathlib.Core.Path.{_≡_}
+use mathlib.Core.Bool.{true, false, cond}
 use mathlib.Core.List.{List, [], _∷_}
-use lib.Ieee.{Float, binary64, round}
+use lib.ListN.{length, getD}
+use lib.Ieee.{Float, nan, binary64, round}
 use Rattle.numeric.specs.Near.{isNearer}
 
 -- a ÷ b, rounded
@@ -32,3 +34,11 @@ nearestOf q best (r ∷ rs) = nearestOf q (nearerOf q best r) rs
 
 unfoldable pub nearestRatio : Float → Float
 nearestRatio q = nearestOf q firstRatio laterRatios
+
+-- what it is: the first of some ratios than which none lies nearer to q, each before it lying farther
+pub record FirstNearest (q : Float) (ratios : List Float) (r : Float) : Type 0 where
+  pub place : ℕ
+  pub inside : place < length ratios
+  pub is : r ≡ getD ratios place nan
+  pub before : (i : ℕ) → i < place → isNearer q r (getD ratios i nan) ≡ true
+  pub least : (i : ℕ) → i < length ratios → isNearer q (getD ratios i nan) r ≡ false
