@@ -13,7 +13,7 @@ import random
 import re
 import sys
 
-from library import GUIDE, ROOT, Chart, colour, encode, open_library, record, rhythm, stretch
+from library import GUIDE, ROOT, Chart, build, colour, encode, open_library, record, rhythm, starts, stretch
 
 # the searches go through every chart of up to ALL objects, and through RANDOM longer ones of up to LONG
 ALL, RANDOM, LONG, SEED = 9, 3000, 60, 1
@@ -141,6 +141,22 @@ def at(i):
     return lambda library: [colour(library, GUIDE)[i]]
 
 
+def built(library, rate):
+    """The guide's chart out of its times, which two raw objects stand before."""
+    times = [-2 * GUIDE.deltas[0], -GUIDE.deltas[0]] + starts(GUIDE)
+    return build(library, "dd" + GUIDE.letters, times, rate)
+
+
+def built_deltas(library):
+    """The deltas of the guide's chart at 1.5 times its speed, from the longest down; its letters, ratios and values are as before."""
+    same, fast = built(library, 1.0), built(library, 1.5)
+    demand(list(same) == [GUIDE.letters, starts(GUIDE), GUIDE.deltas, GUIDE.ratios], "another chart is built of the guide's times")
+    demand(fast.letters == GUIDE.letters and fast.ratios == GUIDE.ratios, "at another speed the guide's chart has other ratios")
+    chart = Chart(fast.letters, fast.deltas, fast.ratios)
+    demand(colour(library, chart) == colour(library, GUIDE), "at another speed the guide's chart has other values")
+    return sorted(set(fast.deltas), reverse=True)
+
+
 def groups(library):
     """What is known of the rhythm groups of the guide's chart."""
     return [record(library, GUIDE, group, WINDOW) for group in range(rhythm(library, GUIDE).groups)]
@@ -193,6 +209,7 @@ FIGURES = [
     ("docs/GUIDE.md", "its values shrink: {:.2f}, {:.2f}, {:.2f}", shrinking),
     ("docs/GUIDE.md", "({:.2f}, {:.2f}, {:.2f})", new_changes),
     ("docs/GUIDE.md", "repeats ({:.2f})", repeated_changes),
+    ("docs/GUIDE.md", "deltas of {:g} and {:g} ms", built_deltas),
     ("docs/GUIDE.md", "The whole chart has mean {:.3f} and tenths {}", whole),
     ("docs/GUIDE.md", "lowers the sum to {:.2f}", at(13)),
     ("docs/GUIDE.md", "lowers it to {:.2f}", at(14)),

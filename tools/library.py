@@ -16,6 +16,7 @@ import types
 ROOT = os.path.dirname(os.path.dirname(os.path.abspath(__file__)))
 
 Chart = collections.namedtuple("Chart", "letters deltas ratios")
+Built = collections.namedtuple("Built", "letters starts deltas ratios")
 Encoding = collections.namedtuple("Encoding", "streak streak_place pattern pattern_place hit interval")
 Rhythm = collections.namedtuple("Rhythm", "group pattern groups pattern_groups")
 
@@ -44,6 +45,7 @@ def answer(name, *fields):
 
 
 ANSWERS = {
+    "build": answer("Built", "objects"),
     "encode": answer("Encoded", "hit_patterns"),
     "colour": answer("Coloured"),
     "stretch": answer("Stretched", ("mean", ctypes.c_double), ("tenths", ctypes.c_int64)),
@@ -68,18 +70,42 @@ def open_library():
     return library
 
 
+def kinds(letters):
+    """The slice of an object's kind each."""
+    return lent(ctypes.c_uint8, ["dkn".index(letter) for letter in letters])
+
+
+def starts(chart):
+    """When the objects start, the first at 0."""
+    return list(itertools.accumulate(chart.deltas[1:], initial=0))
+
+
+def asked(library, name, letters, *slices):
+    """Calls dresserduck_`name` with these slices, which are to be accepted."""
+    returned = getattr(library, "dresserduck_" + name)(*slices)
+    if returned.refusal:
+        sys.exit(f"{name} refuses {''.join(letters)}: {returned.refusal} at object {returned.place}")
+    return returned
+
+
 def call(library, name, chart, *behind):
     """Calls dresserduck_`name` with the chart, what stands behind it, and the slices to work in."""
     n = len(chart.letters)
-    starts = list(itertools.accumulate(chart.deltas[1:], initial=0))
-    slices = lent(ctypes.c_uint8, ["dkn".index(letter) for letter in chart.letters])
-    for numbers in (starts, chart.deltas, chart.ratios):
+    slices = kinds(chart.letters)
+    for numbers in (starts(chart), chart.deltas, chart.ratios):
         slices += lent(ctypes.c_double, numbers)
     work = lent(ctypes.c_uint16, [0] * (8 * n)) + lent(ctypes.c_double, [0.0] * n)
-    returned = getattr(library, "dresserduck_" + name)(*slices, *behind, *work)
-    if returned.refusal:
-        sys.exit(f"{name} refuses {''.join(chart.letters)}: {returned.refusal} at object {returned.place}")
-    return returned
+    return asked(library, name, chart.letters, *slices, *behind, *work)
+
+
+def build(library, letters, times, rate):
+    """The chart that is built of raw objects."""
+    n = max(len(letters) - 2, 0)
+    raw = kinds(letters) + lent(ctypes.c_double, times) + [ctypes.c_double(rate)]
+    filled = [lent(ctypes.c_uint8, [0] * n)] + [lent(ctypes.c_double, [0.0] * n) for _ in range(3)]
+    asked(library, "build", letters, *raw, *sum(filled, []))
+    kind, *numbers = [list(values) for values, _ in filled]
+    return Built("".join("dkn"[number] for number in kind), *numbers)
 
 
 def encode(library, chart):

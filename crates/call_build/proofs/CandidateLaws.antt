@@ -1,5 +1,5 @@
 -- The pass over the common ratios: the candidate that it carries is the best ratio so far with its gap.
-use mathlib.Core.Path.{_≡_, refl, ap, _∙_}
+use mathlib.Core.Path.{_≡_, refl, _∙_}
 use mathlib.Core.Bool.{Bool, true, false, cond}
 use lib.Ieee.{Float, lt}
 use Rattle.numeric.specs.Near.{isNearer}

@@ -1,5 +1,5 @@
 -- The built chart, object by object: its lists are of one length, no ratio is refused, and an object is refused as its raw object says.
-use mathlib.Core.Path.{_≡_, refl, sym, ap, _∙_}
+use mathlib.Core.Path.{_≡_, refl, sym, _∙_}
 use mathlib.Core.Bool.{Bool, true, _&&_}
 use mathlib.Core.List.{List, [], _∷_}
 use Prim.Native.Nat.{ℕ, zero, suc, _+_, _-_, _<_}
@@ -7,18 +7,18 @@ use native.Mathlib.Nat.{add-comm}
 use native.Mathlib.Omega.{arith}
 use lib.ListN.{length, take, drop, getD, length-drop}
 use lib.Seq.{getD-drop, drop-nil, take-all}
-use lib.Ieee.{Float, nan, round, le}
+use lib.Ieee.{Float, nan, le}
 use Rattle.lent.proofs.FillLaws.{length-tabulate, getD-tabulate}
 use Rattle.numeric.specs.Constants.{one64}
 use Rattle.numeric.specs.Range.{within}
-use Rattle.grouping_chart.specs.Chart.{Chart, size}
+use Rattle.grouping_chart.specs.Chart.{size}
 use Rattle.grouping_chart.specs.Refusal.{kindGood, timeGood, ratioGood, objectRefusal, objectsVerdict}
 use Rattle.grouping_chart.specs.declared.refusal.Verdict.the-variants.{Accepted}
 use Rattle.grouping_chart.specs.passes.Good.{SameLengths, all, allGood}
 use Rattle.grouping_chart.proofs.RefusalLaws.{refusal-ratio}
 use Rattle.grouping_chart.proofs.AllLaws.{both-true, each-all}
 use Rattle.grouping_chart.proofs.AcceptedLaws.{all-good-accepted}
-use Rattle.call_build.specs.Build.{Raw, startAt, deltaAt, ratioAt, builtSize, builtStarts, builtDeltas, builtRatios, builtChart}
+use Rattle.call_build.specs.Build.{Raw, startAt, deltaAt, ratioAt, builtSize, builtStarts, builtDeltas, builtChart}
 use Rattle.call_build.proofs.BuiltLaws.{length-ratios}
 use Rattle.call_build.proofs.RatioLaws.{nearest-common, common-good}
 

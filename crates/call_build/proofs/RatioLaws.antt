@@ -1,8 +1,8 @@
 -- The common ratios by their bits; the nearest of them is one of them, and none is refused.
-use mathlib.Core.Path.{_≡_, refl, _∙_, subst}
+use mathlib.Core.Path.{_≡_, refl}
 use mathlib.Core.Bool.{Bool, true, false, cond}
 use mathlib.Core.List.{List, [], _∷_}
-use Prim.Native.Nat.{ℕ, zero, suc, _<_}
+use Prim.Native.Nat.{ℕ, suc, _<_}
 use native.Mathlib.Omega.{arith}
 use native.Mathlib.Nat.{zero-lt-suc}
 use lib.ListN.{length, getD}

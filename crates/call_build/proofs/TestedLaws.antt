@@ -3,7 +3,6 @@ use mathlib.Core.Path.{_≡_, sym, ap, _∙_}
 use mathlib.Core.Bool.{Bool, _&&_}
 use Prim.Native.Nat.{ℕ, _+_, _≤_, _<_}
 use native.Mathlib.Omega.{arith}
-use lib.ListN.{length}
 use Rattle.lent.specs.Scan.{tabulate}
 use Rattle.lent.proofs.FillLaws.{length-tabulate, getD-tabulate}
 use Rattle.grouping_chart.specs.passes.Good.{all}

@@ -14,7 +14,7 @@ use Rattle.grouping_chart.specs.declared.object.ObjectIndex.{ObjectIndex}
 use Rattle.grouping_chart.proofs.RefusalLaws.{NotSeven, neither-seven, objects-not-seven}
 use Rattle.grouping_chart.proofs.AcceptedLaws as chart
 use Rattle.call_build.specs.Build.{Raw, builtChart}
-use Rattle.call_build.specs.Call.{rateGood, rateRefusal, verdictOf}
+use Rattle.call_build.specs.Call.{rateGood, besideRefusal, verdictOf}
 use Rattle.call_build.proofs.ChartLaws.{all-ratios-good}
 
 -- what is known of an accepted call
@@ -24,8 +24,8 @@ pub record Passed (rate : Float) (r : Raw) (short : Bool) : Type 0 where
   pub long : short ≡ false
   pub objects : objectsVerdict (builtChart rate r) ≡ Accepted
 
-long-enough : (short : Bool) (rate : Float) → rateRefusal short rate ≡ 0 → short ≡ false
-unfolding rateRefusal
+long-enough : (short : Bool) (rate : Float) → besideRefusal short rate ≡ 0 → short ≡ false
+unfolding besideRefusal
 long-enough true rate e = absurd (omega arith)
 long-enough false rate e = refl
 
@@ -34,7 +34,7 @@ module _ (rate : Float) (r : Raw) (short : Bool) where
   unfolding verdictOf
   all-passed h =
       let p =
-      chart.all-passed (ltb 16386 (length (r .kinds))) (eqb (length (r .times)) (length (r .kinds))) (rateRefusal short rate)
+      chart.all-passed (ltb 16386 (length (r .kinds))) (eqb (length (r .times)) (length (r .kinds))) (besideRefusal short rate)
       (objectsVerdict (builtChart rate r)) h in
       record { few = ltb-false _ _ (p .few); times = eqb-true _ _ (p .same); long = long-enough short rate (p .beside); objects = p .good }
 
@@ -46,7 +46,7 @@ module _ (rate : Float) (r : Raw) (short : Bool) where
   unfolding verdictOf
   refused-2 h e = rw (le-ltb _ _ h, ne-eqb _ _ e)
 
-  module _ {number : ℕ} (few : length (r .kinds) ≤ 16386) (same : length (r .times) ≡ length (r .kinds)) (told : number ≡ rateRefusal short rate) where
+  module _ {number : ℕ} (few : length (r .kinds) ≤ 16386) (same : length (r .times) ≡ length (r .kinds)) (told : number ≡ besideRefusal short rate) where
     pub refused-beside : (number ≡ 0 → ⊥) → refused number ≡ verdictOf rate r short
     unfolding verdictOf
     refused-beside n = rw (le-ltb _ _ few, eq-eqb _ _ same, ← told, ne-eqb _ _ n)
@@ -63,9 +63,9 @@ rate-not-seven false true e = omega arith
 rate-not-seven false false e = omega arith
 
 not-seven : (rate : Float) (r : Raw) (short : Bool) → NotSeven (verdictOf rate r short)
-unfolding verdictOf rateRefusal
+unfolding verdictOf besideRefusal
 not-seven rate r short =
-    let number = rateRefusal short rate in
+    let number = besideRefusal short rate in
     let objects = objectsVerdict (builtChart rate r) in
     let beside = neither-seven (eqb number 0) objects (refused number) (objects-not-seven 0 _ _ _ _ (all-ratios-good rate r))
     (rate-not-seven short (rateGood rate)) in

@@ -57,15 +57,15 @@ largestRaw = 16386
 unfoldable pub rateGood : Float → Bool
 rateGood rate = within (fin false 1 (negsuc 1)) (fin false 1 (pos 2)) rate
 
--- what is refused beside the objects, or 0: an answer slice that is too short for them, then the rate
-unfoldable pub rateRefusal : Bool → Float → ℕ
-rateRefusal short rate = cond short 3 (cond (rateGood rate) 0 10)
+-- the number of what is refused beside the objects, or 0: an answer slice that is too short for them, then the rate
+unfoldable pub besideRefusal : Bool → Float → ℕ
+besideRefusal short rate = cond short 3 (cond (rateGood rate) 0 10)
 
 -- the verdict on a call, where `short` says that an answer slice is too short: the tests of every call, in their order
 unfoldable pub verdictOf : Float → Raw → Bool → Verdict
 verdictOf rate r short =
     inOrder (ltb largestRaw (length (r .kinds))) (eqb (length (r .times)) (length (r .kinds)))
-    (rateRefusal short rate) (objectsVerdict (builtChart rate r))
+    (besideRefusal short rate) (objectsVerdict (builtChart rate r))
 
 abbrev pub judged : Float → Raw → Memory → Verdict
 judged rate r m = verdictOf rate r (anyShort (builtSize r) (answerLengths m))

@@ -24,7 +24,7 @@ laterRatios =
 abbrev pub commonRatios : List Float
 commonRatios = firstRatio ∷ laterRatios
 
--- r where it lies nearer to q than `best`, which else stays: the first of two that lie as near, and all that a NaN meets
+-- r where it lies nearer to q than `best`, which else stays: so does the first of two that lie as near
 unfoldable pub nearerOf : Float → Float → Float → Float
 nearerOf q best r = cond (isNearer q r best) r best
 

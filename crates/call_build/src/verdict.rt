@@ -6,7 +6,7 @@ ghost use Rattle.lent.specs.Slice.{lent};
 ghost use Rattle.grouping_chart.specs.Refusal.{timeGood, objectsVerdict};
 ghost use Rattle.grouping_chart.specs.passes.Good.{all};
 ghost use Rattle.call_build.specs.Build.{raw, rawHeld, builtSize, builtStarts, builtDeltas, builtChart};
-ghost use Rattle.call_build.specs.Call.{rateGood, rateRefusal, verdictOf};
+ghost use Rattle.call_build.specs.Call.{rateGood, besideRefusal, verdictOf};
 ghost use Rattle.call_build.specs.passes.Room.{RawRoom};
 use crate::objects::delta_at;
 use crate::objects::start_at;
@@ -87,9 +87,9 @@ fn rate_good(rate: f64) -> bool
     range::is_within(0.25, 4.0, rate)
 }
 
-// 3, 10, or 0 where nothing is refused beside the objects; `short` says that an answer slice is too short.
-fn rate_refusal(short: bool, rate: f64) -> u8
-    ensures { λ r. ⌜ r ≡ rateRefusal short rate ⌝ }
+// 3, 10, or 0 where nothing is refused beside the objects.
+fn beside_refusal(short: bool, rate: f64) -> u8
+    ensures { λ r. ⌜ r ≡ besideRefusal short rate ⌝ }
 {
     if short {
         return 3;
@@ -100,7 +100,7 @@ fn rate_refusal(short: bool, rate: f64) -> u8
     10
 }
 
-// `n` is how many objects are built.
+// The verdict on raw objects of which n are built; `short` says that an answer slice is too short for these.
 pub fn judge(kind: &[u8], time: &[f64], rate: f64, n: usize, short: bool) -> Verdict
     requires { ⌜ builtSize (rawHeld kind time) ≡ n ⌝ }
     ensures { λ r. ⌜ r ≡ verdictOf rate (raw kind time) short ⌝ }
@@ -111,7 +111,7 @@ pub fn judge(kind: &[u8], time: &[f64], rate: f64, n: usize, short: bool) -> Ver
     if time.len() != kind.len() {
         return Verdict::Refused(2, ObjectIndex(0));
     }
-    let beside = rate_refusal(short, rate);
+    let beside = beside_refusal(short, rate);
     if beside != 0 {
         return Verdict::Refused(beside, ObjectIndex(0));
     }

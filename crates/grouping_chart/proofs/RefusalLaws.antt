@@ -105,7 +105,8 @@ objects-not-seven i (k ∷ ks) (s ∷ ss) [] rs g = tt
 objects-not-seven i (k ∷ ks) (s ∷ ss) (d ∷ ds) [] g = tt
 objects-not-seven i (k ∷ ks) (s ∷ ss) (d ∷ ds) (r ∷ rs) g =
     let t = both-true _ _ g in
-    neither-seven (eqb (objectRefusal k s d r) 0) _ (Refused (objectRefusal k s d r) _) (objects-not-seven (i + 1) ks ss ds rs (t .1)) (object-not-seven k s d r (t .0))
+    let o = objectRefusal k s d r in
+    neither-seven (eqb o 0) _ (Refused o _) (objects-not-seven (i + 1) ks ss ds rs (t .1)) (object-not-seven k s d r (t .0))
 
 -- ---- the chart's lengths
 

@@ -1,9 +1,8 @@
 -- The four lists that the passes leave are those of the built chart.
-use mathlib.Core.Path.{_≡_, sym, ap, _∙_}
+use mathlib.Core.Path.{sym, ap, _∙_}
 use mathlib.Core.List.{List}
 use Prim.Native.Nat.{ℕ}
 use native.Mathlib.Omega.{arith}
-use lib.ListN.{length}
 use Rattle.lent.specs.Over.{over}
 use Rattle.call_build.specs.Build.{Raw, rawHeld}
 use Rattle.call_build.specs.Call.{Memory, held}

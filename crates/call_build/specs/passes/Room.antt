@@ -1,6 +1,6 @@
 -- What the passes ask: raw times for the n built objects, and room for them.
 use mathlib.Core.Path.{_≡_}
-use Prim.Native.Nat.{ℕ, _+_, _≤_}
+use Prim.Native.Nat.{ℕ, _≤_}
 use lib.ListN.{length}
 use Rattle.call_build.specs.Build.{Raw, builtSize}
 use Rattle.call_build.specs.Call.{Memory}

@@ -1,5 +1,5 @@
 -- The invariant: the ratios of the objects below i are stored. The first is stored before the loop.
-use mathlib.Core.Path.{_≡_, refl, sym, _∙_}
+use mathlib.Core.Path.{sym, _∙_}
 use Prim.Native.Nat.{ℕ, _-_, _<_}
 use native.Mathlib.Omega.{arith}
 use mathlib.Core.List.{List}
@@ -8,7 +8,7 @@ use lib.Ieee.{Float, nan, ofBits}
 use Rattle.numeric.specs.Constants.{one64}
 use Rattle.lent.proofs.OverLaws.{over-set}
 use Rattle.lent.proofs.FillLaws.{Fill, fill-turn-front, fill-end-front}
-use Rattle.call_build.specs.Build.{ratioAt, builtRatios}
+use Rattle.call_build.specs.Build.{builtRatios}
 use Rattle.call_build.proofs.BuiltLaws.{length-ratios, first-stored, later-ratio, none-built}
 use Rattle.call_build.proofs.objects.fill_ratios.Statement.{statement}
 use Rattle.call_build.proofs.objects.fill_ratios.Tie as tie
@@ -28,7 +28,9 @@ returns c = none-built _ _ (c .if1 .taken)
 
 loop-holds : tie.Need-loop-holds Inv-loop μ-loop
 unfolding ofBits
-loop-holds c = record { fill = first-stored _ (c .before .before .before .args .ratio .now) (omega (arith, c .if1 .left)) (c .before .before .before .pre); past-first = omega arith }
+loop-holds c =
+    let s = c .before .before .before in
+    record { fill = first-stored _ (s .args .ratio .now) (omega (arith, c .if1 .left)) (s .pre); past-first = omega arith }
 
 loop-again : tie.Need-loop-again Inv-loop μ-loop
 loop-again c =

@@ -4,7 +4,7 @@ use Prim.Native.Nat.{_-_}
 use native.Mathlib.Omega.{arith}
 use Rattle.lent.proofs.FillLaws.{Fill, fill-start-front, fill-turn-front, fill-end-front, length-tabulate, getD-tabulate}
 use lib.Ieee.{nan}
-use Rattle.call_build.specs.Build.{startAt, builtStarts}
+use Rattle.call_build.specs.Build.{builtStarts}
 use Rattle.call_build.proofs.objects.fill_starts.Statement.{statement}
 use Rattle.call_build.proofs.objects.fill_starts.Tie as tie
 

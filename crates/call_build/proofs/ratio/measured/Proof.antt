@@ -1,5 +1,4 @@
 -- The gap is the one that `gap` answers.
-use mathlib.Core.Path.{ap}
 use borrow.Author.Needs.{needs}
 use Rattle.call_build.specs.passes.Candidate.{candidateOf}
 use Rattle.call_build.proofs.ratio.measured.Statement.{statement}

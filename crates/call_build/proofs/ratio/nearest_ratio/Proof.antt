@@ -1,6 +1,4 @@
 -- The candidate after each of the nine is that of the best so far; the literals are the definition's by computation.
-use mathlib.Core.Path.{_≡_, ap}
-use borrow.Author.Needs.{needs}
 use lib.Ieee.{ofBits, round}
 use Rattle.call_build.specs.Ratio.{quotient, nearestOf, nearestRatio}
 use Rattle.call_build.specs.passes.Candidate.{candidateOf}

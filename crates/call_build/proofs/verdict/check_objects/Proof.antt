@@ -15,7 +15,9 @@ returns c =
     let s = d .before in
     let k = s .before in
     let a = k .before .before .before .before in
-    good-built _ (rawHeld (a .args .kind) (a .args .time)) (a .pre .size) (k .kinds-good .ensures ∙ ap (all kindGood) (lent-kinds (a .args .kind .now) _ (a .pre .size))) (s .starts-good .ensures) (d .deltas-good .ensures) (c .if1 .taken)
+    good-built _ (rawHeld (a .args .kind) (a .args .time)) (a .pre .size)
+    (k .kinds-good .ensures ∙ ap (all kindGood) (lent-kinds (a .args .kind .now) _ (a .pre .size))) (s .starts-good .ensures)
+    (d .deltas-good .ensures) (c .if1 .taken)
 
 pub check-objects-spec : {M : Type 1} → statement M
 check-objects-spec =

@@ -3,7 +3,7 @@ use Prim.Native.Nat.{ℕ, _-_, _≤_, _<_}
 use mathlib.Core.Path.{_≡_, refl, sym, _∙_}
 use native.Mathlib.Omega.{arith}
 use lib.ListN.{drop, getD}
-use lib.Ieee.{Float, nan, ofBits}
+use lib.Ieee.{nan, ofBits}
 use Rattle.grouping_chart.specs.Chart.{Chart, size}
 use Rattle.grouping_chart.specs.Refusal.{objectRefusal, firstRefused, objectsVerdict}
 use Rattle.grouping_chart.proofs.RefusalLaws.{first-here, first-later, first-none}
