@@ -69,6 +69,17 @@ fn ties_get_the_ratio_that_is_tried_first() {
     }
 }
 
+/// The raw steps are ties of 1.75; at rate 1.5 the deltas are rounded, and their quotient lies past it or short of it.
+#[test]
+fn a_quotient_is_that_of_the_rounded_deltas() {
+    for (rate, before, ratio) in [(1.0, 40.0, 2.0), (1.5, 40.0, 1.5), (1.5, 8.0, 2.0)] {
+        let raw = Raw::of_times(&[0.0, -before, 0.0, 1.75 * before], rate);
+        let mut memory = Memory::of_sizes([2; 4]);
+        assert_eq!(build(&raw, &mut memory).refusal, 0);
+        assert_eq!(memory.ratio.lent(), [1.0, ratio], "{before} at {rate}");
+    }
+}
+
 #[test]
 fn small_and_negative_quotients() {
     assert_eq!(ratio_of(100.0, 0.0), 1.0 / 3.0);
