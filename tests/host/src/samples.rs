@@ -233,22 +233,10 @@ fn rate(random: &mut Xorshift) -> f64 {
 fn spoil(random: &mut Xorshift, raw: &mut Raw) {
     let object = random.below(raw.kind.len().max(1));
     let times = [f64::NAN, f64::INFINITY, f64::MIN, -67_108_865.0];
-    match random.below(4) {
-        0 => raw.rate = random.pick(&[0.0, -1.0, 4.5, f64::NAN, f64::INFINITY]),
-        1 => raw
-            .kind
-            .iter_mut()
-            .skip(object)
-            .take(1)
-            .for_each(|x| *x = 3),
-        _ => {
-            let bad = random.pick(&times);
-            raw.time
-                .iter_mut()
-                .skip(object)
-                .take(1)
-                .for_each(|x| *x = bad);
-        }
+    match (random.below(4), raw.kind.get_mut(object)) {
+        (1, Some(kind)) => *kind = 3,
+        (2 | 3, Some(_)) => raw.time[object] = random.pick(&times),
+        _ => raw.rate = random.pick(&[0.0, -1.0, 4.5, f64::NAN, f64::INFINITY]),
     }
 }
 

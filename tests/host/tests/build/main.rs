@@ -32,7 +32,7 @@ fn refuses(raw: &Raw, refusal: u64, place: usize) {
     }
 }
 
-/// All good: m objects of three kinds, which stay a little below the largest start, so that one more step is too far.
+/// All good: m objects of three kinds, all a little below the largest start, so that a change of sign is a step too far.
 fn good(m: usize) -> Raw {
     Raw {
         kind: (0..m).map(|i| [0, 1, 1, 2, 0][i % 5]).collect(),
