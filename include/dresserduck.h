@@ -5,11 +5,14 @@
  *   start  when it starts, in milliseconds: finite and within +-16,777,216
  *   delta  the time since the object before it, in milliseconds: finite and within +-16,777,216
  *   ratio  its rhythm ratio, from 2^-24 to 2^24
+ * dresserduck_build makes a chart of raw objects, as an editor holds them: two slices of one length m, from 0 to 16,386. The first
+ * two raw objects become no object: n is m - 2, or 0 where m is below 2.
  *
  * A call takes the chart, then plain arguments, then the slices that it is lent: those that it fills with n answers each, and
- * two to work in, `work` and `scratch`. A slice is a pointer and a count of elements, and may be longer than needed. A pointer
- * is aligned for its element and not null, also where the count is 0. No slice that is lent overlaps another slice; those of the
- * chart are only read, and may overlap each other.
+ * two to work in, `work` and `scratch`. dresserduck_build takes raw objects where the others take the chart, and has no slices to
+ * work in. A slice is a pointer and a count of elements, and may be longer than needed where it is lent. A pointer is aligned for its
+ * element and not null, also where the count is 0. No slice that is lent overlaps another slice; those of the chart and of the raw
+ * objects are only read, and may overlap each other.
  *
  * Every call answers every input. Either `refusal` is DRESSERDUCK_ACCEPTED: an answer slice has its answers in the first n places,
  * the work slices are left 0 in as many places as they need, and what any slice held past these it still holds. Or `refusal` is the
@@ -36,29 +39,34 @@ enum {
     DRESSERDUCK_NON_HIT = 2 /* no note: it has no rhythm group */
 };
 
-/* The most objects that a chart may have. */
-enum { DRESSERDUCK_LARGEST_CHART = 16384 };
+/* The most objects that a chart may have, and the most raw objects that one is built of. */
+enum {
+    DRESSERDUCK_LARGEST_CHART = 16384,
+    DRESSERDUCK_LARGEST_RAW_CHART = 16386
+};
 
-/* The refusals, in the order of their tests: 1 to 3 for the call, 4 to 7 for one object after another, then 8 and 9.
- * `place` is the object's number, counted from 0, for 4 to 7, and 0 for the others. */
+/* The refusals. They are tested in this order: 1 to 3 for the call, then 10, then 4 to 7 for one object after another, then 8 and 9.
+ * `place` is the object's number, counted from 0, for 4 to 7, and 0 for the others. For dresserduck_build it is the number of the
+ * object that would be built, and 4 to 6 are about that object's kind, start and delta. */
 enum {
     DRESSERDUCK_ACCEPTED = 0,
 
     /* the host programmer's */
-    DRESSERDUCK_TOO_MANY_OBJECTS = 1, /* n is over 16,384, counted on the kind slice */
-    DRESSERDUCK_LENGTHS_DIFFER = 2,   /* the chart's four slices are not of one length */
+    DRESSERDUCK_TOO_MANY_OBJECTS = 1, /* n is over 16,384, or m over 16,386, counted on the kind slice */
+    DRESSERDUCK_LENGTHS_DIFFER = 2,   /* the chart's four slices, or the two of the raw objects, are not of one length */
     DRESSERDUCK_SLICE_TOO_SHORT = 3,  /* an answer slice has fewer than n places, or a work slice too few */
 
     /* the chart writer's, at the object `place` */
     DRESSERDUCK_BAD_KIND = 4,  /* above 2 */
     DRESSERDUCK_BAD_START = 5, /* not finite, or outside +-16,777,216 */
     DRESSERDUCK_BAD_DELTA = 6, /* not finite, or outside +-16,777,216 */
-    DRESSERDUCK_BAD_RATIO = 7, /* outside 2^-24 to 2^24, or a NaN */
+    DRESSERDUCK_BAD_RATIO = 7, /* outside 2^-24 to 2^24, or a NaN; never for dresserduck_build */
 
     /* the player's settings'; 9 has two names, as its causes are two */
     DRESSERDUCK_BAD_WINDOW = 8,  /* dresserduck_record: the window lies outside 1.0 to 1,000.0, or is a NaN */
     DRESSERDUCK_BAD_STRETCH = 9, /* dresserduck_stretch: a >= b or b > n */
-    DRESSERDUCK_BAD_GROUP = 9    /* dresserduck_record: the group's number is not below the number of groups */
+    DRESSERDUCK_BAD_GROUP = 9,   /* dresserduck_record: the group's number is not below the number of groups */
+    DRESSERDUCK_BAD_RATE = 10    /* dresserduck_build: the rate lies outside 0.25 to 4.0, or is a NaN */
 };
 
 /* How many places the two work slices need for n objects; a constant where n is one. */
@@ -72,6 +80,32 @@ static inline double dresserduck_double(uint64_t bits)
     memcpy(&x, &bits, sizeof x);
     return x;
 }
+
+/* What dresserduck_build answers; `refusal` and `place` as above. */
+typedef struct dresserduck_built {
+    uint64_t refusal;
+    uint64_t place;
+    uint64_t objects; /* n, how many objects the built chart has */
+} dresserduck_built;
+
+/* Builds a chart, which every other call accepts, of m raw objects:
+ *   kind  as in a chart; the first two are not read
+ *   time  when it starts, in milliseconds; the first is not read, and the second only for the delta of object 0
+ *   rate  how many times as fast as written the chart is played, from 0.25 to 4.0
+ * Fills the chart's four slices. Object i is made of the raw object i + 2:
+ *   built_kind  its kind
+ *   start       its time, divided by the rate
+ *   delta       its time less that of the raw object before it, divided by the rate
+ *   ratio       1 for the first object; else, where q is its delta over the delta before, the first of 1, 2, 1/2, 3, 1/3, 3/2, 2/3,
+ *               5/4 and 4/5 whose distance from q, as rounded, is the least, and 1 where q is not finite */
+dresserduck_built dresserduck_build(
+    const uint8_t *kind, size_t kind_count,
+    const double *time, size_t time_count,
+    double rate,
+    uint8_t *built_kind, size_t built_kind_count,
+    double *start, size_t start_count,
+    double *delta, size_t delta_count,
+    double *ratio, size_t ratio_count);
 
 /* What dresserduck_encode answers; `refusal` and `place` as above. */
 typedef struct dresserduck_encoded {

@@ -1,11 +1,11 @@
-//! The five calls as the library exports them, for a host that lends memory of its own. A [`Workspace`](crate::Workspace)
-//! does the same with memory that it keeps.
+//! The six calls as the library exports them, for a host that lends memory of its own. A [`Workspace`](crate::Workspace)
+//! and a [`RawChart`] do the same with memory that they make.
 //!
-//! Each call takes a chart, then plain arguments, then the slices that it is lent to fill and to work in. It needs n
-//! places in each slice for n objects, and 8n in `work`; slices may be longer. The answer is a record of plain numbers:
-//! `refusal` is 0 and the first n places of each slice are filled, with `work` and `scratch` left 0; or `refusal` is the
-//! number of the first [`Refusal`] that applies, `place` is the object for 4 to 7 and 0 for the others, every other field
-//! is 0, and every slice is as it was lent.
+//! Each call takes a chart, then plain arguments, then the slices that it is lent to fill and to work in; [`build`] takes a
+//! raw chart and has none to work in. It needs n places in each slice for n objects, and 8n in `work`; slices may be longer.
+//! The answer is a record of plain numbers: `refusal` is 0 and the first n places of each slice are filled, with `work` and
+//! `scratch` left 0; or `refusal` is the number of the first [`Refusal`] that applies, `place` is the object for 4 to 7 and
+//! 0 for the others, every other field is 0, and every slice is as it was lent.
 //!
 //! ```
 //! use dresserduck::{calls, Chart};
@@ -23,8 +23,21 @@
 //! Each stands here under its C name too, with a pointer and a count for each slice, as include/dresserduck.h has it.
 
 use crate::chart::Chart;
+use crate::raw_chart::RawChart;
 #[cfg(doc)]
 use crate::refusal::Refusal;
+
+/// What [`build`] answers.
+#[repr(C)]
+#[derive(Clone, Copy, Debug, Default, PartialEq, Eq)]
+pub struct Built {
+    /// 0, or the number of the first refusal that applies
+    pub refusal: u64,
+    /// the object that is refused by 4 to 6, else 0
+    pub place: u64,
+    /// how many objects the built chart has
+    pub objects: u64,
+}
 
 /// What [`encode`] answers.
 #[repr(C)]
@@ -104,7 +117,57 @@ pub struct Recorded {
     pub pattern_ratio_bits: u64,
 }
 
-/// Declares exports, and each as a safe function over slices: the arguments that follow the chart, `;`, the lent slices.
+extern "C" {
+    /// # Safety
+    /// Each pointer is aligned and valid for the count that follows it, and not null even where that is 0; no slice that is
+    /// lent to be written overlaps another.
+    pub fn dresserduck_build(
+        kind: *const u8,
+        kind_count: usize,
+        time: *const f64,
+        time_count: usize,
+        rate: f64,
+        built_kind: *mut u8,
+        built_kind_count: usize,
+        start: *mut f64,
+        start_count: usize,
+        delta: *mut f64,
+        delta_count: usize,
+        ratio: *mut f64,
+        ratio_count: usize,
+    ) -> Built;
+}
+
+/// The chart that the raw objects build, as in [`BuiltChart`](crate::BuiltChart).
+pub fn build(
+    raw: &RawChart,
+    built_kind: &mut [u8],
+    start: &mut [f64],
+    delta: &mut [f64],
+    ratio: &mut [f64],
+) -> Built {
+    // SAFETY: as of the calls on a chart, below.
+    unsafe {
+        dresserduck_build(
+            raw.kind.as_ptr(),
+            raw.kind.len(),
+            raw.time.as_ptr(),
+            raw.time.len(),
+            raw.rate,
+            built_kind.as_mut_ptr(),
+            built_kind.len(),
+            start.as_mut_ptr(),
+            start.len(),
+            delta.as_mut_ptr(),
+            delta.len(),
+            ratio.as_mut_ptr(),
+            ratio.len(),
+        )
+    }
+}
+
+/// Declares exports on a chart, and each as a safe function over slices: the arguments that follow the chart, `;`, the lent
+/// slices.
 macro_rules! exports {
     ($(
         $(#[$doc:meta])*

@@ -4,7 +4,7 @@ use std::error::Error;
 use std::fmt;
 
 /// The first refusal that applies. The first three are the host programmer's, the next four the chart writer's, the last
-/// two the player's settings'.
+/// three the player's settings'. They are tested in the order of their numbers, but 10 before 4.
 ///
 /// ```
 /// use dresserduck::{Chart, Workspace};
@@ -17,11 +17,12 @@ use std::fmt;
 #[derive(Clone, Copy, Debug, PartialEq, Eq, Hash)]
 #[non_exhaustive]
 pub enum Refusal {
-    /// 1: more than 16,384 objects.
+    /// 1: more than 16,384 objects, or more than 16,386 raw ones.
     TooManyObjects,
-    /// 2: the chart's four slices are not of one length.
+    /// 2: the chart's four slices, or the two of the raw objects, are not of one length.
     LengthsDiffer,
-    /// 3: an answer or work slice is too short. A [`Workspace`](crate::Workspace) never lends one.
+    /// 3: an answer or work slice is too short. A [`Workspace`](crate::Workspace) and a [`RawChart`](crate::RawChart) never
+    /// lend one.
     SliceTooShort,
     /// 4: an object's kind is above 2.
     BadKind {
@@ -47,6 +48,8 @@ pub enum Refusal {
     BadWindow,
     /// 9: the stretch is empty or ends past the chart, or there is no group of this number.
     OutsideChart,
+    /// 10: the rate lies outside 0.25 to 4.0, or is a NaN.
+    BadRate,
 }
 
 impl Refusal {
@@ -62,6 +65,7 @@ impl Refusal {
             Refusal::BadRatio { .. } => 7,
             Refusal::BadWindow => 8,
             Refusal::OutsideChart => 9,
+            Refusal::BadRate => 10,
         }
     }
 
@@ -90,6 +94,7 @@ impl Refusal {
             7 => Some(Refusal::BadRatio { object }),
             8 => Some(Refusal::BadWindow),
             9 => Some(Refusal::OutsideChart),
+            10 => Some(Refusal::BadRate),
             _ => unreachable!("the library has no refusal {number}"),
         }
     }
@@ -104,7 +109,7 @@ impl fmt::Display for Refusal {
         out.write_str(match self {
             Refusal::TooManyObjects => "The chart has more than 16,384 objects.",
             Refusal::LengthsDiffer => {
-                "The program gave a kind, a start, a delta or a ratio for some objects only."
+                "The program gave a kind, a time, a start, a delta or a ratio for some objects only."
             }
             Refusal::SliceTooShort => "The program gave too little memory for this chart.",
             Refusal::BadKind { .. } => "is neither a Center, a Rim nor a NonHit.",
@@ -123,6 +128,7 @@ impl fmt::Display for Refusal {
             Refusal::OutsideChart => {
                 "The passage or rhythm group that was asked for is not in the chart."
             }
+            Refusal::BadRate => "The clock rate in the settings is not from 0.25 to 4.",
         })
     }
 }

@@ -29,7 +29,7 @@ pub struct Workspace {
     values: Vec<f64>,
 }
 
-fn accepted(number: u64, place: u64) -> Result<(), Refusal> {
+pub(crate) fn accepted(number: u64, place: u64) -> Result<(), Refusal> {
     match Refusal::of(number, place) {
         None => Ok(()),
         Some(refusal) => Err(refusal),
@@ -37,7 +37,7 @@ fn accepted(number: u64, place: u64) -> Result<(), Refusal> {
 }
 
 /// Makes room for n answers. Of a chart that is too large nothing is asked, since it is refused by its size.
-fn room<T: Copy + Default>(answers: &mut Vec<T>, n: usize) {
+pub(crate) fn room<T: Copy + Default>(answers: &mut Vec<T>, n: usize) {
     answers.resize(n.min(LARGEST_CHART), T::default());
 }
 

@@ -1,4 +1,4 @@
-//! Every refusal that the safe calls can meet, charts without objects, and a workspace that is used again.
+//! Every refusal that the calls on a chart can meet, the words of all, charts without objects, and a workspace that is used again.
 
 use std::error::Error;
 use std::ops::Range;
@@ -27,7 +27,7 @@ impl Lists {
     }
 }
 
-/// What each of the five calls says.
+/// What each of the five calls on a chart says.
 fn refusals(chart: &Chart) -> [Option<Refusal>; 5] {
     let mut workspace = Workspace::new();
     [
@@ -106,6 +106,7 @@ fn refusals_read_as_sentences_and_have_their_numbers() {
         Refusal::BadRatio { object: 4 },
         Refusal::BadWindow,
         Refusal::OutsideChart,
+        Refusal::BadRate,
     ];
     for (number, refusal) in (1..).zip(all) {
         assert_eq!(refusal.number(), number);

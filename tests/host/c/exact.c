@@ -1,4 +1,4 @@
-/* All five calls on heap memory of exactly the size that they need, for a tool that watches the heap's bounds.
+/* All six calls on heap memory of exactly the size that they need, for a tool that watches the heap's bounds.
  * Prints `ok`, or each line that fails. */
 #include "dresserduck.h"
 
@@ -41,6 +41,22 @@ static struct chart chart_of(size_t n)
     return c;
 }
 
+/* Builds the chart anew, of m raw objects in two blocks of their own. */
+static void build_exactly(const struct chart *c, size_t m)
+{
+    uint8_t *kinds = (uint8_t *)block(m, sizeof *kinds);
+    double *times = (double *)block(m, sizeof *times);
+    for (size_t i = 0; i < m; i++) {
+        kinds[i] = (uint8_t)(i % 3);
+        times[i] = (double)(i * i % 1000);
+    }
+    dresserduck_built got =
+        dresserduck_build(kinds, m, times, m, 0.75, c->kind, c->n, c->start, c->n, c->delta, c->n, c->ratio, c->n);
+    CHECK(got.refusal == DRESSERDUCK_ACCEPTED && got.objects == c->n);
+    free(kinds);
+    free(times);
+}
+
 #define CHART c->kind, c->n, c->start, c->n, c->delta, c->n, c->ratio, c->n
 
 static void encode_exactly(const struct chart *c, uint16_t *work, double *scratch)
@@ -81,22 +97,33 @@ static void group_exactly(const struct chart *c, uint16_t *work, double *scratch
     free(pattern);
 }
 
+/* The five calls on a chart. */
+static void ask_exactly(const struct chart *c)
+{
+    uint16_t *work = (uint16_t *)block(8 * c->n, sizeof *work);
+    double *scratch = (double *)block(c->n, sizeof *scratch);
+    encode_exactly(c, work, scratch);
+    score_exactly(c, work, scratch);
+    group_exactly(c, work, scratch);
+    free(work);
+    free(scratch);
+}
+
 int main(void)
 {
     static const size_t sizes[] = {0, 1, 2, 3, 6, 7, 8, 31, 200};
     for (size_t i = 0; i < sizeof sizes / sizeof sizes[0]; i++) {
         struct chart c = chart_of(sizes[i]);
-        uint16_t *work = (uint16_t *)block(8 * c.n, sizeof *work);
-        double *scratch = (double *)block(c.n, sizeof *scratch);
-        encode_exactly(&c, work, scratch);
-        score_exactly(&c, work, scratch);
-        group_exactly(&c, work, scratch);
+        ask_exactly(&c);
+        /* up to two raw objects build a chart of none */
+        for (size_t m = c.n == 0 ? 0 : c.n + 2; m <= c.n + 2; m++) {
+            build_exactly(&c, m);
+        }
+        ask_exactly(&c);
         free(c.kind);
         free(c.start);
         free(c.delta);
         free(c.ratio);
-        free(work);
-        free(scratch);
     }
     return finish();
 }

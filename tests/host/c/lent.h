@@ -9,6 +9,8 @@
 static struct {
     uint16_t numbers[5][PLACES]; /* encode's, in the order of the call; rhythm fills the first two */
     uint8_t interval[PLACES];
+    uint8_t built_kind[PLACES];
+    double built[3][PLACES]; /* starts, deltas and ratios */
     double value[PLACES];
     uint16_t work[WORK_PLACES];
     double scratch[PLACES];

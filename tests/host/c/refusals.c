@@ -1,4 +1,4 @@
-/* Every refusal from C, by every call that can give it: its number and place, and no lent place written.
+/* Every refusal from C, by every call on a chart that can give it: its number and place, and no lent place written.
  * Prints `ok`, or each line that fails. */
 #include "dresserduck.h"
 

@@ -1,5 +1,6 @@
 //! The exports of libdresserduck.a over a chart and lent memory whose every place is known, and the scope's words beside them.
 
+pub mod build;
 pub mod chart;
 pub mod check;
 pub mod colour;
@@ -8,6 +9,7 @@ pub mod landmark;
 pub mod lent;
 pub mod pairs;
 pub mod plain;
+pub mod plain_build;
 pub mod plain_colour;
 pub mod plain_rhythm;
 pub mod rhythm;
@@ -16,7 +18,7 @@ pub mod samples;
 mod xorshift;
 
 pub use dresserduck::calls::Encoded;
-pub use dresserduck::LARGEST_CHART;
+pub use dresserduck::{LARGEST_CHART, LARGEST_RAW_CHART};
 
 use chart::Chart;
 use dresserduck::calls;

@@ -1,5 +1,6 @@
-//! Charts to try, drawn from a seed.
+//! Charts and raw objects to try, drawn from a seed.
 
+use crate::build::Raw;
 use crate::chart::Chart;
 
 pub use crate::xorshift::Xorshift;
@@ -158,4 +159,106 @@ pub fn rhythmic_chart(random: &mut Xorshift, n: usize) -> Chart {
     chart.delta = deltas(random, n);
     chart.start = starts(random, &chart.delta);
     chart
+}
+
+/// Raw objects that are written one after the other, at times about zero.
+struct Beats<'a> {
+    random: &'a mut Xorshift,
+    times: Vec<f64>,
+    now: f64,
+    step: f64,
+}
+
+/// So near that at rate 0.25, too, no start and no delta is too far.
+const FARTHEST: f64 = 1_048_576.0;
+
+impl Beats<'_> {
+    /// The next object, this long after the last; from zero where that is too far.
+    fn after(&mut self, step: f64) {
+        let next = self.now + step;
+        self.now = if next.abs() > FARTHEST { 0.0 } else { next };
+        self.step = step;
+        self.times.push(self.now);
+    }
+
+    /// Steps of common lengths, or one back in time.
+    fn rhythm(&mut self) {
+        let beat = self.random.pick(&[96.0, 125.0, 150.0, 333.25, -75.0]);
+        for _ in 0..self.random.between(1, 6) {
+            let part = self.random.pick(&[1.0, 1.0, 0.5, 2.0, 3.0, 1.5, 0.25, 0.1]);
+            self.after(beat * part);
+        }
+    }
+
+    /// From a whole millisecond a step, and one whose quotient lies halfway between two common ratios, or nearly so.
+    fn tie(&mut self) {
+        let halves = [1.125, 1.375, 1.75, 2.5, 0.9, 5.0 / 12.0, 7.0 / 12.0];
+        let quotient = self.random.pick(&halves);
+        let whole = 8.0 * self.random.between(1, 60) as f64;
+        self.after(self.now.round() - self.now);
+        self.after(whole);
+        self.after(whole * quotient);
+    }
+
+    /// A tiny step up to zero, and one about 2^51 to 2^60 times as long, either way. Around these quotients the distances from
+    /// the common ratios round to a few values.
+    fn leap(&mut self) {
+        let exponent = self.random.between(51, 60) as i32;
+        let digits = 1.0 + self.random.pick(&[0.0, 1.0, 2.0, 3.0, 5.0]) * f64::EPSILON;
+        let sign = self.random.pick(&[1.0, -1.0]);
+        let tiny = 2f64.powi(19 - exponent);
+        self.times.extend([-tiny, 0.0]);
+        self.now = 0.0;
+        self.after(sign * digits * 2f64.powi(19));
+    }
+
+    fn part(&mut self) {
+        match self.random.below(8) {
+            0..=3 => self.rhythm(),
+            4 => (0..self.random.between(1, 3)).for_each(|_| self.after(0.0)),
+            5 => self.after(-self.step),
+            6 => self.tie(),
+            _ => self.leap(),
+        }
+    }
+}
+
+/// From 0.25 to 4.0, mostly one that players know.
+fn rate(random: &mut Xorshift) -> f64 {
+    let drawn = 0.25 + 3.75 * random.below(1 << 30) as f64 / (1 << 30) as f64;
+    random.pick(&[0.25, 4.0, 0.75, 1.0, 1.0, 1.5, 1.5, drawn, drawn])
+}
+
+/// One value that is refused, unless it stands where it isn't read.
+fn spoil(random: &mut Xorshift, raw: &mut Raw) {
+    let object = random.below(raw.kind.len().max(1));
+    let times = [f64::NAN, f64::INFINITY, f64::MIN, -67_108_865.0];
+    match (random.below(4), raw.kind.get_mut(object)) {
+        (1, Some(kind)) => *kind = 3,
+        (2 | 3, Some(_)) => raw.time[object] = random.pick(&times),
+        _ => raw.rate = random.pick(&[0.0, -1.0, 4.5, f64::NAN, f64::INFINITY]),
+    }
+}
+
+/// m raw objects, which build a chart but for one time in sixteen: rhythms, objects at one time, times that fall, and deltas whose
+/// quotients lie between two common ratios or far from all.
+pub fn raw_chart(random: &mut Xorshift, m: usize) -> Raw {
+    let kind = biased_chart(random, m).kind;
+    let rate = rate(random);
+    let mut beats = Beats {
+        random,
+        times: Vec::new(),
+        now: 0.0,
+        step: 0.0,
+    };
+    while beats.times.len() < m {
+        beats.part();
+    }
+    let mut time = beats.times;
+    time.truncate(m);
+    let mut raw = Raw { kind, time, rate };
+    if random.once_in(16) {
+        spoil(random, &mut raw);
+    }
+    raw
 }

@@ -1,8 +1,11 @@
 //! include/dresserduck.h says what the library exports: the same calls and records, with the same names and types in the same order.
+//! Its numbers are those of the Rust crate.
 
 use std::collections::BTreeMap;
 use std::fs;
 use std::path::Path;
+
+use dresserduck::Refusal;
 
 /// A call's arguments or a record's fields, in C, by its name. A call's answer stands first.
 type Declared = BTreeMap<String, Vec<String>>;
@@ -124,8 +127,49 @@ fn the_header_declares_what_is_exported() {
     let (exported_records, exported_calls) = in_source(&texts_in("crates/dresserduck/src"));
     assert_eq!(records, exported_records);
     assert_eq!(calls, exported_calls);
-    assert_eq!((records.len(), calls.len()), (5, 5), "{:?}", calls.keys());
+    assert_eq!((records.len(), calls.len()), (6, 6), "{:?}", calls.keys());
     let fields: usize = records.values().map(Vec::len).sum();
     let arguments: usize = calls.values().map(|call| call.len() - 1).sum();
-    assert_eq!((fields, arguments), (24, 84), "fields and arguments");
+    assert_eq!((fields, arguments), (27, 97), "fields and arguments");
+}
+
+/// The names in the header's enums without what all begin with, and their numbers.
+fn numbers(header: &str) -> BTreeMap<String, u64> {
+    let code = without_comments(header);
+    let enums = all_between(&code, "enum {", "}").into_iter();
+    let items = enums.flat_map(|text| text.split(','));
+    let number = |item: &str| {
+        let (name, number) = item.split_once('=').expect("a name and its number");
+        let name = name.trim().strip_prefix("DRESSERDUCK_");
+        let number = number.trim().parse().expect("a number");
+        (name.expect("a name of the library").to_string(), number)
+    };
+    items.map(number).collect()
+}
+
+#[test]
+fn the_headers_numbers_are_those_of_the_rust_crate() {
+    let object = 0;
+    let want = [
+        ("CENTER", dresserduck::CENTER.into()),
+        ("RIM", dresserduck::RIM.into()),
+        ("NON_HIT", dresserduck::NON_HIT.into()),
+        ("NO_GROUP", dresserduck::NO_GROUP.into()),
+        ("LARGEST_CHART", dresserduck::LARGEST_CHART as u64),
+        ("LARGEST_RAW_CHART", dresserduck::LARGEST_RAW_CHART as u64),
+        ("ACCEPTED", 0),
+        ("TOO_MANY_OBJECTS", Refusal::TooManyObjects.number()),
+        ("LENGTHS_DIFFER", Refusal::LengthsDiffer.number()),
+        ("SLICE_TOO_SHORT", Refusal::SliceTooShort.number()),
+        ("BAD_KIND", Refusal::BadKind { object }.number()),
+        ("BAD_START", Refusal::BadStart { object }.number()),
+        ("BAD_DELTA", Refusal::BadDelta { object }.number()),
+        ("BAD_RATIO", Refusal::BadRatio { object }.number()),
+        ("BAD_WINDOW", Refusal::BadWindow.number()),
+        ("BAD_STRETCH", Refusal::OutsideChart.number()),
+        ("BAD_GROUP", Refusal::OutsideChart.number()),
+        ("BAD_RATE", Refusal::BadRate.number()),
+    ];
+    let want = want.map(|(name, number)| (name.to_string(), number));
+    assert_eq!(numbers(&texts_in("include")), BTreeMap::from(want));
 }

@@ -1,4 +1,4 @@
-//! The exports by their C names, with pointers and counts that no list of Rust's has.
+//! The exports on a chart by their C names, with pointers and counts that no list of Rust's has.
 
 use std::ptr::{dangling, dangling_mut};
 
