@@ -1,13 +1,13 @@
 -- What the built lists hold, place by place: their lengths, and the ratios by the deltas.
 use mathlib.Core.Path.{_≡_, refl, sym, _∙_}
-use mathlib.Core.List.{List, [], _∷_}
+use mathlib.Core.List.{List}
 use Prim.Native.Nat.{ℕ, zero, suc, _-_, _≤_, _<_}
 use native.Mathlib.Omega.{arith}
 use lib.ListN.{length, getD, set, length-set}
 use lib.Seq.{getD-set-same}
 use lib.Ieee.{Float, nan, binary64, div}
 use Rattle.lent.specs.Over.{over}
-use Rattle.lent.specs.Scan.{tabulate}
+use Rattle.lent.proofs.OverLaws.{drop-over}
 use Rattle.lent.proofs.FillLaws.{Fill, fill-from, length-tabulate, getD-tabulate}
 use Rattle.numeric.specs.Constants.{one64}
 use Rattle.call_build.specs.Ratio.{nearestRatio}
@@ -42,6 +42,4 @@ first-stored deltas old h r =
     (λ j l. let e : j ≡ 0 = omega arith in rw (e) (first-ratio deltas h ∙ sym (getD-set-same old 0 one64 nan (omega arith))))
 
 pub none-built : (deltas old : List Float) → length deltas ≡ 0 → old ≡ over (builtRatios deltas) old
-unfolding over tabulate
-none-built [] old e = refl
-none-built (d ∷ ds) old e = absurd (omega arith)
+none-built deltas old e = sym (drop-over (builtRatios deltas) old 0 (omega (arith, length-ratios deltas)))

@@ -10,21 +10,21 @@ use lib.Seq.{getD-drop, drop-nil, take-all}
 use lib.Ieee.{Float, nan, le}
 use Rattle.lent.proofs.FillLaws.{length-tabulate, getD-tabulate}
 use Rattle.numeric.specs.Constants.{one64}
-use Rattle.numeric.specs.Range.{within}
 use Rattle.grouping_chart.specs.Chart.{size}
 use Rattle.grouping_chart.specs.Refusal.{kindGood, timeGood, ratioGood, objectRefusal, objectsVerdict}
 use Rattle.grouping_chart.specs.declared.refusal.Verdict.the-variants.{Accepted}
 use Rattle.grouping_chart.specs.passes.Good.{SameLengths, all, allGood}
+use Rattle.grouping_chart.proofs.RangeLaws.{good-ratio}
 use Rattle.grouping_chart.proofs.RefusalLaws.{refusal-ratio}
 use Rattle.grouping_chart.proofs.AllLaws.{both-true, each-all}
-use Rattle.grouping_chart.proofs.AcceptedLaws.{all-good-accepted}
+use Rattle.grouping_chart.proofs.AcceptedLaws.{lists-good, all-good-accepted}
 use Rattle.call_build.specs.Build.{Raw, startAt, deltaAt, ratioAt, builtSize, builtStarts, builtDeltas, builtChart}
 use Rattle.call_build.proofs.BuiltLaws.{length-ratios}
 use Rattle.call_build.proofs.RatioLaws.{nearest-common, common-good}
 
 one-good : ratioGood one64 ≡ true
-unfolding ratioGood within le
-one-good = refl
+unfolding le
+one-good = good-ratio one64 tt tt
 
 ratio-good : (deltas : List Float) (i : ℕ) → ratioGood (ratioAt deltas i) ≡ true
 unfolding ratioAt
@@ -69,8 +69,8 @@ module _ (rate : Float) (r : Raw) where
   good-lists : all kindGood (drop 2 (r .kinds)) ≡ true → all timeGood (builtStarts rate (r .times) (builtSize r)) ≡ true
       → all timeGood (builtDeltas rate (r .times) (builtSize r)) ≡ true → all ratioGood (builtChart rate r .ratios) ≡ true
       → allGood (builtChart rate r .kinds) (builtChart rate r .starts) (builtChart rate r .deltas) (builtChart rate r .ratios) ≡ true
-  unfolding allGood builtChart
-  good-lists a b c d = rw (a, b, c, d)
+  unfolding builtChart
+  good-lists a b c d = lists-good _ _ _ _ a b c d
 
   pub good-built : {n : ℕ} {k s d : Bool} → builtSize r ≡ n → k ≡ all kindGood (drop 2 (r .kinds)) → s ≡ all timeGood (builtStarts rate (r .times) n)
       → d ≡ all timeGood (builtDeltas rate (r .times) n) → (k && (s && d)) ≡ true → Accepted ≡ objectsVerdict (builtChart rate r)

@@ -9,14 +9,14 @@ use native.Mathlib.Omega.{arith}
 use lib.Dec.{T}
 use lib.ListN.{length, getD, length-append, List·getD-append}
 use lib.Seq.{getD-at}
-use lib.Ieee.{Float, nan, round}
+use lib.Ieee.{Float, nan}
 use lib.Ieee.Scale.{finite}
 use denote.Floats.{passes}
 use Rattle.numeric.specs.Near.{isNearer}
-use Rattle.grouping_chart.specs.passes.Good.{all}
 use Rattle.grouping_chart.proofs.AllLaws.{all-each}
 use Rattle.numeric.proofs.near.Nearer.{nearer-other, nearer-past}
-use Rattle.call_build.specs.Ratio.{quotient, firstRatio, laterRatios, commonRatios, nearerOf, nearestOf, nearestRatio, FirstNearest}
+use Rattle.call_build.specs.Ratio.{firstRatio, laterRatios, commonRatios, nearerOf, nearestOf, nearestRatio, FirstNearest}
+use Rattle.call_build.proofs.RatioLaws.{all-finite}
 
 abbrev Finite : List Float → Type 0
 Finite rs = (i : ℕ) → i < length rs → T (finite (getD rs i nan))
@@ -98,14 +98,7 @@ alone q r = record {
   least = λ i h. let e : i ≡ 0 = omega arith in rw (e) (not-nearer q r);
 }
 
-tested : all finite commonRatios ≡ true
-unfolding all quotient round
-tested = refl
-
-all-finite : Finite commonRatios
-all-finite i h = passes _ (all-each finite commonRatios tested i nan h)
-
 -- for every quotient, a NaN and the infinities among them
 pub nearest-first : (q : Float) → FirstNearest q commonRatios (nearestRatio q)
 unfolding nearestRatio
-nearest-first q = steps q (firstRatio ∷ []) laterRatios firstRatio all-finite (alone q firstRatio)
+nearest-first q = steps q (firstRatio ∷ []) laterRatios firstRatio (λ i h. passes _ (all-each finite commonRatios all-finite i nan h)) (alone q firstRatio)

@@ -1,4 +1,4 @@
--- The common ratios by their bits; the nearest of them is one of them, and none is refused.
+-- The common ratios by their bits; the nearest of them is one of them, and none is refused: a test that each of the nine passes all pass.
 use mathlib.Core.Path.{_≡_, refl}
 use mathlib.Core.Bool.{Bool, true, false, cond}
 use mathlib.Core.List.{List, [], _∷_}
@@ -7,11 +7,12 @@ use native.Mathlib.Omega.{arith}
 use native.Mathlib.Nat.{zero-lt-suc}
 use lib.ListN.{length, getD}
 use lib.Ieee.{Float, nan, binary64, ofBits, round, le}
+use lib.Ieee.Scale.{finite}
 use Rattle.numeric.specs.Near.{isNearer}
-use Rattle.numeric.specs.Range.{within}
 use Rattle.grouping_chart.specs.Refusal.{ratioGood}
 use Rattle.grouping_chart.specs.passes.Good.{all}
-use Rattle.grouping_chart.proofs.AllLaws.{all-each}
+use Rattle.grouping_chart.proofs.AllLaws.{all-none, all-more, all-each}
+use Rattle.grouping_chart.proofs.RangeLaws.{good-ratio}
 use Rattle.call_build.specs.Ratio.{quotient, laterRatios, commonRatios, nearerOf, nearestOf, nearestRatio}
 
 -- 1, 2, 0.5, 3, 0.333…, 1.5, 0.666…, 1.25 and 0.8, as the code has them
@@ -53,9 +54,31 @@ nearest-common q =
 
 -- ---- none is refused
 
+-- a test that each of the nine passes
+nine-pass : (test : Float → Bool) → test (quotient 1 1) ≡ true → test (quotient 2 1) ≡ true → test (quotient 1 2) ≡ true → test (quotient 3 1) ≡ true
+    → test (quotient 1 3) ≡ true → test (quotient 3 2) ≡ true → test (quotient 2 3) ≡ true → test (quotient 5 4) ≡ true → test (quotient 4 5) ≡ true
+    → all test commonRatios ≡ true
+nine-pass test a b c d e f g h i =
+    all-more test _ _ a
+    (all-more test _ _ b
+    (all-more test _ _ c
+    (all-more test _ _ d
+    (all-more test _ _ e
+    (all-more test _ _ f
+    (all-more test _ _ g
+    (all-more test _ _ h
+    (all-more test _ _ i (all-none test)))))))))
+
 all-good : all ratioGood commonRatios ≡ true
-unfolding all ratioGood within quotient round le
-all-good = refl
+unfolding quotient round le
+all-good =
+    nine-pass ratioGood (good-ratio _ tt tt) (good-ratio _ tt tt) (good-ratio _ tt tt) (good-ratio _ tt tt) (good-ratio _ tt tt) (good-ratio _ tt tt)
+    (good-ratio _ tt tt) (good-ratio _ tt tt) (good-ratio _ tt tt)
+
+-- they are finite
+pub all-finite : all finite commonRatios ≡ true
+unfolding quotient round
+all-finite = nine-pass finite refl refl refl refl refl refl refl refl refl
 
 pub common-good : {r : Float} → Common r → ratioGood r ≡ true
 common-good c = rw (c .is) (all-each ratioGood commonRatios all-good (c .place) nan (c .inside))

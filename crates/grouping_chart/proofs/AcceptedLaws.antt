@@ -15,7 +15,7 @@ use Rattle.grouping_chart.specs.declared.refusal.Verdict.{Verdict}
 use Rattle.grouping_chart.specs.declared.refusal.Verdict.the-variants.{Accepted, Refused}
 use Rattle.grouping_chart.specs.Chart.{Chart, equallyLong}
 use Rattle.grouping_chart.specs.Refusal.{kindGood, timeGood, ratioGood, objectRefusal, firstRefused, inOrder, verdict}
-use Rattle.grouping_chart.specs.passes.Good.{SameLengths, allGood}
+use Rattle.grouping_chart.specs.passes.Good.{SameLengths, all, allGood}
 use Rattle.grouping_chart.proofs.AllLaws.{both-true, all-each}
 use Rattle.grouping_chart.proofs.RefusalLaws.{all-equal, verdict-objects}
 
@@ -89,6 +89,12 @@ good-objects j (k ∷ ks) (s ∷ ss) (d ∷ ds) (r ∷ rs) g =
     let here : objectRefusal k s d r ≡ 0 = good-object (g 0 nan (omega arith)) in
     let later : firstRefused (j + 1) ks ss ds rs ≡ Accepted = good-objects (j + 1) ks ss ds rs (λ i z h. g (suc i) z (omega arith)) in
     rw here later
+
+-- all lists are good where each is
+pub lists-good : (kinds : List ℕ) (starts deltas ratios : List Float) → all kindGood kinds ≡ true → all timeGood starts ≡ true → all timeGood deltas ≡ true
+    → all ratioGood ratios ≡ true → allGood kinds starts deltas ratios ≡ true
+unfolding allGood
+lists-good kinds starts deltas ratios a b c d = rw (a, b, c, d)
 
 -- where all lists are good no object is refused
 pub all-good-accepted : (kinds : List ℕ) (starts deltas ratios : List Float) → SameLengths (length kinds) starts deltas ratios

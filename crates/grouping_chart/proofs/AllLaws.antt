@@ -39,6 +39,15 @@ module _ {A : Type 0} {test : A → Bool} {xs : List A} {good : Bool} {i : ℕ} 
       let over : all test (drop i xs) ≡ true = rw (drop-of-length-le xs h) in
       sym (and-true good) ∙ rw over at (x .left)
 
+-- of a list, one element at a time
+pub all-none : {A : Type 0} (test : A → Bool) → all test [] ≡ true
+unfolding all
+all-none test = refl
+
+pub all-more : {A : Type 0} (test : A → Bool) (x : A) (xs : List A) → test x ≡ true → all test xs ≡ true → all test (x ∷ xs) ≡ true
+unfolding all
+all-more test x xs e f = rw (e, f)
+
 -- where all pass, each does
 pub all-each : {A : Type 0} (test : A → Bool) (xs : List A) → all test xs ≡ true → (i : ℕ) (d : A) → i < length xs → test (getD xs i d) ≡ true
 unfolding all

@@ -2,61 +2,10 @@
 
 use host_tests::chart::Chart;
 use host_tests::lent::{exact_sizes, Lent};
-use host_tests::plain::Answers;
-use host_tests::rhythm::Recorded;
 use host_tests::samples::Xorshift;
 use host_tests::{colour, encode, rhythm, Encoded};
 
-/// What the original says of a chart.
-pub struct Original {
-    chart: oracle::chart::Chart,
-    rhythm: oracle::chart::Rhythm,
-}
-
-// Its NaNs are all alike.
-fn bits(x: f64) -> u64 {
-    if x.is_nan() {
-        0x7FF8_0000_0000_0000
-    } else {
-        x.to_bits()
-    }
-}
-
-impl Original {
-    pub fn of(chart: &Chart) -> Self {
-        let chart =
-            oracle::chart::Chart::new(&chart.kind, &chart.start, &chart.delta, &chart.ratio);
-        let rhythm = chart.rhythm();
-        Original { chart, rhythm }
-    }
-
-    fn encoding(&self) -> Answers {
-        let encoding = self.chart.encode();
-        let column = |k: usize| encoding.rows.iter().map(move |row| row[k]);
-        Answers {
-            numbers: [0, 1, 2, 3, 4].map(|k| column(k).map(|x| x as u16).collect()),
-            interval: column(5).map(|x| x as u8).collect(),
-            hit_patterns: encoding.hit_patterns as u64,
-        }
-    }
-
-    fn record(&self, group: usize, window: f64) -> Recorded {
-        let record = self.rhythm.record(group, window);
-        Recorded {
-            refusal: 0,
-            place: 0,
-            first_note: record.first as u64,
-            note_count: record.count as u64,
-            has_own: u64::from(record.own.is_some()),
-            own_bits: record.own.map_or(0, bits),
-            ratio_bits: bits(record.ratio),
-            interval_bits: bits(record.interval),
-            penalty_bits: bits(record.penalty),
-            pattern_group: record.pattern as u64,
-            pattern_ratio_bits: bits(record.pattern_ratio),
-        }
-    }
-}
+use crate::original::Original;
 
 #[track_caller]
 fn compare_encode(chart: &Chart, original: &Original, spare: usize) {
@@ -133,12 +82,11 @@ fn compare_record(chart: &Chart, original: &Original, group: usize, window: f64)
 }
 
 /// How many objects all calls together were asked about. A difference panics.
-pub fn compare(chart: &Chart, random: &mut Xorshift) -> usize {
-    let original = Original::of(chart);
+pub fn compare(chart: &Chart, original: &Original, random: &mut Xorshift) -> usize {
     let (n, spare) = (chart.size(), random.below(8));
-    compare_encode(chart, &original, spare);
-    let values = compare_colour(chart, &original, spare);
-    compare_rhythm(chart, &original, spare);
+    compare_encode(chart, original, spare);
+    let values = compare_colour(chart, original, spare);
+    compare_rhythm(chart, original, spare);
     let mut calls = 3;
     if n > 0 {
         let a = random.below(n);
@@ -153,7 +101,7 @@ pub fn compare(chart: &Chart, random: &mut Xorshift) -> usize {
             _ => random.below(groups),
         };
         let window = random.pick(&[1.0, 19.5, 35.0, 80.0, 333.25, 1000.0]);
-        compare_record(chart, &original, group, window);
+        compare_record(chart, original, group, window);
         calls += 1;
     }
     calls * n

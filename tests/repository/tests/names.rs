@@ -20,7 +20,7 @@ const DOCUMENTS: [&str; 11] = [
 ];
 
 /// What the original has and the tree has not.
-const ORIGINAL: [&str; 11] = [
+const ORIGINAL: [&str; 13] = [
     "ColorDifficultyPreprocessor",
     "HashMap",
     "RefCount",
@@ -29,9 +29,11 @@ const ORIGINAL: [&str; 11] = [
     "VecDeque",
     "Weak",
     "almost_eq",
+    "create_difficulty_objects",
     "exp",
     "previous_note",
     "smootherstep",
+    "total_cmp",
 ];
 
 /// Words of the kit, and of promises.

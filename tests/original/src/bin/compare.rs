@@ -1,11 +1,14 @@
-//! Draws charts from a seed and compares what the library and the original say of them, until so many objects were asked about.
+//! Draws charts, and raw objects to build charts of, from a seed and compares what the library and the original say of them, until so
+//! many objects were asked about.
 
 use std::env;
 
 use host_tests::chart::Chart;
-use host_tests::samples::{ratios, rhythmic_chart, Xorshift};
+use host_tests::samples::{ratios, raw_chart, rhythmic_chart, Xorshift};
 use host_tests::LARGEST_CHART;
 use original_tests::answers::compare;
+use original_tests::built::compare_built;
+use original_tests::original::Original;
 
 /// Mostly short charts, some of thousands of objects, now and then one of the largest size.
 fn size(random: &mut Xorshift) -> usize {
@@ -24,6 +27,16 @@ fn drawn(random: &mut Xorshift) -> Chart {
     chart
 }
 
+/// A chart as it is drawn, or one that is built of raw objects.
+fn asked(random: &mut Xorshift, built: bool) -> usize {
+    if built {
+        let m = size(random) + 2;
+        return compare_built(&raw_chart(random, m), random);
+    }
+    let chart = drawn(random);
+    compare(&chart, &Original::of(&chart), random)
+}
+
 fn argument(place: usize, name: &str) -> u64 {
     let word = env::args().nth(place);
     let number = word.as_deref().and_then(|word| word.parse().ok());
@@ -33,11 +46,14 @@ fn argument(place: usize, name: &str) -> u64 {
 fn main() {
     let (seed, wanted) = (argument(1, "SEED"), argument(2, "OBJECTS"));
     let mut random = Xorshift::new(seed);
-    let (mut charts, mut objects) = (0, 0);
+    let (mut charts, mut built, mut objects) = (0, 0, 0);
     while objects < wanted {
-        let chart = drawn(&mut random);
-        objects += compare(&chart, &mut random) as u64;
+        let raw = random.once_in(3);
+        objects += asked(&mut random, raw) as u64;
         charts += 1;
+        built += u64::from(raw);
     }
-    println!("seed {seed}: {charts} charts, {objects} objects over all calls, no difference");
+    println!(
+        "seed {seed}: {charts} charts, {built} of them built of raw objects, {objects} objects over all calls, no difference"
+    );
 }
