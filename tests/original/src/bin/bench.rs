@@ -3,11 +3,12 @@
 use std::hint::black_box;
 use std::time::Instant;
 
-use dresserduck::{Chart, Encoding, Refusal, Rhythm, Workspace};
+use dresserduck::{BuiltChart, Chart, Encoding, RawChart, Refusal, Rhythm, Workspace};
 
 const SIZES: [usize; 3] = [100, 1_000, 16_384];
 const CALLS: [&str; 4] = ["encode", "colour", "rhythm", "record"];
 const WINDOW: f64 = 50.0;
+const RATE: f64 = 1.5;
 
 struct Lists {
     kind: Vec<u8>,
@@ -187,7 +188,67 @@ fn growth(small: &[Lists], large: &[Lists]) -> [f64; 4] {
     })
 }
 
-fn row(numbers: [f64; 4]) -> String {
+/// Raw objects with these kinds, a delta apart, about the time 0; two more stand in front.
+struct Raw {
+    kind: Vec<u8>,
+    time: Vec<f64>,
+}
+
+impl Raw {
+    fn of(lists: &Lists) -> Self {
+        let begin = -lists.delta.iter().sum::<f64>() / 2.0;
+        let later = lists.delta.iter().scan(begin, |now, delta| {
+            *now += delta;
+            Some(*now)
+        });
+        Raw {
+            kind: [0, 0].iter().chain(&lists.kind).copied().collect(),
+            time: [begin - 100.0, begin].into_iter().chain(later).collect(),
+        }
+    }
+
+    fn chart(&self) -> RawChart<'_> {
+        RawChart::new(&self.kind, &self.time, RATE)
+    }
+
+    fn originals(&self) -> oracle::chart::Chart {
+        oracle::chart::Chart::build(&self.kind, &self.time, RATE)
+    }
+}
+
+/// Build, and build with colour, as an editor asks at each edit: how often the library's time is in the original's.
+fn built_ratios(set: &[Lists]) -> [f64; 2] {
+    let raws: Vec<Raw> = set.iter().map(Raw::of).collect();
+    let (mut room, mut built) = (Room::default(), BuiltChart::default());
+    [false, true].map(|coloured| {
+        let mut original = || {
+            for raw in &raws {
+                let chart = raw.originals();
+                if coloured {
+                    chart.process_color();
+                    black_box(chart.colour());
+                }
+                black_box(chart);
+            }
+        };
+        let mut library = || {
+            for raw in &raws {
+                raw.chart()
+                    .build_into(&mut built)
+                    .expect("good raw objects");
+                if coloured {
+                    let values = room.workspace.colour_into(&built.chart(), &mut room.values);
+                    values.expect("a good chart");
+                }
+                black_box(&mut built);
+            }
+        };
+        let [theirs, ours] = medians(&mut original, &mut library);
+        theirs / ours
+    })
+}
+
+fn row<const COLUMNS: usize>(numbers: [f64; COLUMNS]) -> String {
     numbers.map(|x| format!("{x:.1}")).join(" | ")
 }
 
@@ -198,6 +259,13 @@ fn main() {
     for n in SIZES {
         for (name, set) in charts(n) {
             println!("| {name} | {n} | {} |", row(ratios(&set)));
+        }
+    }
+    println!("\nOf raw objects, how many times as fast as the original:\n");
+    println!("| chart | objects | build | build and colour |\n|---|---|---|---|");
+    for n in SIZES {
+        for (name, set) in charts(n) {
+            println!("| {name} | {n} | {} |", row(built_ratios(&set)));
         }
     }
     println!("\nThe library's time at 16,384 objects over that at 1,000:\n");
