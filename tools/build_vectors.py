@@ -104,7 +104,7 @@ def chart(rng, rate, m, style):
 def charts():
     rng = random.Random(SEED)
     styles = itertools.cycle(STYLES)
-    for m in itertools.chain([0] * 8, [1] * 8, [2] * 8, range(3, 11), range(3, 11), range(15, LONGEST + 1, 15)):
+    for m in itertools.chain([0] * 8, [1] * 8, [2] * 8, range(3, 12), range(3, 12), range(15, LONGEST + 1, 15)):
         for _ in range(1 if m < 3 else 4):
             yield chart(rng, rng.choice([*RATES, rng.uniform(0.25, 4.0)]), m, next(styles))
     yield chart(rng, 1.5, MOST + 2, in_ratio)
