@@ -6,7 +6,7 @@ usage: build_vectors.py ORACLE OUT
 
 The form is that of vectors.py: numbers have their low byte first, a float is the number of its bits, and a case is a head and a body:
   call 6, build: raw objects m (2), rate (8), raw kinds (m), raw times (8m), and of the chart that is built: kinds (n), starts (8n),
-                 deltas (8n), ratios (8n); n is m - 2, or 0 where m is below 2
+                 deltas (8n), ratios (8n); n is m - 2, or 0 where m is below 2, and the width is 8
 """
 import itertools
 import math
@@ -112,7 +112,7 @@ def charts():
 
 
 def request(kinds, times, rate):
-    """What is not read stands in for what the protocol can't say."""
+    """Kinds above 2, which the protocol can't say, and the first time have stand-ins: they are not read."""
     said = "".join(str(min(kind, 2)) for kind in kinds)
     return f"build {len(kinds)} {bits(rate)}\n{said}\n{words([0.0] * len(times[:1]) + times[1:])}\n"
 
@@ -168,8 +168,9 @@ def check(charts, answers):
     split = [d != t / rate - u / rate for (_, times, rate), (_, deltas, _) in zip(charts, columns)
              for u, t, d in zip(times[1:], times[2:], deltas)]
     assert any(split), "no delta differs from the difference of the starts"
-    assert any(max(kinds[:2], default=0) > 2 for kinds, *_ in charts)
-    assert any(len(times) > 2 and not math.isfinite(times[0]) for _, times, _ in charts)
+    built = [(kinds, times) for kinds, times, _ in charts if len(kinds) > 2]
+    assert any(max(kinds[:2]) > 2 for kinds, _ in built), "no chart is built where a kind that is not read is bad"
+    assert any(not math.isfinite(times[0]) for _, times in built), "nor where the first time is bad"
 
 
 def main():
