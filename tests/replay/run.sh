@@ -28,7 +28,7 @@ cases() {
             start = NR
         }'
 }
-for file in encode colour rhythm; do
+for file in build encode colour rhythm; do
     cases "$file" > "$made/$file.cases"
 done
 
@@ -74,6 +74,20 @@ ends() {
 
 prints 'the stored files'
 
+# build: raw objects (2), rate (8), raw kinds, raw times, built kinds, starts, deltas, ratios; case 3 has no raw objects, case 40 has 7 at
+# the rate 1.0, and the last but one has 16,386
+turned 'the number of raw objects' build 6 0 0 "$(differ build 1 0)"
+turned 'a rate, to one that is refused' build 6 3 9 "$(differ build 1 3)"
+turned 'a rate' build 6 40 2 "$(differ build 1 40)"
+turned 'the second raw kind, which is not read' build 6 40 11 ''
+turned 'the third raw kind' build 6 40 12 "$(differ build 1 40)"
+turned 'the first raw time, which is not read' build 6 40 17 ''
+turned 'the second raw time' build 6 40 25 "$(differ build 1 40)"
+turned 'a built kind' build 6 40 77 "$(differ build 1 40)"
+turned 'a built start' build 6 40 78 "$(differ build 1 40)"
+turned 'a built delta' build 6 40 118 "$(differ build 1 40)"
+turned 'a built ratio' build 6 128 -8 "$(differ build 1 128)"
+
 # encode: the number of hit patterns (2 bytes), kinds, five columns, intervals; case 4 is dd, the last has 16,384 objects
 turned 'the number of hit patterns of a chart without objects' encode 1 0 0 "$(differ encode 1 0)"
 turned 'a kind' encode 1 4 3 "$(differ encode 1 4)"
@@ -106,7 +120,8 @@ turned 'a first note' rhythm 5 0 2 "$(differ record 1 0)"
 turned 'a penalty' rhythm 5 3672 42 "$(differ record 1 3672)"
 turned 'a pattern ratio' rhythm 5 38 50 "$(differ record 1 38)"
 
-# a case that can't be read counts as one of encode, colour or rhythm that differs
+# a case that can't be read counts as one of build, encode, colour or rhythm that differs
+ends 'a built chart without its last byte' build 1 's/35223/18840/;'"$(differ build 1 129)"
 ends 'a chart without its last byte' encode 1 's/276742/260358/;'"$(differ encode 1 10763)"
 ends 'a stretch without its last byte' colour 1 's/1014/1015/; s/4619/4618/;'"$(differ colour 1 1014)"
 ends 'a head without its last byte' rhythm 59 's/465/466/; s/3673/3672/;'"$(differ rhythm 1 465)"

@@ -1,11 +1,12 @@
-// Replays the original's stored answers: calls encode, colour, stretch, rhythm or record on each case of data/encode,
-// data/colour and data/rhythm, compares all that it hands back, and prints how many cases there are and how many
-// differ.
+// Replays the original's stored answers: calls build, encode, colour, stretch, rhythm or record on each case of
+// data/build, data/encode, data/colour and data/rhythm, compares all that it hands back, and prints how many cases
+// there are and how many differ.
 // What is counted `replay` promises. Of what is printed no promise can speak: tests/replay sees that it is the count.
 ghost use Rattle.replay_read.specs.Read.{FileRead};
 use libc::STDOUT_FILENO;
 use replay_cases::count::Replay;
 use replay_cases::tally::Tally;
+use vectors::form::BUILD;
 use vectors::form::COLOUR;
 use vectors::form::ENCODE;
 use vectors::form::RHYTHM;
@@ -55,6 +56,8 @@ fn print_parts(call: &[u8], r: Replay) {
 }
 
 fn main() {
+    let build = replay(b"build", BUILD);
+    print_charts(b"build: ", build, b" objects, ");
     let encode = replay(b"encode", ENCODE);
     print_charts(b"encode: ", encode, b" objects, ");
     let colour = replay(b"colour", COLOUR);

@@ -4,6 +4,7 @@ use mathlib.Core.List.{List}
 use Prim.Native.Nat.{ℕ}
 use lib.Dec.{eqb}
 use Rattle.vectors.specs.declared.case.Head.{Head}
+use Rattle.cases_build.specs.Build.{BuildHolds}
 use Rattle.cases_encode.specs.Encode.{EncodeHolds}
 use Rattle.cases_colour.specs.Colour.{ColourHolds, StretchHolds}
 use Rattle.cases_rhythm.specs.Rhythm.{RhythmHolds}
@@ -17,8 +18,9 @@ followsIn call h =
     cond (eqb (h .call) call) Body
     (cond (eqb call 2 && eqb (h .call) 3) Part (cond (eqb call 4 && eqb (h .call) 5) Part Nothing))
 
--- a case with a chart of its own
+-- a case with a chart of its own, or with the raw objects that one is built of
 pub data ChartHolds (h : Head) (body : List ℕ) (spare : ℕ) : Type 0 where
+  build : BuildHolds h body spare → ChartHolds h body spare
   encode : EncodeHolds h body spare → ChartHolds h body spare
   colour : ColourHolds h body spare → ChartHolds h body spare
   rhythm : RhythmHolds h body spare → ChartHolds h body spare

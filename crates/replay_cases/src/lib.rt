@@ -5,6 +5,7 @@ ghost use Rattle.lent.specs.Slice.{lent};
 ghost use Rattle.vectors.specs.Held.{Tells};
 ghost use Rattle.replay_cases.specs.Cases.{followsIn, ChartHolds, PartHolds};
 use vectors::case::Head;
+use vectors::form::BUILD;
 use vectors::form::COLOUR;
 use vectors::form::ENCODE;
 use vectors::form::RECORD;
@@ -38,11 +39,14 @@ pub fn follows(call: u8, h: Head) -> Next
     Next::Nothing
 }
 
-// Whether a case with a chart of its own holds, in slices with so many places to spare.
+// Whether a case with a chart of its own, or with what one is built of, holds, in slices with so many places to spare.
 pub fn chart_holds(h: Head, body: &[u8], spare: usize) -> bool
     requires { ⌜ spare ≤ 7 ⌝ }
     ensures { λ r. ⌜ Tells r (ChartHolds h (lent body) spare) ⌝ }
 {
+    if h.call == BUILD {
+        return cases_build::holds(h, body, spare);
+    }
     if h.call == ENCODE {
         return cases_encode::holds(h, body, spare);
     }

@@ -80,7 +80,7 @@ pub fn replay_all(fd: i32, call: u8) -> Replay
     ensures { λ r. ⌜ FileRead call r ⌝ }
 {
     let mut head = [0u8; 8];
-    let mut body = [0u8; 344068];
+    let mut body = [0u8; 557084];
     let mut part = [0u8; 58];
     let mut r = count::start();
     while r.left > 0 {

@@ -12,11 +12,12 @@ use Rattle.vectors.specs.Held.{FrontHeld}
 abbrev pub numberSentinel : ℕ
 numberSentinel = 48879
 
--- an interval is at most 17
+-- an interval is at most 17, and a kind at most 2
 abbrev pub byteSentinel : ℕ
 byteSentinel = 190
 
--- 1.0e300 below zero: a value is at most 83,886,085 in size
+-- 1.0e300 below zero: a value is at most 83,886,085 in size, and a start, a delta or a ratio that is built at most
+-- 2 ^ 24
 abbrev pub floatSentinel : Float
 floatSentinel = ofBits binary64 0xFE37_E43C_8800_759C
 

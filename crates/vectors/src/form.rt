@@ -14,6 +14,8 @@ pub const RHYTHM: u8 = 4;
 
 pub const RECORD: u8 = 5;
 
+pub const BUILD: u8 = 6;
+
 // Whether the case is of this call, its numbers have from `low` to `high` bytes, and its `room` bytes are `size`.
 pub fn formed(h: Head, call: u8, low: u8, high: u8, size: usize, room: usize) -> bool
     ensures { λ r. ⌜ Tells r (Formed call low high size h room) ⌝ }

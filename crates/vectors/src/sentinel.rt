@@ -9,10 +9,10 @@ use crate::held;
 // The sentinels are no answers: a number of a group is below 16,384 or, for none, 65,535.
 pub const NUMBER_SENTINEL: u16 = 48879;
 
-// An interval is at most 17.
+// An interval is at most 17, and a kind at most 2.
 pub const BYTE_SENTINEL: u8 = 190;
 
-// A value is at most 83,886,085 in size.
+// A value is at most 83,886,085 in size, and a start, a delta or a ratio that is built at most 2^24.
 pub const FLOAT_SENTINEL: f64 = -1.0e300;
 
 // The most objects of a chart.

@@ -1,16 +1,15 @@
 // A column of entry numbers, each of a float in a table: reading these floats into a slice.
 ghost use mathlib.Core.Path.{_≡_};
-ghost use Prim.Native.Nat.{_^_, _≤_, _<_};
+ghost use Prim.Native.Nat.{_^_, _<_};
 ghost use Rattle.lent.specs.Slice.{lent, left};
 ghost use Rattle.lent.specs.Over.{over};
-ghost use Rattle.grouping_chart.specs.Chart.{largest};
 ghost use Rattle.vectors.specs.Table.{entryNumber, entryAt, entries};
 ghost use Rattle.vectors.specs.passes.Room.{EntryThere, EntriesRoom};
 use crate::case;
 
 // Which float of the table is meant at i: the one that number i of the column names, or the next where the width is 0.
 fn entry_number(s: &[u8], column: usize, width: u8, i: usize) -> usize
-    requires { ⌜ (column < 2 ^ 31) × (i ≤ largest) ⌝ }
+    requires { ⌜ (column < 2 ^ 31) × (i < 65536) ⌝ }
     ensures { λ r. ⌜ (r ≡ entryNumber (lent s) column width i) × (r < 65536) ⌝ }
 {
     if width == 0 {

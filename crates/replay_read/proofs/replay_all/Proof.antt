@@ -8,7 +8,7 @@ use Rattle.replay_read.proofs.replay_all.Statement.{statement}
 use Rattle.replay_read.proofs.replay_all.Tie as tie
 
 abbrev Inv-loop : tie.InvT-loop
-Inv-loop fd call head₀ body₀ part₀ r₀ head body part r = (length body ≡ 344068) × (length part ≡ 58) × Counted call r body
+Inv-loop fd call head₀ body₀ part₀ r₀ head body part r = (length body ≡ 557084) × (length part ≡ 58) × Counted call r body
 
 abbrev μ-loop : tie.MeasureT-loop
 μ-loop fd call head₀ body₀ part₀ r₀ head body part r = r .left

@@ -30,15 +30,15 @@ pub record BytesThere (at n : ℕ) (s got : List ℕ) : Type 0 where
   pub few : n ≤ largest
   pub most : length got ≤ mostPlaces
 
--- table and column begin below 2 ^ 31
+-- table and column begin below 2 ^ 31, and the column has no more numbers than two bytes count
 pub record EntryThere (table column i : ℕ) : Type 0 where
   pub low : table < 2 ^ 31
   pub near : column < 2 ^ 31
-  pub few : i ≤ largest
+  pub few : i < 65536
 
 -- and there is room for n floats
 pub record EntriesRoom (table column n : ℕ) (out : List Float) : Type 0 where
   pub low : table < 2 ^ 31
   pub near : column < 2 ^ 31
-  pub few : n ≤ largest
+  pub few : n ≤ 65536
   pub room : n ≤ length out

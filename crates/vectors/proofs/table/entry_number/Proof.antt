@@ -1,4 +1,4 @@
--- The code branches at the definition's own test; i is at most the largest chart's size, and a number that is read has two bytes.
+-- The code branches at the definition's own test; two bytes count to i, and a number that is read has two bytes.
 use native.Mathlib.Omega.{arith}
 use borrow.Author.Tests.{eq-eqb, ne-eqb}
 use Rattle.vectors.specs.Table.{entryNumber}
