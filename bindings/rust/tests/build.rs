@@ -46,7 +46,7 @@ fn a_built_chart_has_each_list_in_its_field() {
 }
 
 #[test]
-fn up_to_two_raw_objects_build_an_empty_chart() {
+fn two_raw_objects_and_fewer_build_nothing() {
     for m in 0..=2 {
         assert_eq!(Lists::of(m).raw(1.0).build(), Ok(BuiltChart::default()));
         assert_eq!(Lists::of(m).refusal(0.0), Some(Refusal::BadRate), "{m}");
