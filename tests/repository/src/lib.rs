@@ -9,11 +9,13 @@ pub fn root() -> PathBuf {
     Path::new(env!("CARGO_MANIFEST_DIR")).join("../..")
 }
 
-/// The files of a folder and of the folders in it.
+/// The files of a folder and of the folders in it. Links are passed over: what they lead to is not the repository's, as the original
+/// that tests/original links.
 pub fn files_in(folder: &Path) -> Vec<PathBuf> {
     let entries = fs::read_dir(folder).into_iter().flatten().flatten();
     let paths = entries.map(|entry| entry.path());
     paths
+        .filter(|path| !path.is_symlink())
         .flat_map(|path| match path.is_dir() {
             true => files_in(&path),
             false => vec![path],

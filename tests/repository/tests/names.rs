@@ -20,7 +20,8 @@ const DOCUMENTS: [&str; 11] = [
 ];
 
 /// What the original has and the tree has not.
-const ORIGINAL: [&str; 13] = [
+const ORIGINAL: [&str; 14] = [
+    "Beatmap",
     "ColorDifficultyPreprocessor",
     "HashMap",
     "RefCount",
