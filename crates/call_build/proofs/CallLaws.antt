@@ -17,11 +17,13 @@ use Rattle.grouping_chart.specs.declared.refusal.Verdict.the-variants.{Accepted
 use Rattle.grouping_chart.proofs.RefusalLaws.{all-equal, verdict-objects}
 use Rattle.grouping_chart.proofs.RoomLaws.{all-long}
 use Rattle.grouping_chart.proofs.OutcomeLaws.{answered-done}
-use Rattle.call_build.specs.Build.{Raw, deltaAt, builtSize, builtStarts, builtDeltas, builtRatios, builtChart}
+use Rattle.call_build.specs.Build.{Raw, deltaAt, builtSize, builtStarts, builtDeltas, builtChart}
 use Rattle.call_build.specs.Call.{Memory, answerLengths, verdictOf, judged, filled, chartIn, buildOutcome}
 use Rattle.call_build.specs.declared.Building.the-variants.{Done}
 use Rattle.call_build.specs.declared.Building.the-variants as answer
+use Rattle.call_build.specs.passes.Ratios.{ratiosFrom}
 use Rattle.call_build.specs.passes.Room.{BuildRoom}
+use Rattle.call_build.proofs.BuiltLaws.{ratios-of-built}
 use Rattle.call_build.proofs.ChartLaws.{built-size, built-lengths}
 use Rattle.call_build.proofs.VerdictLaws.{all-passed}
 
@@ -53,13 +55,13 @@ module _ (rate : Float) (r : Raw) (m : Memory) {n : ℕ} (size : builtSize r ≡
   -- the four lists, as the passes leave them, are the built chart's
   pub chart-filled : {kind : List ℕ} {start delta ratio : List Float} → kind ≡ over (drop 2 (r .kinds)) (m .kind)
       → start ≡ over (builtStarts rate (r .times) n) (m .start) → delta ≡ over (builtDeltas rate (r .times) n) (m .delta)
-      → ratio ≡ over (builtRatios (take n delta)) (m .ratio)
+      → ratio ≡ over (ratiosFrom (take n delta)) (m .ratio)
       → _≡_ {A = Memory} (record { kind = kind; start = start; delta = delta; ratio = ratio }) (filled (builtChart rate r) m)
   unfolding filled builtChart
   chart-filled a b c d =
       let deltas : take n (over (builtDeltas rate (r .times) n) (m .delta)) ≡ builtDeltas rate (r .times) n =
       front (builtDeltas rate (r .times) n) (m .delta) n (length-tabulate (deltaAt rate (r .times)) n) in
-      rw (a, b, c, rw (c, deltas) at d, size) refl
+      rw (a, b, c, rw (c, deltas, ratios-of-built rate r n) at d, size) refl
 
   pub build-done : {new : Memory} → judged rate r m ≡ Accepted → new ≡ filled (builtChart rate r) m → outcome (Done n) new ≡ buildOutcome rate r m
   unfolding buildOutcome

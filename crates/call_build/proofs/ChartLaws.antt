@@ -19,17 +19,16 @@ use Rattle.grouping_chart.proofs.RefusalLaws.{refusal-ratio}
 use Rattle.grouping_chart.proofs.AllLaws.{both-true, each-all}
 use Rattle.grouping_chart.proofs.AcceptedLaws.{lists-good, all-good-accepted}
 use Rattle.call_build.specs.Build.{Raw, startAt, deltaAt, ratioAt, builtSize, builtStarts, builtDeltas, builtChart}
-use Rattle.call_build.proofs.BuiltLaws.{length-ratios}
 use Rattle.call_build.proofs.RatioLaws.{nearest-common, common-good}
 
 one-good : ratioGood one64 ≡ true
 unfolding le
 one-good = good-ratio one64 tt tt
 
-ratio-good : (deltas : List Float) (i : ℕ) → ratioGood (ratioAt deltas i) ≡ true
+ratio-good : (rate : Float) (r : Raw) (i : ℕ) → ratioGood (ratioAt rate r i) ≡ true
 unfolding ratioAt
-ratio-good deltas zero = one-good
-ratio-good deltas (suc i) = common-good (nearest-common _)
+ratio-good rate r zero = one-good
+ratio-good rate r (suc i) = common-good (nearest-common _)
 
 -- the raw kinds behind the first two, as code lends them: from so far that n are left
 kinds-left : (kinds : List ℕ) (n : ℕ) → length kinds - 2 ≡ n → drop (length kinds - n) kinds ≡ drop 2 kinds
@@ -52,15 +51,15 @@ module _ (rate : Float) (r : Raw) where
   built-lengths =
       let n = builtSize r in
       let kinds : n ≡ length (drop 2 (r .kinds)) = sym (length-drop 2 (r .kinds)) in
-      let deltas = length-tabulate (deltaAt rate (r .times)) n ∙ kinds in
-      record { start = length-tabulate (startAt rate (r .times)) n ∙ kinds; delta = deltas; ratio = length-ratios (builtDeltas rate (r .times) n) ∙ deltas }
+      record {
+        start = length-tabulate (startAt rate (r .times)) n ∙ kinds;
+        delta = length-tabulate (deltaAt rate (r .times)) n ∙ kinds;
+        ratio = length-tabulate (ratioAt rate r) n ∙ kinds;
+      }
 
   pub ratios-good : (i : ℕ) → i < builtSize r → ratioGood (getD (builtChart rate r .ratios) i nan) ≡ true
   unfolding builtChart
-  ratios-good i h =
-      let deltas = builtDeltas rate (r .times) (builtSize r) in
-      rw (getD-tabulate (ratioAt deltas) (length deltas) i nan (omega (arith, length-tabulate (deltaAt rate (r .times)) (builtSize r))))
-      (ratio-good deltas i)
+  ratios-good i h = rw (getD-tabulate (ratioAt rate r) (builtSize r) i nan h) (ratio-good rate r i)
 
   pub all-ratios-good : all ratioGood (builtChart rate r .ratios) ≡ true
   all-ratios-good = each-all ratioGood _ nan (λ i h. ratios-good i (omega (arith, built-lengths .ratio, built-size)))

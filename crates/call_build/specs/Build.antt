@@ -31,10 +31,10 @@ startAt rate times i = div binary64 (getD times (i + 2) nan) rate
 unfoldable pub deltaAt : Float → List Float → ℕ → Float
 deltaAt rate times i = div binary64 (sub binary64 (getD times (i + 2) nan) (getD times (i + 1) nan)) rate
 
--- the ratio of object i, by the built deltas
-unfoldable pub ratioAt : List Float → ℕ → Float
-ratioAt deltas zero = one64
-ratioAt deltas (suc i) = nearestRatio (div binary64 (getD deltas (suc i) nan) (getD deltas i nan))
+-- the ratio of object i, by its delta and that of the object before it, whatever its kind
+unfoldable pub ratioAt : Float → Raw → ℕ → Float
+ratioAt rate r zero = one64
+ratioAt rate r (suc i) = nearestRatio (div binary64 (deltaAt rate (r .times) (suc i)) (deltaAt rate (r .times) i))
 
 -- n, how many objects are built: none of up to two raw ones
 abbrev pub builtSize : Raw → ℕ
@@ -46,16 +46,15 @@ builtStarts rate times n = tabulate (startAt rate times) n
 abbrev pub builtDeltas : Float → List Float → ℕ → List Float
 builtDeltas rate times n = tabulate (deltaAt rate times) n
 
-abbrev pub builtRatios : List Float → List Float
-builtRatios deltas = tabulate (ratioAt deltas) (length deltas)
+abbrev pub builtRatios : Float → Raw → ℕ → List Float
+builtRatios rate r n = tabulate (ratioAt rate r) n
 
 unfoldable pub builtChart : Float → Raw → Chart
 builtChart rate r =
     let n = builtSize r in
-    let deltas = builtDeltas rate (r .times) n in
     record {
       kinds = drop 2 (r .kinds);
       starts = builtStarts rate (r .times) n;
-      deltas = deltas;
-      ratios = builtRatios deltas;
+      deltas = builtDeltas rate (r .times) n;
+      ratios = builtRatios rate r n;
     }

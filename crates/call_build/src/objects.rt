@@ -4,7 +4,8 @@ ghost use Prim.Native.Nat.{_+_, _-_, _≤_, _<_};
 ghost use lib.ListN.{length};
 ghost use Rattle.lent.specs.Over.{over};
 ghost use Rattle.lent.specs.Slice.{lent, left};
-ghost use Rattle.call_build.specs.Build.{startAt, deltaAt, builtStarts, builtDeltas, builtRatios};
+ghost use Rattle.call_build.specs.Build.{startAt, deltaAt, builtStarts, builtDeltas};
+ghost use Rattle.call_build.specs.passes.Ratios.{ratiosFrom};
 use crate::ratio::nearest_ratio;
 
 pub fn start_at(time: &[f64], rate: f64, i: usize) -> f64
@@ -46,7 +47,7 @@ pub fn fill_deltas(time: &[f64], rate: f64, n: usize, delta: &mut [f64])
 // The first object has no delta before its own.
 pub fn fill_ratios(delta: &[f64], ratio: &mut [f64])
     requires { ⌜ length (now delta) ≤ length (now ratio) ⌝ }
-    ensures { λ r. ⌜ left ratio ≡ over (builtRatios (lent delta)) (lent ratio) ⌝ }
+    ensures { λ r. ⌜ left ratio ≡ over (ratiosFrom (lent delta)) (lent ratio) ⌝ }
 {
     if delta.len() == 0 {
         return;

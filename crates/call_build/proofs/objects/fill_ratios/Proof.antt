@@ -8,13 +8,13 @@ use lib.Ieee.{Float, nan, ofBits}
 use Rattle.numeric.specs.Constants.{one64}
 use Rattle.lent.proofs.OverLaws.{over-set}
 use Rattle.lent.proofs.FillLaws.{Fill, fill-turn-front, fill-end-front}
-use Rattle.call_build.specs.Build.{builtRatios}
+use Rattle.call_build.specs.passes.Ratios.{ratiosFrom}
 use Rattle.call_build.proofs.BuiltLaws.{length-ratios, first-stored, later-ratio, none-built}
 use Rattle.call_build.proofs.objects.fill_ratios.Statement.{statement}
 use Rattle.call_build.proofs.objects.fill_ratios.Tie as tie
 
 record Filled (delta ratio₀ ratio : List Float) (i : ℕ) : Type 0 where
-  fill : Fill (builtRatios delta) (length delta) 0 ratio₀ ratio i
+  fill : Fill (ratiosFrom delta) (length delta) 0 ratio₀ ratio i
   past-first : 0 < i
 
 abbrev Inv-loop : tie.InvT-loop
