@@ -60,7 +60,8 @@ pub extern "C" fn dresserduck_build(
     ratio: &mut [f64],
 ) -> Built
     ensures { λ r. ⌜ outcome r (build.after «built_kind» start delta ratio)
-        ≡ forHost builtOf (build.buildOutcome rate (raw kind time) (build.before «built_kind» start delta ratio)) ⌝ }
+        ≡ forHost builtOf (build.buildOutcome rate (raw kind time)
+        (build.before «built_kind» start delta ratio)) ⌝ }
 {
     let answer = call_build::build(kind, time, rate, built_kind, start, delta, ratio);
     built_of(answer)
