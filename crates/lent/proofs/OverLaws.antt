@@ -7,7 +7,7 @@ use native.Mathlib.Nat.{le-of-suc-le-suc, not-suc-le-zero, suc-add, zero-add, ad
 use native.Mathlib.Numerals.{add-one}
 use native.Mathlib.Omega.{arith}
 use lib.ListN.{length, take, drop, getD, set, length-append, length-drop, take-append-drop}
-use lib.Seq.{length-take-le, take-at, drop-at, drop-append-add, drop-drop, take-append-le, take-take, take-length, getD-take, getD-drop, set-getD, drop-set-lt}
+use lib.Seq.{length-take-le, take-at, drop-at, drop-append-add, drop-drop, take-append-le, take-take, take-length, getD-take, getD-drop, set-getD, drop-set-lt, ext-getD}
 use Rattle.lent.specs.Over.{over, put, part, Write, written}
 
 module _ {A : Type 0} where
@@ -51,6 +51,14 @@ module _ {A : Type 0} where
   pub getD-part : (a n : ℕ) (w : List A) (i : ℕ) (d : A) → i < n → getD (part a n w) i d ≡ getD w (a + i) d
   unfolding part
   getD-part a n w i d h = getD-take n (drop a w) i d h ∙ getD-drop a w i d
+
+  -- parts of two lists that have the same elements there
+  pub part-alike : (d : A) (a b n : ℕ) (v w : List A) → a + n ≤ length v → b + n ≤ length w → ((i : ℕ) → i < n → getD v (a + i) d ≡ getD w (b + i) d)
+      → part a n v ≡ part b n w
+  part-alike d a b n v w h k e =
+      let l = length-part a n v h in
+      ext-getD d (part a n v) (part b n w) (l ∙ sym (length-part b n w k))
+      (λ i g. let j : i < n = omega (arith, l) in getD-part a n v i d j ∙ e i j ∙ sym (getD-part b n w i d j))
 
   -- ---- from place a on
 

@@ -5,5 +5,6 @@ pub mod Monotone
 pub mod Bounded
 pub mod ConstantLaws
 pub mod Minus
+pub mod MinusZero
 mod Sign
 mod Units
