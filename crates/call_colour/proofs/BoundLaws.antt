@@ -3,7 +3,7 @@
 use mathlib.Core.Path.{_≡_}
 use mathlib.Core.Bool.{not}
 use mathlib.Core.List.{List, [], _∷_}
-use Prim.Native.Nat.{ℕ, suc, _+_, _-_, _*_, _^_, _≤_, _<_}
+use Prim.Native.Nat.{ℕ, suc, _+_, _*_, _^_, _≤_, _<_}
 use native.Mathlib.Nat.{le-trans, le-of-eq, le-add-right, zero-add, suc-mul}
 use native.Mathlib.Omega.{arith}
 use lib.Dec.{T, leb→le, lit≤}
@@ -15,16 +15,15 @@ use Rattle.numeric.specs.Tenths.{InTenthsRange}
 use Rattle.numeric.proofs.Values.{Number, number-no-nan}
 use Rattle.numeric.proofs.Bounded as bounds
 use Rattle.numeric.proofs.Bounded.{Bounded, bounded-more, bounded-number, bounded-tenths, add-bounded}
-use Rattle.grouping_chart.specs.Chart.{Chart, size}
+use Rattle.grouping_chart.specs.Chart.{Chart}
 use Rattle.grouping_chart.specs.Refusal.{verdict}
 use Rattle.grouping_chart.specs.declared.refusal.Verdict.the-variants.{Accepted}
 use Rattle.grouping_chart.specs.Settings.{Settings}
 use Rattle.grouping_chart.proofs.AcceptedLaws.{accepted-good}
-use Rattle.evaluator_values.proofs.StandingLaws.{value-of}
 use Rattle.evaluator_values.proofs.BoundLaws.{largestColour, value-bounded}
 use Rattle.call_colour.specs.Stretch.{GoodStretch, stretchValues, sumFrom, averageOf, chartMean}
-use Rattle.call_colour.proofs.StretchCases.{good-lies}
-use Rattle.call_colour.proofs.StretchValues.{length-stretch, stretch-value}
+use Rattle.call_colour.proofs.StretchCases.{StretchLies, good-lies}
+use Rattle.call_colour.proofs.StretchValues.{stretch-some, stretch-few, stretch-all}
 
 -- ---- a sum from left to right
 sum-bounded : (B C : ℕ) (sum : Float) (xs : List Float) → C + length xs * B ≤ 2 ^ 53 → Bounded sum C → ((i : ℕ) → i < length xs → Bounded (getD xs i nan) B)
@@ -50,29 +49,20 @@ average-bounded B xs some few k l g =
 
 -- ---- the mean of a stretch of an accepted chart
 module _ (s : Settings) (c : Chart) (refusal : ℕ) (accepted : verdict c refusal ≡ Accepted) (a b : ℕ) (x : GoodStretch (c .kinds) a b) where
-  -- the values that the mean is made of: some, few, and each bounded
   abbrev made : List Float
   made = stretchValues s c a b
 
-  length-made : length made ≡ b - a
-  length-made = length-stretch s c a b x
-
-  made-some : 0 < length made
-  made-some = omega (arith, length-made, good-lies (c .kinds) a b x)
+  lies : StretchLies (c .kinds) a b
+  lies = good-lies (c .kinds) a b x
 
   made-few : length made ≤ 16384
-  made-few = omega (arith, length-made, good-lies (c .kinds) a b x, accepted-good c refusal accepted .few)
-
-  made-bounded : (i : ℕ) → i < length made → Bounded (getD made i nan) largestColour
-  made-bounded i h =
-      let l : i < b - a = omega (arith, length-made) in
-      let k : a + i < size c = omega (arith, good-lies (c .kinds) a b x) in
-      let v = value-of (s .limit) (s .tolerance) (c .kinds) (c .ratios) (a + i) k in
-      rw (stretch-value s c a b x i l, ← v) (value-bounded s c refusal accepted (a + i) k)
+  made-few = omega (arith, stretch-few s c a b lies, lies .inside, accepted-good c refusal accepted .few)
 
   pub mean-bounded : Bounded (chartMean s c a b) largestColour
   unfolding chartMean
-  mean-bounded = average-bounded largestColour made made-some (omega (arith, made-few)) (lit≤ tt) (omega (arith, made-few)) made-bounded
+  mean-bounded =
+      average-bounded largestColour made (stretch-some s c a b lies) (omega (arith, made-few)) (lit≤ tt) (omega (arith, made-few))
+      (stretch-all s c a b lies (λ (v : Float). Bounded v largestColour) (value-bounded s c refusal accepted))
 
   pub mean-number : Number (chartMean s c a b)
   unfolding chartMean averageOf

@@ -1,4 +1,5 @@
--- The scope's starred charts "no objects" and "d", run by the definitions: colour and stretch into memory of exactly the size asked, bits and all.
+-- The scope's starred charts "no objects" and "d", and stretches with NonHits, run by the definitions: colour and stretch into memory of exactly the size
+-- asked, bits and all.
 use mathlib.Core.Path.{_≡_, refl}
 use mathlib.Core.Bool.{false}
 use mathlib.Core.List.{List, [], _∷_, map}
@@ -26,6 +27,7 @@ use Rattle.grouping_colour.specs.MonoStreak.{continues, opensStreak, streakMark
 use Rattle.grouping_colour.specs.AlternatingMonoPattern.{opensPattern, patternMarks, coupledAt, coupled}
 use Rattle.grouping_preprocessor.specs.Preprocessor.{patternsOpen, firstLengths, streakCounts, patternTypes, coupledPatterns, hitsOpen, hitCount, hitSizes}
 use Rattle.grouping_preprocessor.specs.Preprocessor.{hitFirsts, hitSeconds, hitIntervals, streakPlaceOf, alternatingOf, patternPlaceOf, hitOf, intervalOf}
+use Rattle.grouping_interval.specs.Notes.{ofNotes}
 use Rattle.evaluator_colour.specs.Formulas.{hitValue, altValue, monoValue, addIf, objectSum}
 use Rattle.evaluator_colour.specs.RatioPenalty.{lowered, ratioPenalty}
 use Rattle.evaluator_values.specs.Colour.{isFirst, standingAt, colourAt, colourValues}
@@ -33,7 +35,7 @@ use Rattle.call_colour.specs.declared.Colouring.{Colouring}
 use Rattle.call_colour.specs.declared.Colouring.the-variants as colouring
 use Rattle.call_colour.specs.declared.Stretching.{Stretching}
 use Rattle.call_colour.specs.declared.Stretching.the-variants as stretching
-use Rattle.call_colour.specs.Stretch.{stretchRefusal, stretchValues, sumFrom, averageOf, chartMean, chartTenths}
+use Rattle.call_colour.specs.Stretch.{hasNote, stretchRefusal, stretchValues, sumFrom, averageOf, chartMean, chartTenths}
 use Rattle.call_colour.specs.Call.{Memory, filled, colourOutcome, stretchOutcome}
 
 -- starts and deltas 0.0, ratios 1.0
@@ -96,14 +98,31 @@ stretches =
         scratch = 0 ∷ [];
       };
     }
+    -- ndn: all three have values, and the note's alone is the mean
+    ∷ record {
+      kinds = 2 ∷ 0 ∷ 2 ∷ [];
+      a = 0;
+      b = 3;
+      outcome = record {
+        answer = stretching.Done (ofBits binary64 0x3fed_e392_330f_f9c8) (pos 9);
+        value = 0x4013_ee42_c838_4268 ∷ 0x3fed_e392_330f_f9c8 ∷ 0x3fd3_1de3_d355_d99d ∷ [];
+        work = replicate 24 0;
+        scratch = 0 ∷ 0 ∷ 0 ∷ [];
+      };
+    }
     -- d, b = n + 1, and a = b: refused, and all as lent
-    ∷ record { kinds = 0 ∷ []; a = 0; b = 2; outcome = untouched }
-    ∷ record { kinds = 0 ∷ []; a = 1; b = 1; outcome = untouched }
+    ∷ record { kinds = 0 ∷ []; a = 0; b = 2; outcome = refused 9 }
+    ∷ record { kinds = 0 ∷ []; a = 1; b = 1; outcome = refused 9 }
+    -- n: refused as it has no note, but where it is overlong or empty for that
+    ∷ record { kinds = 2 ∷ []; a = 0; b = 1; outcome = refused 11 }
+    ∷ record { kinds = 2 ∷ []; a = 0; b = 2; outcome = refused 9 }
+    ∷ record { kinds = 2 ∷ []; a = 0; b = 0; outcome = refused 9 }
     ∷ []
   where
-    untouched : Shown Stretching
-    untouched = record {
-      answer = stretching.Refused 9 (record { 0 = 0 });
+    -- one object's memory, as lent
+    refused : ℕ → Shown Stretching
+    refused number = record {
+      answer = stretching.Refused number (record { 0 = 0 });
       value = 0x7ff0_0000_0000_0000 ∷ [];
       work = replicate 8 7;
       scratch = 0x3ff0_0000_0000_0000 ∷ [];
@@ -118,8 +137,8 @@ stretched e = shown (stretchOutcome baseSettings (chart (e .kinds)) (e .a) (e .b
 -- every one of the two lists comes out as it says
 pub examples-right : (map coloured examples ≡ map (λ (e : Example). e .outcome) examples)
     × (map stretched stretches ≡ map (λ (e : StretchExample). e .outcome) stretches)
-unfolding examples stretches coloured stretched chart lent shown answered colourOutcome stretchOutcome refusedThen stretchRefusal chartTenths tenthsOf
-    chartMean averageOf stretchValues sumFrom part ofInt anyShort shortRefusal verdict equallyLong firstRefused objectRefusal timeGood ratioGood within filled
+unfolding examples stretches coloured stretched chart lent shown answered colourOutcome stretchOutcome refusedThen stretchRefusal hasNote chartTenths tenthsOf
+    chartMean averageOf stretchValues ofNotes sumFrom part ofInt anyShort shortRefusal verdict equallyLong firstRefused objectRefusal timeGood ratioGood within filled
     colourValues colourAt standingAt isFirst over tabulate scan endState gathered opened groupCount groupNumbers placeByMark groupPlaces sizesFrom groupSizes
     firstsFrom groupFirsts isNote notes noteIdx noteBefore previousNote continues opensStreak streakMarks streakOf streakLengths streakTypes opensPattern
     patternMarks coupledAt coupled coupledRun hitSize hitMarksAfter hitMarks secondAt secondLengths matches nearestMatch intervalAt intervals patternsOpen

@@ -5,6 +5,7 @@ pub mod BoundLaws
 pub mod AlikeLaws
 pub mod AnswerLaws
 mod FilledLaws
+mod TurnLaws
 mod StretchLaws
 pub mod StretchCases
 mod Examples

@@ -1,18 +1,19 @@
 -- An accepted stretch, after the values are filled: it lies inside them, their mean is the definition's, and its tenths can be asked.
-use mathlib.Core.Path.{_≡_, sym, ap, _∙_}
+use mathlib.Core.Path.{_≡_, ap, _∙_}
 use mathlib.Core.List.{List}
-use Prim.Native.Nat.{ℕ, _+_, _-_, _≤_, _<_}
+use Prim.Native.Nat.{ℕ, _+_, _-_, _≤_}
 use native.Mathlib.Omega.{arith}
 use lib.ListN.{length}
-use lib.Seq.{ext-getD}
 use lib.Ieee.{Float, nan}
 use Rattle.numeric.specs.Tenths.{InTenthsRange}
 use Rattle.lent.specs.Over.{over, part}
 use Rattle.lent.proofs.PieceLaws.{getD-over}
-use Rattle.lent.proofs.OverLaws.{length-over, length-part, getD-part}
+use Rattle.lent.proofs.OverLaws.{length-over, part-alike}
 use Rattle.grouping_chart.specs.Chart.{Chart, size}
 use Rattle.grouping_chart.specs.Settings.{Settings, Permitted}
+use Rattle.grouping_interval.specs.Notes.{ofNotes}
 use Rattle.evaluator_values.specs.Colour.{valuesOf}
+use Rattle.grouping_chart.proofs.AcceptedLaws.{accepted-good}
 use Rattle.evaluator_values.proofs.StandingLaws.{length-values}
 use Rattle.call_colour.specs.Stretch.{stretchValues, averageOf, chartMean}
 use Rattle.call_colour.specs.Call.{Memory, judged, filled}
@@ -20,13 +21,6 @@ use Rattle.call_colour.specs.passes.Rooms.{StretchRoom}
 use Rattle.call_colour.proofs.CallLaws.{StretchAccepted, chart-room}
 use Rattle.call_colour.proofs.StretchCases.{StretchLies, good-lies}
 use Rattle.call_colour.proofs.BoundLaws.{mean-tenths}
-
--- a part that lies in what was written
-part-over : (a n : ℕ) (new old : List Float) → a + n ≤ length new → length new ≤ length old → part a n (over new old) ≡ part a n new
-part-over a n new old h r =
-    let l : length (part a n (over new old)) ≡ n = length-part a n (over new old) (omega (arith, length-over new old r)) in
-    ext-getD nan (part a n (over new old)) (part a n new) (l ∙ sym (length-part a n new h))
-    (λ i k. let j : i < n = omega arith in getD-part a n (over new old) i nan j ∙ getD-over new old (a + i) nan (omega arith) ∙ sym (getD-part a n new i nan j))
 
 -- ---- an accepted stretch, after the values are filled
 module _ (s : Settings) (p : Permitted s) (c : Chart) (m : Memory) (a b : ℕ) (w : StretchAccepted (judged c m) (c .kinds) a b) (new : Memory)
@@ -47,17 +41,29 @@ module _ (s : Settings) (p : Permitted s) (c : Chart) (m : Memory) (a b : ℕ) (
   unfolding filled
   written = rw e
 
-  pub stretch-room : StretchRoom (new .value) a b
+  pub stretch-room : StretchRoom (c .kinds) (new .value) a b
   stretch-room = record {
-    ordered = omega (arith, lies);
-    inside = omega (arith, lies, long, room, ap length written, length-over values (m .value) room);
-    few = omega (arith, lies, chart-room s c m p (w .chart) .regions);
+    known = λ i h. accepted-good c _ (w .chart) .objects i nan h .kind;
+    ordered = omega (arith, lies .some);
+    kinded = lies .inside;
+    valued = omega (arith, lies .inside, long, room, ap length written, length-over values (m .value) room);
+    few = omega (arith, lies .inside, chart-room s c m p (w .chart) .regions);
   }
 
-  pub mean-is : (mean : Float) → mean ≡ averageOf (part a (b - a) (new .value)) → mean ≡ chartMean s c a b
-  unfolding chartMean stretchValues
-  mean-is mean h =
-      h ∙ ap averageOf (rw written (part-over a (b - a) values (m .value) (omega (arith, lies, long)) room))
+  -- the values from a to b, read where they were written
+  values-there : part a (b - a) (new .value) ≡ part a (b - a) values
+  values-there =
+      let end : a + (b - a) ≤ length values = omega (arith, lies .some, lies .inside, long) in
+      rw written
+      (part-alike nan a a (b - a) (over values (m .value)) values (omega (arith, end, length-over values (m .value) room, room)) end
+      (λ i h. getD-over values (m .value) (a + i) nan (omega (arith, end))))
 
-  pub mean-in-range : (mean : Float) → mean ≡ averageOf (part a (b - a) (new .value)) → InTenthsRange mean
+  abbrev averaged : Float
+  averaged = averageOf (ofNotes (part a (b - a) (c .kinds)) (part a (b - a) (new .value)))
+
+  pub mean-is : (mean : Float) → mean ≡ averaged → mean ≡ chartMean s c a b
+  unfolding chartMean stretchValues
+  mean-is mean h = h ∙ ap (λ (all : List Float). averageOf (ofNotes (part a (b - a) (c .kinds)) all)) values-there
+
+  pub mean-in-range : (mean : Float) → mean ≡ averaged → InTenthsRange mean
   mean-in-range mean h = rw (mean-is mean h) (mean-tenths s c _ (w .chart) a b (w .none))

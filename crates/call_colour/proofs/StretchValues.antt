@@ -1,29 +1,53 @@
--- The values of a stretch, element by element.
-use mathlib.Core.Path.{_≡_, _∙_}
-use Prim.Native.Nat.{ℕ, _+_, _-_, _<_}
+-- The values that a stretch's mean is made of: some, at most one for each object, and each an object's.
+use mathlib.Core.Path.{_≡_}
+use Prim.Native.Nat.{ℕ, _+_, _-_, _≤_, _<_}
 use native.Mathlib.Omega.{arith}
+use lib.Dec.{ltb→lt}
 use lib.ListN.{length, getD}
 use lib.Ieee.{Float, nan}
+use Rattle.lent.specs.Over.{part}
 use Rattle.lent.proofs.OverLaws.{length-part, getD-part}
-use Rattle.grouping_chart.specs.Chart.{Chart}
+use Rattle.grouping_chart.specs.Chart.{Chart, size}
+use Rattle.grouping_chart.specs.Object.{notes}
 use Rattle.grouping_chart.specs.Settings.{Settings}
+use Rattle.grouping_chart.proofs.ObjectLaws.{notes-few}
+use Rattle.grouping_interval.proofs.NoteLaws.{length-of-notes, of-notes-all}
 use Rattle.evaluator_values.specs.Colour.{colourAt, valuesOf}
-use Rattle.evaluator_values.proofs.StandingLaws.{length-values, value-of}
-use Rattle.call_colour.specs.Stretch.{GoodStretch, stretchValues}
-use Rattle.call_colour.proofs.StretchCases.{good-lies}
+use Rattle.evaluator_values.proofs.StandingLaws.{length-values}
+use Rattle.call_colour.specs.Stretch.{hasNote, stretchValues}
+use Rattle.call_colour.proofs.StretchCases.{StretchLies}
 
 -- object i's value
 abbrev pub valueAt : Settings → Chart → ℕ → Float
 valueAt s c i = colourAt (s .limit) (s .tolerance) (c .kinds) (c .ratios) i
 
-module _ (s : Settings) (c : Chart) (a b : ℕ) (x : GoodStretch (c .kinds) a b) where
-  -- so the mean is divided by b − a
-  pub length-stretch : length (stretchValues s c a b) ≡ b - a
-  unfolding stretchValues
-  length-stretch = length-part a (b - a) (valuesOf s c)
-      (omega (arith, good-lies (c .kinds) a b x, length-values (s .limit) (s .tolerance) (c .kinds) (c .ratios)))
+module _ (s : Settings) (c : Chart) (a b : ℕ) (x : StretchLies (c .kinds) a b) where
+  length-kinds : length (part a (b - a) (c .kinds)) ≡ b - a
+  length-kinds = length-part a (b - a) (c .kinds) (omega (arith, x .some, x .inside))
 
-  pub stretch-value : (i : ℕ) → i < b - a → getD (stretchValues s c a b) i nan ≡ valueAt s c (a + i)
+  length-all : length (part a (b - a) (valuesOf s c)) ≡ b - a
+  length-all =
+      length-part a (b - a) (valuesOf s c) (omega (arith, x .some, x .inside, length-values (s .limit) (s .tolerance) (c .kinds) (c .ratios)))
+
+  -- as many as there are notes
+  length-stretch : length (stretchValues s c a b) ≡ length (notes (part a (b - a) (c .kinds)))
   unfolding stretchValues
-  stretch-value i h = getD-part a (b - a) (valuesOf s c) i nan h
-      ∙ value-of (s .limit) (s .tolerance) (c .kinds) (c .ratios) (a + i) (omega (arith, good-lies (c .kinds) a b x))
+  length-stretch = length-of-notes (part a (b - a) (c .kinds)) (part a (b - a) (valuesOf s c)) (omega (arith, length-kinds, length-all))
+
+  some-note : 0 < length (notes (part a (b - a) (c .kinds)))
+  unfolding hasNote
+  some-note = ltb→lt 0 (length (notes (part a (b - a) (c .kinds)))) (rw (x .noted) tt)
+
+  pub stretch-some : 0 < length (stretchValues s c a b)
+  stretch-some = omega (arith, length-stretch, some-note)
+
+  pub stretch-few : length (stretchValues s c a b) ≤ b - a
+  stretch-few = omega (arith, length-stretch, notes-few (part a (b - a) (c .kinds)), length-kinds)
+
+  -- what holds of each object's value holds of each of these
+  pub stretch-all : (P : Float → Type 0) → ((i : ℕ) → i < size c → P (getD (valuesOf s c) i nan))
+      → (j : ℕ) → j < length (stretchValues s c a b) → P (getD (stretchValues s c a b) j nan)
+  unfolding stretchValues
+  stretch-all P g =
+      of-notes-all P (part a (b - a) (c .kinds)) (part a (b - a) (valuesOf s c))
+      (λ i h. let k : i < b - a = omega (arith, length-all) in rw (getD-part a (b - a) (valuesOf s c) i nan k) (g (a + i) (omega (arith, x .inside))))

@@ -89,7 +89,7 @@ pub fn stretch(
         Verdict::Refused(number, place) => Stretching::Refused(number, place),
         Verdict::Accepted => {
             fill_chart(kind, ratio, settings::base(), value, work, scratch);
-            let mean = stretches::mean(value, a, b);
+            let mean = stretches::mean(kind, value, a, b);
             Stretching::Done(mean, numeric::tenths::tenths(mean))
         }
     }

@@ -1,17 +1,32 @@
 // What is refused of a stretch, the verdict on it, and its mean.
 ghost use mathlib.Core.Path.{_≡_};
+ghost use mathlib.Core.Bool.{cond};
 ghost use Prim.Native.Nat.{_-_, _≤_};
-ghost use lib.ListN.{length};
 ghost use Rattle.lent.specs.Slice.{lent};
-ghost use Rattle.numeric.specs.Constants.{zero64};
 ghost use Rattle.lent.specs.Over.{part};
-ghost use Rattle.grouping_chart.specs.Chart.{largest};
-ghost use Rattle.call_colour.specs.Stretch.{stretchRefusal, stretchVerdict, sumFrom, averageOf};
-ghost use Rattle.call_colour.specs.passes.Rooms.{StretchRoom};
+ghost use Rattle.grouping_chart.specs.Object.{isNote};
+ghost use Rattle.grouping_interval.specs.Notes.{ofNotes};
+ghost use Rattle.call_colour.specs.Stretch.{hasNote, stretchRefusal, stretchVerdict, averageOf};
+ghost use Rattle.call_colour.specs.passes.Rooms.{minusZero64, AverageRoom, StretchRoom};
 use grouping_chart::object::ObjectIndex;
+use grouping_chart::object::is_note;
 use grouping_chart::refusal::Verdict;
 
-// The number of what is refused of a stretch, or 0: 9 where a is not below b or b is above n.
+// Whether one of the objects is a note. The first that is one ends the search.
+fn has_note(kind: &[u8]) -> bool
+    ensures { λ r. ⌜ r ≡ hasNote (lent kind) ⌝ }
+{
+    let mut i = 0;
+    while i < kind.len() {
+        if is_note(kind[i]) {
+            return true;
+        }
+        i += 1;
+    }
+    false
+}
+
+// The number of what is refused of a stretch, or 0: 9 where a is not below b or b is above n, else 11 where no object is a note.
 fn stretch_refusal(kind: &[u8], a: usize, b: usize) -> u8
     ensures { λ r. ⌜ r ≡ stretchRefusal (lent kind) a b ⌝ }
 {
@@ -22,7 +37,10 @@ fn stretch_refusal(kind: &[u8], a: usize, b: usize) -> u8
     if n < b {
         return 9;
     }
-    0
+    if has_note(&kind[a..b]) {
+        return 0;
+    }
+    11
 }
 
 // The verdict on a stretch: the chart's own refusal, else the stretch's.
@@ -41,32 +59,37 @@ pub fn stretch_verdict(verdict: Verdict, kind: &[u8], a: usize, b: usize) -> Ver
     }
 }
 
-// From left to right, from 0.0, each sum rounded.
-fn sum(values: &[f64]) -> f64
-    ensures { λ r. ⌜ r ≡ sumFrom zero64 (lent values) ⌝ }
+// What an object adds to a sum: a note its value, a NonHit -0.0, which changes no sum. It is read by its kind's place,
+// since a choice between two floats would be left to a jump by the kind.
+fn addend(kind: u8, value: f64) -> f64
+    requires { ⌜ kind ≤ 2 ⌝ }
+    ensures { λ r. ⌜ r ≡ cond (isNote kind) value minusZero64 ⌝ }
+{
+    let addends = [value, value, -0.0];
+    addends[kind as usize]
+}
+
+// The notes' values, added from left to right, from 0.0, each sum rounded, and divided by how many they are.
+fn average(kind: &[u8], value: &[f64]) -> f64
+    requires { ⌜ AverageRoom (now kind) (now value) ⌝ }
+    ensures { λ r. ⌜ r ≡ averageOf (ofNotes (lent kind) (lent value)) ⌝ }
 {
     let mut sum: f64 = 0.0;
+    let mut notes = 0;
     let mut i = 0;
-    while i < values.len() {
-        sum = sum + values[i];
+    while i < kind.len() {
+        let k = kind[i];
+        sum = sum + addend(k, value[i]);
+        notes += is_note(k) as usize;
         i += 1;
     }
-    sum
+    sum / (notes as f64)
 }
 
-// The sum divided by how many there are.
-fn average(values: &[f64]) -> f64
-    requires { ⌜ length (now values) ≤ largest ⌝ }
-    ensures { λ r. ⌜ r ≡ averageOf (lent values) ⌝ }
+// The average of the notes from a to b, b not included.
+pub fn mean(kind: &[u8], value: &[f64], a: usize, b: usize) -> f64
+    requires { ⌜ StretchRoom (now kind) (now value) a b ⌝ }
+    ensures { λ r. ⌜ r ≡ averageOf (ofNotes (part a (b - a) (lent kind)) (part a (b - a) (lent value))) ⌝ }
 {
-    let n = values.len();
-    sum(values) / (n as f64)
-}
-
-// The average of the values from a to b, b not included.
-pub fn mean(value: &[f64], a: usize, b: usize) -> f64
-    requires { ⌜ StretchRoom (now value) a b ⌝ }
-    ensures { λ r. ⌜ r ≡ averageOf (part a (b - a) (lent value)) ⌝ }
-{
-    average(&value[a..b])
+    average(&kind[a..b], &value[a..b])
 }
