@@ -8,6 +8,7 @@ use Prim.Native.Nat.{ℕ, _+_, _-_, _<_}
 use native.Mathlib.Omega.{arith}
 use lib.ListN.{length, getD}
 use lib.Ieee.{Float, nan}
+use Rattle.lent.specs.Over.{part}
 use Rattle.lent.specs.Scan.{scan, endState, tabulate, gathered}
 use Rattle.grouping_marks.specs.Marks.{opened, groupCount, groupNumbers, sizesFrom, groupSizes, firstsFrom, groupFirsts}
 use Rattle.grouping_chart.specs.Object.{isNote, notes, noteIdx, noteBefore, previousNote}
@@ -18,9 +19,7 @@ use Rattle.grouping_colour.specs.MonoStreak.{continues, opensStreak, streakMark
 use Rattle.grouping_colour.specs.AlternatingMonoPattern.{opensPattern, patternMarks, coupledAt, coupled}
 use Rattle.grouping_preprocessor.specs.Preprocessor.{patternsOpen, firstLengths, streakCounts, patternTypes, coupledPatterns, hitsOpen, alternatingOf, hitOf}
 use Rattle.evaluator_values.specs.Colour.{valuesOf}
-use Rattle.call_colour.specs.Stretch.{GoodStretch}
-use Rattle.call_colour.proofs.StretchCases.{lies-good}
-use Rattle.call_colour.specs.Stretch.{chartMean}
+use Rattle.call_colour.specs.Stretch.{hasNote, stretchRefusal, GoodStretch, chartMean}
 use Rattle.agreement.specs.CommonTail.{SameLast}
 use Rattle.agreement.specs.colour.Landmark.{ColourLandmark}
 use Rattle.agreement.specs.colour.Claim.{hitPatterns, Settled, ColourClaim}
@@ -36,12 +35,13 @@ tail =
 record Shown : Type 0 where
   landmark : ColourLandmark tail 39 7
   sixteenth : getD (hitOf tail) 7 0 + 16 ≡ getD (hitOf tail) 37 0 + 1
+  last-two : GoodStretch tail 37 39
 
 shown : Shown
 unfolding scan endState tabulate gathered opened groupCount groupNumbers sizesFrom groupSizes firstsFrom groupFirsts
     isNote notes noteIdx noteBefore previousNote continues opensStreak streakMarks streakOf streakLengths streakTypes
     opensPattern patternMarks coupledAt coupled patternsOpen firstLengths streakCounts patternTypes alternatingOf coupledPatterns
-    coupledRun hitSize hitMarksAfter hitMarks hitsOpen hitOf
+    coupledRun hitSize hitMarksAfter hitMarks hitsOpen hitOf part hasNote stretchRefusal
 shown = record {
   landmark = record {
     object = 1;
@@ -68,6 +68,7 @@ shown = record {
     just-after = refl;
   };
   sixteenth = refl;
+  last-two = refl;
 }
   where
     -- the object behind the fourth streak is of the fifth pattern
@@ -96,6 +97,4 @@ module _ (starts deltas ratios : List Float) (whole : length ratios ≡ 39) wher
 
     -- and the stretch of its last two the mean
     pub any-stretch : chartMean baseSettings alone 37 39 ≡ chartMean baseSettings c (size c - 2) (size c)
-    any-stretch =
-        let last-two : GoodStretch tail 37 39 = lies-good tail 37 39 (record { some = omega arith; inside = omega arith }) in
-        claim .stretch 37 39 (size c - 2) (size c) settled last-two (omega (arith, kinds-alike .inside′)) (omega arith) .mean
+    any-stretch = claim .stretch 37 39 (size c - 2) (size c) settled (shown .last-two) (omega (arith, kinds-alike .inside′)) (omega arith) .mean

@@ -14,6 +14,7 @@ use Rattle.agreement.specs.SameGroups.{OpensAt, SameGroups}
 use Rattle.agreement.specs.colour.Landmark.{ColourLandmark}
 use Rattle.agreement.specs.passes.Agreement.{HitsCut, Agree}
 use Rattle.agreement.specs.colour.Claim.{Settled, HitsClaim, hitPatterns, hitsOf, ColourClaim}
+use Rattle.agreement.proofs.TailLaws.{same-at}
 use Rattle.agreement.proofs.GroupLaws.{ReachesBack, same-groups}
 use Rattle.agreement.proofs.colour.HitsAgree.{colour-agree, landmark-late}
 use Rattle.agreement.proofs.colour.ValueAgree.{at-counterparts, value-agree}
@@ -83,7 +84,10 @@ module _ (s : Settings) (c c′ : Chart) {a g b h : ℕ} (r : Agree (s .limit) (
   }
 
   module _ {m : ℕ} (whole : length (c .ratios) ≡ size c) (whole′ : length (c′ .ratios) ≡ size c′)
-      (t : SameLast m (c .ratios) (c′ .ratios)) (late : size c + 4 ≤ a + m) where
+      (k : SameLast m (c .kinds) (c′ .kinds)) (t : SameLast m (c .ratios) (c′ .ratios)) (late : size c + 4 ≤ a + m) where
+    same-kind : (i i′ : ℕ) → Settled (s .limit) (hitPatterns c) a i → Counterparts (size c) (size c′) i i′ → getD (c .kinds) i 0 ≡ getD (c′ .kinds) i′ 0
+    same-kind i i′ x e = same-at k i i′ (omega (arith, x .after)) e 0
+
     same-value : (i i′ : ℕ) → Settled (s .limit) (hitPatterns c) a i → Counterparts (size c) (size c′) i i′ → valueAt s c i ≡ valueAt s c′ i′
     same-value i i′ x e = value-agree r (s .tolerance) whole whole′ t late i i′ (x .after) e (x .there) (settled-counts c (r .cut) x)
 
@@ -93,7 +97,7 @@ module _ (s : Settings) (c c′ : Chart) {a g b h : ℕ} (r : Agree (s .limit) (
       value = λ i i′ x e. value-of (s .limit) (s .tolerance) (c .kinds) (c .ratios) i (x .there) ∙ same-value i i′ x e
           ∙ sym (value-of (s .limit) (s .tolerance) (c′ .kinds) (c′ .ratios) i′ (omega (arith, x .there)));
       onwards = settled-onwards c;
-      stretch = same-stretch s c c′ a same-value;
+      stretch = same-stretch s c c′ a same-kind same-value;
     }
 
 -- ---- the theorem
@@ -104,4 +108,4 @@ pub colour-claim : (s : Settings) (c c′ : Chart) {m p p′ : ℕ} → length (
 colour-claim s c c′ {m} {p} {p′} whole whole′ k t far x =
     let r = colour-agree (s .limit) (c .kinds) (c′ .kinds) m p p′ k far x in
     let late : size c + 4 ≤ p + m = ⊎-elim (λ y. omega (arith, landmark-late y)) (λ y. omega (arith, landmark-late y)) x in
-    claimed s c c′ (r .agree) whole whole′ t late
+    claimed s c c′ (r .agree) whole whole′ k t late
