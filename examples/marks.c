@@ -1,4 +1,4 @@
-/* Lists a chart's hit patterns and marks each whose mean colour value is above a limit.
+/* Lists a chart's hit patterns and marks each whose notes have a mean colour value above a limit.
  *
  * usage: marks LIMIT < chart      a line an object: d, k or n, then its start, delta and ratio
  */
@@ -50,6 +50,10 @@ static size_t read_chart(void)
 static void print_stretch(size_t n, size_t a, size_t b, double limit)
 {
     dresserduck_stretched got = dresserduck_stretch(CHART, a, b, value, n, WORK);
+    if (got.refusal == DRESSERDUCK_NO_NOTE) {
+        printf("%zu to %zu: interval %u, no note\n", a, b, interval[a]);
+        return;
+    }
     check_accepted(got.refusal, got.place);
     printf("%zu to %zu: interval %u, tenths %lld%s\n", a, b, interval[a], (long long)got.tenths, got.mean > limit ? " *" : "");
 }

@@ -45,7 +45,7 @@ enum {
     DRESSERDUCK_LARGEST_RAW_CHART = 16386
 };
 
-/* The refusals. They are tested in this order: 1 to 3 for the call, then 10, then 4 to 7 for one object after another, then 8 and 9.
+/* The refusals. They are tested in this order: 1 to 3 for the call, then 10, then 4 to 7 for one object after another, then 8, 9 and 11.
  * `place` is the object's number, counted from 0, for 4 to 7, and 0 for the others. For dresserduck_build it is the number of the
  * object that would be built, and 4 to 6 are about that object's kind, start and delta. */
 enum {
@@ -66,7 +66,8 @@ enum {
     DRESSERDUCK_BAD_WINDOW = 8,  /* dresserduck_record: the window lies outside 1.0 to 1,000.0, or is a NaN */
     DRESSERDUCK_BAD_STRETCH = 9, /* dresserduck_stretch: a >= b or b > n */
     DRESSERDUCK_BAD_GROUP = 9,   /* dresserduck_record: the group's number is not below the number of groups */
-    DRESSERDUCK_BAD_RATE = 10    /* dresserduck_build: the rate lies outside 0.25 to 4.0, or is a NaN */
+    DRESSERDUCK_BAD_RATE = 10,   /* dresserduck_build: the rate lies outside 0.25 to 4.0, or is a NaN */
+    DRESSERDUCK_NO_NOTE = 11     /* dresserduck_stretch: all objects from a to b are NonHits */
 };
 
 /* How many places the two work slices need for n objects; a constant where n is one. */
@@ -160,11 +161,12 @@ dresserduck_coloured dresserduck_colour(
 typedef struct dresserduck_stretched {
     uint64_t refusal;
     uint64_t place;
-    double mean;    /* the sum from left to right, divided by b - a; never a NaN or an infinity */
+    double mean;    /* the sum over the notes from left to right, divided by how many they are; never a NaN or an infinity */
     int64_t tenths; /* ten times the mean, rounded down to a whole number, exactly */
 } dresserduck_stretched;
 
-/* Fills the colour values as dresserduck_colour does, and returns the mean of those of the objects from a to b, b not included. */
+/* Fills the colour values of all objects as dresserduck_colour does, and returns the mean of those of the notes from a to b, b not
+ * included. A NonHit there counts for nothing, neither with its value nor in the number that the sum is divided by. */
 dresserduck_stretched dresserduck_stretch(
     const uint8_t *kind, size_t kind_count,
     const double *start, size_t start_count,

@@ -174,12 +174,21 @@ def drawn(rng, style, n):
     return made
 
 
-def spans(rng, n):
-    """Five stretches: the whole, one object, one from the start, one to the end, and any."""
+def struck(kinds, a, b):
+    """The notes from object a up to b."""
+    return [i for i in range(a, b) if kinds[i] != "2"]
+
+
+def spans(rng, kinds):
+    """Of six stretches those that have a note: the whole, one object, one from the start, one to the end, any, and from the first NonHit to the last."""
+    n = len(kinds)
     if n == 0:
         return []
     i, a = rng.randrange(n), rng.randrange(n)
-    return [(0, n), (i, i + 1), (0, rng.randrange(n) + 1), (rng.randrange(n), n), (a, rng.randrange(a, n) + 1)]
+    parts = [(0, n), (i, i + 1), (0, rng.randrange(n) + 1), (rng.randrange(n), n), (a, rng.randrange(a, n) + 1)]
+    if "2" in kinds:
+        parts.append((kinds.index("2"), kinds.rindex("2") + 1))
+    return [part for part in parts if struck(kinds, *part)]
 
 
 def colour_charts():
@@ -187,25 +196,35 @@ def colour_charts():
     rng = random.Random(SEED)
     styles = itertools.cycle([typical, equal, at_tolerance, extreme, wide, any_style, at_tolerance])
     for n in range(LONGEST + 1):
-        for kinds in (mixed, coupled, seams):
-            yield grown(kinds(rng), n), drawn(rng, next(styles), n), spans(rng, n)
-    for kinds, style in ((mixed, typical), (coupled, any_style)):
-        yield grown(kinds(rng), MOST), drawn(rng, style, MOST), spans(rng, MOST)
+        for style in (mixed, coupled, seams):
+            kinds = grown(style(rng), n)
+            yield kinds, drawn(rng, next(styles), n), spans(rng, kinds)
+    for style, ratios in ((mixed, typical), (coupled, any_style)):
+        kinds = grown(style(rng), MOST)
+        yield kinds, drawn(rng, ratios, MOST), spans(rng, kinds)
 
 
-def colour_request(kinds, ratios, parts):
+def colour_request(kinds, ratios):
     ones = words([1.0] * len(kinds))
-    asked = "".join(f"stretch {a} {b}\n" for a, b in parts)
-    return f"chart {len(kinds)}\n{kinds}\n{ones}\n{ones}\n{words(ratios)}\ncolour\n{asked}"
+    return f"chart {len(kinds)}\n{kinds}\n{ones}\n{ones}\n{words(ratios)}\ncolour\n"
+
+
+def stretch(kinds, values, a, b):
+    """Mean and tenths of a stretch by the original's values, which has no mean of notes itself. Python's floats are f64."""
+    notes, total = struck(kinds, a, b), 0.0
+    for i in notes:
+        total += values[i]
+    mean = total / len(notes)
+    return mean, math.floor(10 * fractions.Fraction(mean))
 
 
 def ask_colour(oracle, charts):
     """For each chart the values, and mean and tenths of each stretch."""
-    lines = iter(ask(oracle, "".join(colour_request(*chart) for chart in charts)))
+    lines = iter(ask(oracle, "".join(colour_request(kinds, ratios) for kinds, ratios, _ in charts)))
     for kinds, _, parts in charts:
         values = [float_of(word) for word in next(lines).split()]
         assert len(values) == len(kinds)
-        yield values, [(float_of(mean), int(tenths)) for mean, tenths in (next(lines).split() for _ in parts)]
+        yield values, [stretch(kinds, values, *part) for part in parts]
     assert next(lines, None) is None, "more answers than requests"
 
 
@@ -250,13 +269,18 @@ def check_values(charts, answers):
     assert seen >= {LEAST, beside(LEAST, 1), beside(LARGEST, -1), LARGEST}
 
 
-def check_stretches(answers):
-    """The tenths are exact, also where the rounded product would give others, below zero and above."""
-    off = []
-    for mean, tenths in (a for _, stretches in answers for a in stretches):
-        assert tenths == math.floor(10 * fractions.Fraction(mean))
-        if math.floor(10.0 * mean) != tenths:
-            off.append(mean)
+def check_parts(charts, answers):
+    """The stretches hold what they are made for: NonHits at both ends, one note alone, and none but notes of -0.0."""
+    parts = [(k[a:b], v[a:b]) for (k, _, drawn), (v, _) in zip(charts, answers) for a, b in drawn]
+    assert sum(k[0] == k[-1] == "2" for k, _ in parts) > 50, "few stretches between NonHits"
+    assert sum(len(k) == 1 for k, _ in parts) > 500, "few stretches of one note"
+    silent = [all(bits(x) == bits(-0.0) for x, kind in zip(v, k) if kind != "2") for k, v in parts]
+    assert sum(silent) > 50, "few stretches whose notes are all -0.0"
+
+
+def check_tenths(answers):
+    """Some tenths a rounded product would miss, below zero and above."""
+    off = [mean for _, stretches in answers for mean, tenths in stretches if math.floor(10.0 * mean) != tenths]
     assert sum(m < 0.0 for m in off) >= 5 and sum(m > 0.0 for m in off) >= 5, f"rounded tenths differ at {off} only"
     return len(off)
 
@@ -265,7 +289,8 @@ def main_colour(oracle, out):
     charts = [*colour_charts(), *tenth_charts(oracle)]
     answers = list(ask_colour(oracle, charts))
     check_values(charts, answers)
-    off = check_stretches(answers)
+    check_parts(charts, answers)
+    off = check_tenths(answers)
     with open(out, "wb") as file:
         for (kinds, ratios, parts), (values, stretches) in zip(charts, answers):
             file.write(colour_case(kinds, ratios, values))

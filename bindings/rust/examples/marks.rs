@@ -1,4 +1,4 @@
-//! Lists a chart's hit patterns and marks each whose mean colour value is above a limit.
+//! Lists a chart's hit patterns and marks each whose notes have a mean colour value above a limit.
 //!
 //! usage: marks LIMIT < chart      a line an object: d, k or n, then its start, delta and ratio
 
@@ -6,7 +6,7 @@ use std::env;
 use std::error::Error;
 use std::io;
 
-use dresserduck::{Chart, Refusal, Workspace, CENTER, NON_HIT, RIM};
+use dresserduck::{Chart, Refusal, Stretch, Workspace, CENTER, NON_HIT, RIM};
 
 #[derive(Default)]
 struct Lists {
@@ -52,16 +52,22 @@ fn read_chart() -> Result<Lists, Box<dyn Error>> {
     Ok(lists)
 }
 
+fn told(stretch: Stretch, limit: f64) -> String {
+    let mark = if stretch.mean > limit { " *" } else { "" };
+    format!("tenths {}{mark}", stretch.tenths)
+}
+
 fn print_marks(chart: &Chart, limit: f64) -> Result<(), Refusal> {
     let mut workspace = Workspace::new();
     let encoding = workspace.encode(chart)?;
     println!("{} hit patterns", encoding.hit_patterns);
     for objects in encoding.hit_pattern_objects() {
         let (a, b) = (objects.start, objects.end);
-        let stretch = workspace.stretch(chart, objects)?;
-        let mark = if stretch.mean > limit { " *" } else { "" };
-        let (interval, tenths) = (encoding.interval[a], stretch.tenths);
-        println!("{a} to {b}: interval {interval}, tenths {tenths}{mark}");
+        let said = match workspace.stretch(chart, objects) {
+            Err(Refusal::NoNote) => String::from("no note"),
+            stretch => told(stretch?, limit),
+        };
+        println!("{a} to {b}: interval {}, {said}", encoding.interval[a]);
     }
     Ok(())
 }

@@ -69,7 +69,7 @@ pub struct Stretched {
     pub refusal: u64,
     /// the object that is refused by 4 to 7, else 0
     pub place: u64,
-    /// the sum from left to right, divided by how many there are
+    /// the sum over the notes from left to right, divided by how many they are
     pub mean: f64,
     /// ten times the mean, rounded down to a whole number, exactly
     pub tenths: i64,
@@ -226,7 +226,7 @@ exports! {
     /// Per object its colour value.
     fn colour = dresserduck_colour(; value: f64, work: u16, scratch: f64) -> Coloured;
 
-    /// The same, and the mean of the values from object a to b, b not included, with its tenths.
+    /// The same, and the mean over the notes from object a to b, b not included, with its tenths.
     fn stretch = dresserduck_stretch(a: usize, b: usize; value: f64, work: u16, scratch: f64) -> Stretched;
 
     /// Per object its rhythm group and that one's pattern group; [`NO_GROUP`](crate::NO_GROUP) for a NonHit.

@@ -4,7 +4,7 @@ use std::error::Error;
 use std::fmt;
 
 /// The first refusal that applies. The first three are the host programmer's, the next four the chart writer's, the last
-/// three the player's settings'. They are tested in the order of their numbers, but 10 before 4.
+/// four the player's settings'. They are tested in the order of their numbers, but 10 before 4.
 ///
 /// ```
 /// use dresserduck::{Chart, Workspace};
@@ -50,6 +50,8 @@ pub enum Refusal {
     OutsideChart,
     /// 10: the rate lies outside 0.25 to 4.0, or is a NaN.
     BadRate,
+    /// 11: the stretch has no note, only NonHits.
+    NoNote,
 }
 
 impl Refusal {
@@ -66,6 +68,7 @@ impl Refusal {
             Refusal::BadWindow => 8,
             Refusal::OutsideChart => 9,
             Refusal::BadRate => 10,
+            Refusal::NoNote => 11,
         }
     }
 
@@ -95,6 +98,7 @@ impl Refusal {
             8 => Some(Refusal::BadWindow),
             9 => Some(Refusal::OutsideChart),
             10 => Some(Refusal::BadRate),
+            11 => Some(Refusal::NoNote),
             _ => unreachable!("the library has no refusal {number}"),
         }
     }
@@ -129,6 +133,7 @@ impl fmt::Display for Refusal {
                 "The passage or rhythm group that was asked for is not in the chart."
             }
             Refusal::BadRate => "The clock rate in the settings is not from 0.25 to 4.",
+            Refusal::NoNote => "The passage that was asked for has no note, only rolls and swells.",
         })
     }
 }

@@ -42,10 +42,10 @@ impl Encoding {
     }
 }
 
-/// The mean of a stretch's colour values.
+/// The mean of the colour values of a stretch's notes.
 #[derive(Clone, Copy, Debug, PartialEq)]
 pub struct Stretch {
-    /// the sum from left to right, divided by how many there are
+    /// the sum over the notes from left to right, divided by how many they are
     pub mean: f64,
     /// ten times the mean, rounded down to a whole number, exactly
     pub tenths: i64,

@@ -107,16 +107,18 @@ impl Workspace {
         accepted(answer.refusal, answer.place)
     }
 
-    /// The mean of the colour values of some objects.
+    /// The mean of the colour values of the notes among some objects. A NonHit there counts for nothing.
     ///
     /// ```
     /// use dresserduck::{Chart, Refusal, Workspace};
     ///
-    /// let chart = Chart::new(&[0, 1], &[0.0, 125.0], &[125.0; 2], &[1.0; 2]);
+    /// // d, a roll, k
+    /// let chart = Chart::new(&[0, 2, 1], &[0.0, 125.0, 250.0], &[125.0; 3], &[1.0; 3]);
     /// let mut workspace = Workspace::new();
     /// let values = workspace.colour(&chart)?;
-    /// assert_eq!(workspace.stretch(&chart, 0..2)?.mean, (values[0] + values[1]) / 2.0);
-    /// assert_eq!(workspace.stretch(&chart, 0..3), Err(Refusal::OutsideChart));
+    /// assert_eq!(workspace.stretch(&chart, 0..3)?.mean, (values[0] + values[2]) / 2.0);
+    /// assert_eq!(workspace.stretch(&chart, 1..2), Err(Refusal::NoNote));
+    /// assert_eq!(workspace.stretch(&chart, 0..4), Err(Refusal::OutsideChart));
     /// # Ok::<(), Refusal>(())
     /// ```
     pub fn stretch(&mut self, chart: &Chart, objects: Range<usize>) -> Result<Stretch, Refusal> {

@@ -40,6 +40,12 @@ fn colour_looks_at_the_ratios_alone_and_a_stretch_at_its_objects() {
     let stretch = workspace.stretch(&chart, 1..3).unwrap();
     assert_eq!(stretch.mean, (values[1] + values[2]) / 2.0);
     assert_eq!(stretch.tenths, (stretch.mean * 10.0).floor() as i64);
+    // with a NonHit in it, which has a value too
+    let chart = Chart::new(&[0, 1, 2, 0], &start, &delta, &ratio);
+    let values = workspace.colour(&chart).unwrap();
+    assert_ne!(values[2], 0.0);
+    let mean = workspace.stretch(&chart, 1..4).map(|stretch| stretch.mean);
+    assert_eq!(mean, Ok((values[1] + values[3]) / 2.0));
 }
 
 /// Groups of deltas 100, 150 with a NonHit before them, 200, and one note of 400.

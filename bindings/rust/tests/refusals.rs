@@ -84,6 +84,10 @@ fn settings_are_refused_by_the_call_that_has_them() {
         let got = workspace.stretch(&chart, objects.clone());
         assert_eq!(got, Err(Refusal::OutsideChart), "{objects:?}");
     }
+    // object 4 is the one NonHit
+    assert_eq!(workspace.stretch(&chart, 4..5), Err(Refusal::NoNote));
+    assert_eq!(workspace.stretch(&chart, 4..8), Err(Refusal::OutsideChart));
+    assert!(workspace.stretch(&chart, 4..6).is_ok());
     for window in [0.0, 1.0f64.next_down(), 1000.0f64.next_up(), f64::NAN] {
         let got = workspace.record(&chart, 0, window);
         assert_eq!(got, Err(Refusal::BadWindow), "{window:?}");
@@ -107,6 +111,7 @@ fn refusals_read_as_sentences_and_have_their_numbers() {
         Refusal::BadWindow,
         Refusal::OutsideChart,
         Refusal::BadRate,
+        Refusal::NoNote,
     ];
     for (number, refusal) in (1..).zip(all) {
         assert_eq!(refusal.number(), number);

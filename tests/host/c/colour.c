@@ -1,4 +1,4 @@
-/* colour and stretch from C and from C++: values by the scope's formulas, a mean below zero, and its tenths.
+/* colour and stretch from C and from C++: values by the scope's formulas, a mean below zero, its tenths, and NonHits in a stretch.
  * Prints `ok`, or each line that fails. */
 #include "dresserduck.h"
 
@@ -6,7 +6,7 @@
 #include "lent.h"
 
 /* Start, delta and ratio are lent in this order, and the ratio alone tells: 4.0 makes the last object's penalty 1.0 - 4.0 / 2.0 * 0.8. */
-static const uint8_t kind[N] = {DRESSERDUCK_CENTER, DRESSERDUCK_CENTER, DRESSERDUCK_RIM};
+static uint8_t kind[N] = {DRESSERDUCK_CENTER, DRESSERDUCK_CENTER, DRESSERDUCK_RIM};
 static const double start[N] = {0.0, 100.0, 200.0};
 static const double delta[N] = {100.0, 100.0, 100.0};
 static const double ratio[N] = {4.0, 1.0, 4.0};
@@ -56,17 +56,30 @@ static void stretched(void)
     CHECK(got.mean == opening_value() && got.tenths == 49);
 }
 
-static void refused(void)
+static void expect_refused(uint64_t refusal, size_t a, size_t b)
 {
-    dresserduck_stretched got = stretch(0, 4);
-    CHECK(got.refusal == DRESSERDUCK_BAD_STRETCH && got.place == 0 && got.mean == 0.0 && got.tenths == 0);
+    dresserduck_stretched got = stretch(a, b);
+    CHECK(got.refusal == refusal && got.place == 0 && got.mean == 0.0 && got.tenths == 0);
     CHECK(untouched());
+}
+
+/* With a NonHit for its last object: it has a value, and the mean of a stretch is that of the notes before it. */
+static void struck(void)
+{
+    kind[2] = DRESSERDUCK_NON_HIT;
+    dresserduck_stretched got = stretch(0, 3);
+    CHECK(got.refusal == DRESSERDUCK_ACCEPTED && got.place == 0);
+    CHECK(lent.value[2] != 0.0 && got.mean == opening_value() / 2.0 && got.tenths == 24);
+    expect_refused(DRESSERDUCK_NO_NOTE, 2, 3);
+    expect_refused(DRESSERDUCK_BAD_STRETCH, 2, 4);
+    expect_refused(DRESSERDUCK_BAD_STRETCH, 3, 3);
 }
 
 int main(void)
 {
     coloured();
     stretched();
-    refused();
+    expect_refused(DRESSERDUCK_BAD_STRETCH, 0, 4);
+    struck();
     return finish();
 }

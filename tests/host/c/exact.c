@@ -74,12 +74,22 @@ static void encode_exactly(const struct chart *c, uint16_t *work, double *scratc
     free(interval);
 }
 
+/* What is refused of the whole chart as a stretch. */
+static uint64_t whole_refusal(const struct chart *c)
+{
+    for (size_t i = 0; i < c->n; i++) {
+        if (c->kind[i] != DRESSERDUCK_NON_HIT) {
+            return DRESSERDUCK_ACCEPTED;
+        }
+    }
+    return c->n == 0 ? DRESSERDUCK_BAD_STRETCH : DRESSERDUCK_NO_NOTE;
+}
+
 static void score_exactly(const struct chart *c, uint16_t *work, double *scratch)
 {
     double *value = (double *)block(c->n, sizeof *value);
-    uint64_t none = c->n == 0 ? DRESSERDUCK_BAD_STRETCH : DRESSERDUCK_ACCEPTED;
     CHECK(dresserduck_colour(CHART, value, c->n, work, 8 * c->n, scratch, c->n).refusal == DRESSERDUCK_ACCEPTED);
-    CHECK(dresserduck_stretch(CHART, 0, c->n, value, c->n, work, 8 * c->n, scratch, c->n).refusal == none);
+    CHECK(dresserduck_stretch(CHART, 0, c->n, value, c->n, work, 8 * c->n, scratch, c->n).refusal == whole_refusal(c));
     free(value);
 }
 

@@ -74,6 +74,9 @@ static void by_the_settings(void)
     good_chart();
     dresserduck_stretched stretched = dresserduck_stretch(CHART, 3, 3, lent.value, n, lent.work, 8 * n, lent.scratch, n);
     CHECK(stretched.refusal == DRESSERDUCK_BAD_STRETCH && stretched.place == 0 && stretched.mean == 0.0 && stretched.tenths == 0);
+    kind[1] = kind[2] = DRESSERDUCK_NON_HIT;
+    stretched = dresserduck_stretch(CHART, 1, 3, lent.value, n, lent.work, 8 * n, lent.scratch, n);
+    CHECK(stretched.refusal == DRESSERDUCK_NO_NOTE && stretched.place == 0 && stretched.mean == 0.0 && stretched.tenths == 0);
     dresserduck_recorded recorded = dresserduck_record(CHART, FEW, NAN, lent.work, 8 * n, lent.scratch, n);
     CHECK(recorded.refusal == DRESSERDUCK_BAD_WINDOW && recorded.place == 0 && recorded.note_count == 0);
     recorded = dresserduck_record(CHART, FEW, 50.0, lent.work, 8 * n, lent.scratch, n);

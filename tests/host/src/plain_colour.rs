@@ -41,9 +41,16 @@ pub fn values(chart: &Chart, table: &dyn Fn(usize) -> f64) -> Vec<f64> {
     (0..chart.kind.len()).map(value).collect()
 }
 
-/// The mean of some values, summed from left to right.
-pub fn mean(values: &[f64]) -> f64 {
-    values.iter().fold(0.0, |sum, x| sum + x) / values.len() as f64
+/// The mean of the notes' values, summed from left to right; none where there is no note.
+pub fn mean(kind: &[u8], values: &[f64]) -> Option<f64> {
+    let (mut sum, mut notes) = (0.0, 0);
+    for (&kind, value) in kind.iter().zip(values) {
+        if kind < 2 {
+            sum += value;
+            notes += 1;
+        }
+    }
+    (notes > 0).then(|| sum / f64::from(notes))
 }
 
 /// Ten times x, rounded down, by 128-bit integers.

@@ -48,22 +48,21 @@ fn check_values(pair: &Pair, [a, b]: &[Heard; 2], from: usize) {
     }
 }
 
-/// The stretch from tail object a to b, b not included.
+/// The stretch from tail object a to b, b not included. It is accepted if it has a note.
 fn stretched(chart: &Chart, tail: usize, [a, b]: [usize; 2]) -> Stretched {
     let n = chart.size();
     let before = n - tail;
-    let got = stretch(
-        chart,
-        before + a,
-        before + b,
-        &mut Memory::of_sizes([n, 8 * n, n]),
-    );
+    let (a, b) = (before + a, before + b);
+    let got = stretch(chart, a, b, &mut Memory::of_sizes([n, 8 * n, n]));
+    let noted = chart.kind[a..b].iter().any(|&kind| kind < 2);
+    let refusal = if noted { 0 } else { 11 };
     let refused = (got.refusal, got.place);
-    assert_eq!(refused, (0, 0), "{a}..{b} behind {before} of {chart}");
+    assert_eq!(refused, (refusal, 0), "{a}..{b} of {chart}");
     got
 }
 
-fn check_stretch(pair: &Pair, bounds: [usize; 2]) {
+/// Whether the stretch has a note.
+fn check_stretch(pair: &Pair, bounds: [usize; 2]) -> bool {
     let charts = pair.charts.each_ref();
     let [x, y] = charts.map(|chart| stretched(chart, pair.tail, bounds));
     let shown = |s: Stretched| (s.mean.to_bits(), s.tenths);
@@ -72,6 +71,7 @@ fn check_stretch(pair: &Pair, bounds: [usize; 2]) {
         shown(y),
         "stretch {bounds:?} in the tail of {pair}"
     );
+    x.refusal == 0
 }
 
 /// How often the pairs had something to say; no claim may be an empty one.
@@ -105,8 +105,8 @@ fn check_pair(random: &mut Xorshift, pair: &Pair, counts: &mut Counts) {
         let a = random.between(from, pair.tail - 1);
         let b = random.between(a + 1, pair.tail);
         for bounds in [[from, pair.tail], [a, b]] {
-            check_stretch(pair, bounds);
-            counts.stretches += 1;
+            let noted = check_stretch(pair, bounds);
+            counts.stretches += usize::from(noted);
         }
     }
 }

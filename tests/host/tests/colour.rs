@@ -1,4 +1,4 @@
-//! colour and stretch over the static library: the scope's example, a plain reimplementation, memory, and refusals 1 to 9.
+//! colour and stretch over the static library: the scope's example, a plain reimplementation, memory, and refusals 1 to 9 and 11.
 
 use host_tests::chart::Chart;
 use host_tests::check::bad_charts;
@@ -52,11 +52,15 @@ fn check_values(chart: &Chart, table: &dyn Fn(usize) -> f64) -> Vec<f64> {
     values
 }
 
-/// Checks the stretch from a to b, whose colour values are known, and gives its mean.
+/// Checks the stretch from a to b, whose colour values are known, and gives its mean, if it has one.
 #[track_caller]
-fn check_stretch(chart: &Chart, values: &[f64], a: usize, b: usize) -> f64 {
-    let mean = plain_colour::mean(&values[a..b]);
+fn check_stretch(chart: &Chart, values: &[f64], a: usize, b: usize) -> Option<f64> {
+    let mean = plain_colour::mean(&chart.kind[a..b], &values[a..b]);
     let lent = roomy(values.len());
+    let Some(mean) = mean else {
+        refused(chart, Some((a, b)), lent, 11, 0);
+        return None;
+    };
     let mut memory = lent.clone();
     let got = stretch(chart, a, b, &mut memory);
     assert_eq!((got.refusal, got.place), (0, 0), "{a}..{b} of {chart}");
@@ -64,14 +68,14 @@ fn check_stretch(chart: &Chart, values: &[f64], a: usize, b: usize) -> f64 {
     let tenths = plain_colour::tenths(mean);
     assert_eq!(got.tenths, tenths, "{a}..{b} of {chart}");
     assert_eq!(memory.bits(), lent.filled(values).bits(), "{chart}");
-    mean
+    Some(mean)
 }
 
 #[test]
 fn values_and_stretches_follow_the_scope() {
     let table = table();
     let mut rng = Xorshift::new(0x5EED);
-    let (mut stretches, mut negative) = (0, 0);
+    let (mut stretches, mut negative, mut noteless) = (0, 0, 0);
     for round in 0..2_000 {
         let n = rng.below(120);
         let mut chart = biased_chart(&mut rng, n);
@@ -85,14 +89,73 @@ fn values_and_stretches_follow_the_scope() {
             0 => n,
             _ => rng.between(a + 1, n),
         };
-        let mean = check_stretch(&chart, &values, a, b);
-        stretches += 1;
-        negative += usize::from(mean < 0.0);
+        match check_stretch(&chart, &values, a, b) {
+            None => noteless += 1,
+            Some(mean) => {
+                stretches += 1;
+                negative += usize::from(mean < 0.0);
+            }
+        }
     }
     assert!(
-        stretches > 1_500 && negative > 100,
-        "{stretches} stretches, {negative} negative means"
+        stretches > 1_500 && negative > 100 && noteless > 20,
+        "{stretches} stretches, {negative} negative means, {noteless} without notes"
     );
+}
+
+/// NonHits are filled like other objects, and lend the mean neither their values nor their number.
+#[test]
+fn non_hits_do_not_move_a_mean() {
+    let table = table();
+    let chart = Chart::of_text("nndknkn");
+    let values = check_values(&chart, &table);
+    assert!(values[0] > 0.0, "a NonHit has a value");
+    for (a, b, notes) in [
+        // at both ends, at either, and inside
+        (1, 5, vec![2, 3]),
+        (0, 7, vec![2, 3, 5]),
+        (1, 3, vec![2]),
+        (3, 5, vec![3]),
+        (3, 6, vec![3, 5]),
+        // a note alone
+        (2, 3, vec![2]),
+    ] {
+        let sum: f64 = notes.iter().fold(0.0, |sum, &i: &usize| sum + values[i]);
+        let mean = sum / notes.len() as f64;
+        let checked = check_stretch(&chart, &values, a, b);
+        assert_eq!(checked.map(f64::to_bits), Some(mean.to_bits()), "{a}..{b}");
+    }
+}
+
+#[test]
+fn stretches_of_non_hits_are_refused_11() {
+    let chart = Chart::of_text("nndn");
+    for bounds in [(0, 1), (1, 2), (0, 2), (3, 4)] {
+        refused(&chart, Some(bounds), roomy(4), 11, 0);
+    }
+    // what is empty or overlong is refused for that
+    for bounds in [(0, 0), (1, 1), (3, 3), (4, 4), (3, 5), (0, 5), (2, 1)] {
+        refused(&chart, Some(bounds), roomy(4), 9, 0);
+    }
+    let most = LARGEST_CHART;
+    let silent = Chart::of_kinds(vec![2; most]);
+    refused(&silent, Some((0, most)), roomy(most), 11, 0);
+    refused(&silent, Some((0, most + 1)), roomy(most), 9, 0);
+}
+
+/// The sum begins with 0.0, so that notes of -0.0 alone have the mean 0.0.
+#[test]
+fn notes_of_minus_zero_have_the_mean_zero() {
+    let mut chart = Chart::of_text("dndd");
+    // the last two open nothing, and their penalty is below zero
+    chart.ratio = vec![4.0; 4];
+    let values = check_values(&chart, &table());
+    let minus_zero = (-0.0f64).to_bits();
+    assert_eq!([2, 3].map(|i| values[i].to_bits()), [minus_zero; 2]);
+    for a in [1, 2, 3] {
+        let mean = check_stretch(&chart, &values, a, 4);
+        assert_eq!(mean.map(f64::to_bits), Some(0), "{a}..4");
+    }
 }
 
 #[track_caller]
@@ -148,14 +211,18 @@ fn stretches_that_are_none_are_refused_9() {
 }
 
 #[test]
-fn earlier_refusals_come_before_9() {
+fn earlier_refusals_come_before_9_and_11() {
     let (good, huge) = (Chart::of_size(5), Chart::of_size(LARGEST_CHART + 1));
     for bounds in [None, Some((1, 4)), Some((4, 1))] {
         refused(&huge, bounds, exact(LARGEST_CHART + 1), 1, 0);
         for sizes in [[4, 40, 5], [5, 39, 5], [5, 40, 4]] {
             refused(&good, bounds, Memory::of_sizes(sizes), 3, 0);
         }
-        for (number, place, chart) in bad_charts() {
+        for (number, place, mut chart) in bad_charts() {
+            refused(&chart, bounds, exact(5), number, place);
+            // nor is a note in it
+            let notes = chart.kind.iter_mut().filter(|kind| **kind < 2);
+            notes.for_each(|kind| *kind = 2);
             refused(&chart, bounds, exact(5), number, place);
         }
     }

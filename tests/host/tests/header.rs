@@ -169,6 +169,7 @@ fn the_headers_numbers_are_those_of_the_rust_crate() {
         ("BAD_STRETCH", Refusal::OutsideChart.number()),
         ("BAD_GROUP", Refusal::OutsideChart.number()),
         ("BAD_RATE", Refusal::BadRate.number()),
+        ("NO_NOTE", Refusal::NoNote.number()),
     ];
     let want = want.map(|(name, number)| (name.to_string(), number));
     assert_eq!(numbers(&texts_in("include")), BTreeMap::from(want));

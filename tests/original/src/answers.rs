@@ -3,7 +3,7 @@
 use host_tests::chart::Chart;
 use host_tests::lent::{exact_sizes, Lent};
 use host_tests::samples::Xorshift;
-use host_tests::{colour, encode, rhythm, Encoded};
+use host_tests::{colour, encode, plain_colour, rhythm, Encoded};
 
 use crate::original::Original;
 
@@ -36,18 +36,23 @@ fn compare_colour(chart: &Chart, original: &Original, spare: usize) -> Vec<f64> 
     values
 }
 
+/// The mean is that of the notes, by the original's values: the original has none.
 #[track_caller]
 fn compare_stretch(chart: &Chart, values: &[f64], a: usize, b: usize) {
     let n = chart.size();
-    let mean = values[a..b].iter().fold(0.0, |sum, x| sum + x) / (b - a) as f64;
-    let want = (0, 0, mean.to_bits(), oracle::chart::tenths(mean));
     let lent = colour::Memory::of_sizes([n, 8 * n, n]);
-    let mut memory = lent.clone();
+    let (want, left) = match plain_colour::mean(&chart.kind[a..b], &values[a..b]) {
+        Some(mean) => {
+            let tenths = oracle::chart::tenths(mean);
+            ((0, 0, mean.to_bits(), tenths), lent.filled(values))
+        }
+        None => ((11, 0, 0, 0), lent.clone()),
+    };
+    let mut memory = lent;
     let got = colour::stretch(chart, a, b, &mut memory);
     let got = (got.refusal, got.place, got.mean.to_bits(), got.tenths);
     assert_eq!(got, want, "stretch {a}..{b} of {chart}");
-    let filled = lent.filled(values);
-    assert_eq!(memory.bits(), filled.bits(), "stretch {a}..{b} of {chart}");
+    assert_eq!(memory.bits(), left.bits(), "stretch {a}..{b} of {chart}");
 }
 
 #[track_caller]

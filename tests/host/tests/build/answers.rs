@@ -133,12 +133,12 @@ fn every_other_call_accepts_a_built_chart() {
             delta: memory.delta.lent().to_vec(),
             ratio: memory.ratio.lent().to_vec(),
         };
-        // an empty chart has no stretch, and one without notes no group
-        let stretch = if n == 0 { 9 } else { 0 };
-        let record = if chart.kind.iter().all(|&kind| kind == 2) {
-            9
-        } else {
-            0
+        // an empty chart has no stretch, and one without notes no mean and no group
+        let noted = chart.kind.iter().any(|&kind| kind < 2);
+        let (stretch, record) = match (n, noted) {
+            (0, _) => (9, 9),
+            (_, false) => (11, 9),
+            (_, true) => (0, 0),
         };
         assert_eq!(
             refusals_of_others(&chart),
