@@ -136,6 +136,12 @@ def whole(library):
     return stretch(library, GUIDE, 0, len(GUIDE.letters))
 
 
+def with_roll(library):
+    """The value of the roll in the guide's chart, and what the mean would be if it counted."""
+    values = colour(library, GUIDE)
+    return values[GUIDE.letters.index("n")], sum(values) / len(values)
+
+
 def at(i):
     """The value of object i of the guide's chart."""
     return lambda library: [colour(library, GUIDE)[i]]
@@ -211,6 +217,7 @@ FIGURES = [
     ("docs/GUIDE.md", "repeats ({:.2f})", repeated_changes),
     ("docs/GUIDE.md", "deltas of {:g} and {:g} ms", built_deltas),
     ("docs/GUIDE.md", "The whole chart has mean {:.3f} and tenths {}", whole),
+    ("docs/GUIDE.md", "a value of its own, {:.2f}, but is no note: with it the mean would be {:.3f}", with_roll),
     ("docs/GUIDE.md", "lowers the sum to {:.2f}", at(13)),
     ("docs/GUIDE.md", "lowers it to {:.2f}", at(14)),
     ("docs/GUIDE.md", "object 3 has {:.2f}", at(3)),

@@ -138,11 +138,11 @@ stretched e = shown (stretchOutcome baseSettings (chart (e .kinds)) (e .a) (e .b
 pub examples-right : (map coloured examples ≡ map (λ (e : Example). e .outcome) examples)
     × (map stretched stretches ≡ map (λ (e : StretchExample). e .outcome) stretches)
 unfolding examples stretches coloured stretched chart lent shown answered colourOutcome stretchOutcome refusedThen stretchRefusal hasNote chartTenths tenthsOf
-    chartMean averageOf stretchValues ofNotes sumFrom part ofInt anyShort shortRefusal verdict equallyLong firstRefused objectRefusal timeGood ratioGood within filled
-    colourValues colourAt standingAt isFirst over tabulate scan endState gathered opened groupCount groupNumbers placeByMark groupPlaces sizesFrom groupSizes
-    firstsFrom groupFirsts isNote notes noteIdx noteBefore previousNote continues opensStreak streakMarks streakOf streakLengths streakTypes opensPattern
-    patternMarks coupledAt coupled coupledRun hitSize hitMarksAfter hitMarks secondAt secondLengths matches nearestMatch intervalAt intervals patternsOpen
-    firstLengths streakCounts patternTypes coupledPatterns hitsOpen hitCount hitSizes hitFirsts hitSeconds hitIntervals streakPlaceOf alternatingOf
+    chartMean averageOf stretchValues ofNotes sumFrom part ofInt anyShort shortRefusal verdict equallyLong firstRefused objectRefusal timeGood ratioGood within
+    filled colourValues colourAt standingAt isFirst over tabulate scan endState gathered opened groupCount groupNumbers placeByMark groupPlaces sizesFrom
+    groupSizes firstsFrom groupFirsts isNote notes noteIdx noteBefore previousNote continues opensStreak streakMarks streakOf streakLengths streakTypes
+    opensPattern patternMarks coupledAt coupled coupledRun hitSize hitMarksAfter hitMarks secondAt secondLengths matches nearestMatch intervalAt intervals
+    patternsOpen firstLengths streakCounts patternTypes coupledPatterns hitsOpen hitCount hitSizes hitFirsts hitSeconds hitIntervals streakPlaceOf alternatingOf
     patternPlaceOf hitOf intervalOf objectSum hitValue altValue monoValue addIf ratioPenalty lowered eightTenths logisticAt tableBits isNear round add sub mul
     div le ofBits toBits
 examples-right = (refl, refl)

@@ -1,5 +1,5 @@
 -- The calls colour and stretch (scope: Calls and what they fill): what each answers, and what every lent
--- slice holds afterwards. Refusal 9 is tested after 1 to 7.
+-- slice holds afterwards. Refusals 9 and 11 are tested after 1 to 7.
 use Prim.Native.Nat.{ℕ}
 use mathlib.Core.List.{List, [], _∷_}
 use lib.ListN.{length}

@@ -26,7 +26,8 @@ fn has_note(kind: &[u8]) -> bool
     false
 }
 
-// The number of what is refused of a stretch, or 0: 9 where a is not below b or b is above n, else 11 where no object is a note.
+// The number of what is refused of a stretch, or 0: 9 where a is not below b or b is above n, else 11 where it has no
+// note.
 fn stretch_refusal(kind: &[u8], a: usize, b: usize) -> u8
     ensures { λ r. ⌜ r ≡ stretchRefusal (lent kind) a b ⌝ }
 {

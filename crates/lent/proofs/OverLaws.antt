@@ -7,7 +7,8 @@ use native.Mathlib.Nat.{le-of-suc-le-suc, not-suc-le-zero, suc-add, zero-add, ad
 use native.Mathlib.Numerals.{add-one}
 use native.Mathlib.Omega.{arith}
 use lib.ListN.{length, take, drop, getD, set, length-append, length-drop, take-append-drop}
-use lib.Seq.{length-take-le, take-at, drop-at, drop-append-add, drop-drop, take-append-le, take-take, take-length, getD-take, getD-drop, set-getD, drop-set-lt, ext-getD}
+use lib.Seq.{length-take-le, take-at, drop-at, drop-append-add, drop-drop, take-append-le, take-take, take-length, getD-take, getD-drop}
+use lib.Seq.{set-getD, drop-set-lt, ext-getD}
 use Rattle.lent.specs.Over.{over, put, part, Write, written}
 
 module _ {A : Type 0} where

@@ -21,7 +21,8 @@ returns-2 c = past-refused _ _ _ (c .if2 .taken)
 abbrev tested : tie.After-has-note → tie.Start
 tested c = c .before .before .before .before .before
 
-noted : (c : tie.After-has-note) {b : Bool} → c .has-note .result ≡ b → hasNote (part (tested c .args .a) (tested c .args .b - tested c .args .a) (tested c .args .kind .now)) ≡ b
+noted : (c : tie.After-has-note) {b : Bool} → c .has-note .result ≡ b
+    → hasNote (part (tested c .args .a) (tested c .args .b - tested c .args .a) (tested c .args .kind .now)) ≡ b
 noted c e = ap hasNote (sym (part-pieces _ _ _)) ∙ sym (c .has-note .ensures) ∙ e
 
 returns-3 : tie.Need-returns-3
