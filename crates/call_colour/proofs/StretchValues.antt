@@ -1,5 +1,6 @@
 -- The values that a stretch's mean is made of: some, at most one for each object, and each an object's.
 use mathlib.Core.Path.{_≡_}
+use mathlib.Core.Bool.{true}
 use Prim.Native.Nat.{ℕ, _+_, _-_, _≤_, _<_}
 use native.Mathlib.Omega.{arith}
 use lib.Dec.{ltb→lt}
@@ -8,10 +9,10 @@ use lib.Ieee.{Float, nan}
 use Rattle.lent.specs.Over.{part}
 use Rattle.lent.proofs.OverLaws.{length-part, getD-part}
 use Rattle.grouping_chart.specs.Chart.{Chart, size}
-use Rattle.grouping_chart.specs.Object.{notes}
+use Rattle.grouping_chart.specs.Object.{isNote, notes}
 use Rattle.grouping_chart.specs.Settings.{Settings}
 use Rattle.grouping_chart.proofs.ObjectLaws.{notes-few}
-use Rattle.grouping_interval.proofs.NoteLaws.{length-of-notes, of-notes-all}
+use Rattle.grouping_interval.proofs.NoteLaws.{length-of-notes, of-notes-all, of-notes-alone}
 use Rattle.evaluator_values.specs.Colour.{colourAt, valuesOf}
 use Rattle.evaluator_values.proofs.StandingLaws.{length-values}
 use Rattle.call_colour.specs.Stretch.{hasNote, stretchValues}
@@ -28,6 +29,13 @@ module _ (s : Settings) (c : Chart) (a b : ℕ) (x : StretchLies (c .kinds) a b)
   length-all : length (part a (b - a) (valuesOf s c)) ≡ b - a
   length-all =
       length-part a (b - a) (valuesOf s c) (omega (arith, x .some, x .inside, length-values (s .limit) (s .tolerance) (c .kinds) (c .ratios)))
+
+  -- where all objects are notes, the values of all of them
+  pub notes-alone : ((i : ℕ) → i < b - a → isNote (getD (c .kinds) (a + i) 0) ≡ true) → stretchValues s c a b ≡ part a (b - a) (valuesOf s c)
+  unfolding stretchValues
+  notes-alone g =
+      of-notes-alone (part a (b - a) (c .kinds)) (part a (b - a) (valuesOf s c)) (omega (arith, length-kinds, length-all))
+      (λ i h. let k : i < b - a = omega (arith, length-kinds) in rw (getD-part a (b - a) (c .kinds) i 0 k) (g i k))
 
   -- as many as there are notes
   length-stretch : length (stretchValues s c a b) ≡ length (notes (part a (b - a) (c .kinds)))

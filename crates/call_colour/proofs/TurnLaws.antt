@@ -15,14 +15,13 @@ use lib.ListN.{length, drop, getD, drop-of-length-le}
 use lib.Seq.{drop-cons}
 use lib.Ieee.{Float, nan, binary64, fits, add, div, ofInt}
 use lib.Ieee.Fits.{add-fits}
-use Rattle.numeric.specs.Constants.{zero64}
+use Rattle.numeric.specs.Constants.{zero64, minusZero64}
 use Rattle.numeric.proofs.MinusZero.{add-minus-zero}
 use Rattle.grouping_chart.specs.Object.{isNote}
 use Rattle.grouping_chart.proofs.NotesLaws.{notes-none, notes-first}
 use Rattle.grouping_interval.specs.Notes.{ofNotes}
 use Rattle.grouping_interval.proofs.NoteLaws.{of-notes-step, of-notes-over}
 use Rattle.call_colour.specs.Stretch.{hasNote, sumFrom, averageOf}
-use Rattle.call_colour.specs.passes.Rooms.{minusZero64}
 
 -- ---- a truth value as a number
 

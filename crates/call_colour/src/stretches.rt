@@ -2,12 +2,13 @@
 ghost use mathlib.Core.Path.{_≡_};
 ghost use mathlib.Core.Bool.{cond};
 ghost use Prim.Native.Nat.{_-_, _≤_};
+ghost use Rattle.numeric.specs.Constants.{minusZero64};
 ghost use Rattle.lent.specs.Slice.{lent};
 ghost use Rattle.lent.specs.Over.{part};
 ghost use Rattle.grouping_chart.specs.Object.{isNote};
 ghost use Rattle.grouping_interval.specs.Notes.{ofNotes};
 ghost use Rattle.call_colour.specs.Stretch.{hasNote, stretchRefusal, stretchVerdict, averageOf};
-ghost use Rattle.call_colour.specs.passes.Rooms.{minusZero64, AverageRoom, StretchRoom};
+ghost use Rattle.call_colour.specs.passes.Rooms.{AverageRoom, StretchRoom};
 use grouping_chart::object::ObjectIndex;
 use grouping_chart::object::is_note;
 use grouping_chart::refusal::Verdict;

@@ -129,6 +129,14 @@ of-notes-all P (k ∷ ks) (d ∷ ds) g j h = by (isNote k) j (of-notes-all P ks 
     by true (suc j) u h = u j (omega arith)
     by false j u h = u j h
 
+-- where all objects are notes nothing is left out
+pub of-notes-alone : (ks : List ℕ) (ds : List Float) → length ds ≡ length ks → ((i : ℕ) → i < length ks → isNote (getD ks i 0) ≡ true) → ofNotes ks ds ≡ ds
+unfolding ofNotes
+of-notes-alone [] [] e g = refl
+of-notes-alone [] (d ∷ ds) e g = absurd (omega arith)
+of-notes-alone (k ∷ ks) [] e g = absurd (omega arith)
+of-notes-alone (k ∷ ks) (d ∷ ds) e g = rw (g 0 (omega arith), of-notes-alone ks ds (omega arith) (λ i h. g (suc i) (omega arith)))
+
 -- ---- both lists from object i on
 
 pub objects-all : (ks : List ℕ) → noteObjects ks ≡ notesFrom 0 ks

@@ -10,6 +10,7 @@ use lib.Ieee.{Float, nan, inf, fin, binary64, emax, low, fits, round, sum, add}
 use lib.Ieee.Fits.{down-pos, round-fits}
 use lib.Ieee.Exact.{HasValue, round-exact}
 use borrow.Author.Tests.{le-ltb}
+use Rattle.numeric.specs.Constants.{minusZero64}
 use Rattle.numeric.proofs.order.Rank.{ex, ex-val, in-format, size-inj}
 use Rattle.numeric.proofs.Units.{L, unitsOf, sum-units}
 
@@ -32,7 +33,7 @@ module _ (s : Bool) (m : ℕ) (e : ℤ) (f : T (fits binary64 (fin s m e))) wher
       only (round binary64 s (unitsOf m e) L) (round-fits binary64 s (unitsOf m e) L)
       (round-exact binary64 s (unitsOf m e) L m (ex (low binary64) e) (pow-pos (low binary64)) (k .short) below refl)
 
-pub add-minus-zero : (x : Float) → T (fits binary64 x) → add binary64 x (fin true 0 (pos 0)) ≡ x
+pub add-minus-zero : (x : Float) → T (fits binary64 x) → add binary64 x minusZero64 ≡ x
 unfolding add fits sum
 add-minus-zero nan f = refl
 add-minus-zero (inf s) f = refl

@@ -1,10 +1,14 @@
--- The f64 numbers that the formulas of the scope name: 64 for binary64, so that none is taken for a natural number.
-use mathlib.Core.Bool.{false}
+-- The f64 numbers that the formulas of the scope name, and -0.0, which changes no sum: 64 for binary64, so that none is
+-- taken for a natural number.
+use mathlib.Core.Bool.{true, false}
 use lib.IntN.{pos, negsuc}
 use lib.Ieee.{Float, fin, binary64, round}
 
 abbrev pub zero64 : Float
 zero64 = fin false 0 (pos 0)
+
+abbrev pub minusZero64 : Float
+minusZero64 = fin true 0 (pos 0)
 
 abbrev pub half64 : Float
 half64 = fin false 1 (negsuc 0)

@@ -1,11 +1,9 @@
 -- What the passes of colour and stretch ask.
 use mathlib.Core.Path.{_≡_}
 use Prim.Native.Nat.{ℕ, _≤_, _<_}
-use mathlib.Core.Bool.{true}
 use mathlib.Core.List.{List}
 use lib.ListN.{length, getD}
-use lib.IntN.{pos}
-use lib.Ieee.{Float, fin}
+use lib.Ieee.{Float}
 use Rattle.grouping_chart.specs.Chart.{largest}
 use Rattle.grouping_chart.specs.Settings.{Settings, Permitted}
 use Rattle.grouping_preprocessor.specs.passes.Steps.{Regions}
@@ -23,20 +21,16 @@ pub record ChartRoom (s : Settings) (kinds : List ℕ) (ratios : List Float) (m 
 abbrev pub Kinds : List ℕ → Type 0
 Kinds kinds = (i : ℕ) → i < length kinds → getD kinds i 0 ≤ 2
 
--- a value for each object, and few of them
+-- known kinds, a value for each, and few of them
 pub record AverageRoom (kinds : List ℕ) (values : List Float) : Type 0 where
   pub known : Kinds kinds
   pub same : length values ≡ length kinds
   pub few : length kinds ≤ largest
 
--- the kinds and values from a to b are there, and few
+-- known kinds; kinds and values from a to b are there, and few
 pub record StretchRoom (kinds : List ℕ) (values : List Float) (a b : ℕ) : Type 0 where
   pub known : Kinds kinds
   pub ordered : a ≤ b
   pub kinded : b ≤ length kinds
   pub valued : b ≤ length values
   pub few : b ≤ largest
-
--- what a NonHit adds to a sum, -0.0
-abbrev pub minusZero64 : Float
-minusZero64 = fin true 0 (pos 0)
