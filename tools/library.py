@@ -124,7 +124,7 @@ def colour(library, chart):
 
 
 def stretch(library, chart, a, b):
-    """Mean and tenths of the values from object a up to b."""
+    """Mean and tenths of the notes' values from object a up to b."""
     value = lent(ctypes.c_double, [0.0] * len(chart.letters))
     returned = call(library, "stretch", chart, ctypes.c_size_t(a), ctypes.c_size_t(b), *value)
     return returned.mean, returned.tenths
