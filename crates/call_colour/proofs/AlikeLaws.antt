@@ -13,7 +13,7 @@ use Rattle.grouping_chart.specs.Settings.{Settings}
 use Rattle.grouping_interval.specs.Notes.{ofNotes}
 use Rattle.evaluator_values.specs.Colour.{valuesOf}
 use Rattle.evaluator_values.proofs.StandingLaws.{length-values, value-of}
-use Rattle.call_colour.specs.Stretch.{hasNote, GoodStretch, stretchValues, averageOf, chartMean, chartTenths}
+use Rattle.call_colour.specs.Stretch.{fromTo, hasNote, GoodStretch, stretchValues, averageOf, chartMean, chartTenths}
 use Rattle.call_colour.proofs.StretchCases.{StretchLies, lies-good}
 use Rattle.call_colour.proofs.StretchValues.{valueAt}
 
@@ -26,10 +26,10 @@ module _ (s : Settings) (c c′ : Chart) (a b a′ b′ : ℕ) (x : StretchLies 
   end′ : a′ + (b - a) ≤ size c′
   end′ = omega (arith, x .some, equal, inside′)
 
-  kinds-alike : part a (b - a) (c .kinds) ≡ part a′ (b′ - a′) (c′ .kinds)
+  kinds-alike : fromTo a b (c .kinds) ≡ fromTo a′ b′ (c′ .kinds)
   kinds-alike = part-alike 0 a a′ (b - a) (c .kinds) (c′ .kinds) end end′ kinds ∙ ap (λ (n : ℕ). part a′ n (c′ .kinds)) equal
 
-  values-alike : part a (b - a) (valuesOf s c) ≡ part a′ (b′ - a′) (valuesOf s c′)
+  values-alike : fromTo a b (valuesOf s c) ≡ fromTo a′ b′ (valuesOf s c′)
   values-alike =
       let l = length-values (s .limit) (s .tolerance) (c .kinds) (c .ratios) in
       let l′ = length-values (s .limit) (s .tolerance) (c′ .kinds) (c′ .ratios) in

@@ -6,7 +6,7 @@ use native.Mathlib.Omega.{arith}
 use lib.ListN.{length}
 use lib.Ieee.{Float, nan}
 use Rattle.numeric.specs.Tenths.{InTenthsRange}
-use Rattle.lent.specs.Over.{over, part}
+use Rattle.lent.specs.Over.{over}
 use Rattle.lent.proofs.PieceLaws.{getD-over}
 use Rattle.lent.proofs.OverLaws.{length-over, part-alike}
 use Rattle.grouping_chart.specs.Chart.{Chart, size}
@@ -15,7 +15,7 @@ use Rattle.grouping_interval.specs.Notes.{ofNotes}
 use Rattle.evaluator_values.specs.Colour.{valuesOf}
 use Rattle.grouping_chart.proofs.AcceptedLaws.{accepted-good}
 use Rattle.evaluator_values.proofs.StandingLaws.{length-values}
-use Rattle.call_colour.specs.Stretch.{stretchValues, averageOf, chartMean}
+use Rattle.call_colour.specs.Stretch.{fromTo, stretchValues, averageOf, chartMean}
 use Rattle.call_colour.specs.Call.{Memory, judged, filled}
 use Rattle.call_colour.specs.passes.Rooms.{StretchRoom}
 use Rattle.call_colour.proofs.CallLaws.{StretchAccepted, chart-room}
@@ -51,7 +51,7 @@ module _ (s : Settings) (p : Permitted s) (c : Chart) (m : Memory) (a b : ℕ) (
   }
 
   -- the values from a to b, read where they were written
-  values-there : part a (b - a) (new .value) ≡ part a (b - a) values
+  values-there : fromTo a b (new .value) ≡ fromTo a b values
   values-there =
       let end : a + (b - a) ≤ length values = omega (arith, lies .some, lies .inside, long) in
       rw written
@@ -59,11 +59,11 @@ module _ (s : Settings) (p : Permitted s) (c : Chart) (m : Memory) (a b : ℕ) (
       (λ i h. getD-over values (m .value) (a + i) nan (omega (arith, end))))
 
   abbrev averaged : Float
-  averaged = averageOf (ofNotes (part a (b - a) (c .kinds)) (part a (b - a) (new .value)))
+  averaged = averageOf (ofNotes (fromTo a b (c .kinds)) (fromTo a b (new .value)))
 
   pub mean-is : (mean : Float) → mean ≡ averaged → mean ≡ chartMean s c a b
   unfolding chartMean stretchValues
-  mean-is mean h = h ∙ ap (λ (all : List Float). averageOf (ofNotes (part a (b - a) (c .kinds)) all)) values-there
+  mean-is mean h = h ∙ ap (λ (all : List Float). averageOf (ofNotes (fromTo a b (c .kinds)) all)) values-there
 
   pub mean-in-range : (mean : Float) → mean ≡ averaged → InTenthsRange mean
   mean-in-range mean h = rw (mean-is mean h) (mean-tenths s c _ (w .chart) a b (w .none))

@@ -20,14 +20,17 @@ use Rattle.grouping_chart.specs.declared.refusal.Verdict.{Verdict}
 use Rattle.grouping_interval.specs.Notes.{ofNotes}
 use Rattle.evaluator_values.specs.Colour.{valuesOf}
 
+-- of a list with an element for each object, those from a to b, b not included
+abbrev pub fromTo : {A : Type 0} → ℕ → ℕ → List A → List A
+fromTo a b xs = part a (b - a) xs
+
 unfoldable pub hasNote : List ℕ → Bool
 hasNote kinds = ltb 0 (length (notes kinds))
 
 -- the number of what is refused of a stretch, or 0: 9 where it is empty or ends past the chart, else 11 where it has no
 -- note
 unfoldable pub stretchRefusal : List ℕ → ℕ → ℕ → ℕ
-stretchRefusal kinds a b =
-    cond (leb b a || ltb (length kinds) b) 9 (cond (hasNote (part a (b - a) kinds)) 0 11)
+stretchRefusal kinds a b = cond (leb b a || ltb (length kinds) b) 9 (cond (hasNote (fromTo a b kinds)) 0 11)
 
 -- a stretch of which nothing is refused, of a chart with these kinds
 abbrev pub GoodStretch : List ℕ → ℕ → ℕ → Type 0
@@ -39,7 +42,7 @@ stretchVerdict v kinds a b = refusedThen v (stretchRefusal kinds a b)
 
 -- the values that a stretch's mean is made of, those of its notes
 unfoldable pub stretchValues : Settings → Chart → ℕ → ℕ → List Float
-stretchValues s c a b = ofNotes (part a (b - a) (c .kinds)) (part a (b - a) (valuesOf s c))
+stretchValues s c a b = ofNotes (fromTo a b (c .kinds)) (fromTo a b (valuesOf s c))
 
 -- each sum rounded
 unfoldable pub sumFrom : Float → List Float → Float

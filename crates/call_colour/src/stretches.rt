@@ -1,13 +1,12 @@
 // What is refused of a stretch, the verdict on it, and its mean.
 ghost use mathlib.Core.Path.{_≡_};
 ghost use mathlib.Core.Bool.{cond};
-ghost use Prim.Native.Nat.{_-_, _≤_};
+ghost use Prim.Native.Nat.{_≤_};
 ghost use Rattle.numeric.specs.Constants.{minusZero64};
 ghost use Rattle.lent.specs.Slice.{lent};
-ghost use Rattle.lent.specs.Over.{part};
 ghost use Rattle.grouping_chart.specs.Object.{isNote};
 ghost use Rattle.grouping_interval.specs.Notes.{ofNotes};
-ghost use Rattle.call_colour.specs.Stretch.{hasNote, stretchRefusal, stretchVerdict, averageOf};
+ghost use Rattle.call_colour.specs.Stretch.{fromTo, hasNote, stretchRefusal, stretchVerdict, averageOf};
 ghost use Rattle.call_colour.specs.passes.Rooms.{AverageRoom, StretchRoom};
 use grouping_chart::object::ObjectIndex;
 use grouping_chart::object::is_note;
@@ -91,7 +90,7 @@ fn average(kind: &[u8], value: &[f64]) -> f64
 // The average of the notes from a to b, b not included.
 pub fn mean(kind: &[u8], value: &[f64], a: usize, b: usize) -> f64
     requires { ⌜ StretchRoom (now kind) (now value) a b ⌝ }
-    ensures { λ r. ⌜ r ≡ averageOf (ofNotes (part a (b - a) (lent kind)) (part a (b - a) (lent value))) ⌝ }
+    ensures { λ r. ⌜ r ≡ averageOf (ofNotes (fromTo a b (lent kind)) (fromTo a b (lent value))) ⌝ }
 {
     average(&kind[a..b], &value[a..b])
 }

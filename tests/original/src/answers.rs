@@ -36,9 +36,9 @@ fn compare_colour(chart: &Chart, original: &Original, spare: usize) -> Vec<f64> 
     values
 }
 
-/// The mean is that of the notes, by the original's values: the original has none.
+/// The mean is that of the notes, by the original's values: the original has none. The result is whether there is a note.
 #[track_caller]
-fn compare_stretch(chart: &Chart, values: &[f64], a: usize, b: usize) {
+fn compare_stretch(chart: &Chart, values: &[f64], a: usize, b: usize) -> bool {
     let n = chart.size();
     let lent = colour::Memory::of_sizes([n, 8 * n, n]);
     let (want, left) = match plain_colour::mean(&chart.kind[a..b], &values[a..b]) {
@@ -53,6 +53,7 @@ fn compare_stretch(chart: &Chart, values: &[f64], a: usize, b: usize) {
     let got = (got.refusal, got.place, got.mean.to_bits(), got.tenths);
     assert_eq!(got, want, "stretch {a}..{b} of {chart}");
     assert_eq!(memory.bits(), left.bits(), "stretch {a}..{b} of {chart}");
+    got.0 == 0
 }
 
 #[track_caller]
@@ -86,17 +87,24 @@ fn compare_record(chart: &Chart, original: &Original, group: usize, window: f64)
     assert_eq!(memory.bits(), cleared.bits(), "record {group} of {chart}");
 }
 
-/// How many objects all calls together were asked about. A difference panics.
-pub fn compare(chart: &Chart, original: &Original, random: &mut Xorshift) -> usize {
+/// How many objects all calls together were asked about, and how many stretches had no note.
+pub struct Asked {
+    pub objects: usize,
+    pub noteless: usize,
+}
+
+/// A difference panics.
+pub fn compare(chart: &Chart, original: &Original, random: &mut Xorshift) -> Asked {
     let (n, spare) = (chart.size(), random.below(8));
     compare_encode(chart, original, spare);
     let values = compare_colour(chart, original, spare);
     compare_rhythm(chart, original, spare);
-    let mut calls = 3;
+    let (mut calls, mut noteless) = (3, 0);
     if n > 0 {
         let a = random.below(n);
         let b = a + 1 + random.below(n - a);
-        compare_stretch(chart, &values, a, b);
+        let noted = compare_stretch(chart, &values, a, b);
+        noteless += usize::from(!noted);
         calls += 1;
     }
     let groups = original.rhythm.groups.len();
@@ -109,5 +117,8 @@ pub fn compare(chart: &Chart, original: &Original, random: &mut Xorshift) -> usi
         compare_record(chart, original, group, window);
         calls += 1;
     }
-    calls * n
+    Asked {
+        objects: calls * n,
+        noteless,
+    }
 }

@@ -6,7 +6,7 @@ use std::env;
 use host_tests::chart::Chart;
 use host_tests::samples::{ratios, raw_chart, rhythmic_chart, Xorshift};
 use host_tests::LARGEST_CHART;
-use original_tests::answers::compare;
+use original_tests::answers::{compare, Asked};
 use original_tests::built::compare_built;
 use original_tests::original::Original;
 
@@ -28,7 +28,7 @@ fn drawn(random: &mut Xorshift) -> Chart {
 }
 
 /// A chart as it is drawn, or one that is built of raw objects.
-fn asked(random: &mut Xorshift, built: bool) -> usize {
+fn asked(random: &mut Xorshift, built: bool) -> Asked {
     if built {
         let m = size(random) + 2;
         return compare_built(&raw_chart(random, m), random);
@@ -46,14 +46,17 @@ fn argument(place: usize, name: &str) -> u64 {
 fn main() {
     let (seed, wanted) = (argument(1, "SEED"), argument(2, "OBJECTS"));
     let mut random = Xorshift::new(seed);
-    let (mut charts, mut built, mut objects) = (0, 0, 0);
+    let (mut charts, mut built, mut objects, mut noteless) = (0, 0, 0, 0);
     while objects < wanted {
         let raw = random.once_in(3);
-        objects += asked(&mut random, raw) as u64;
+        let asked = asked(&mut random, raw);
+        objects += asked.objects as u64;
+        noteless += asked.noteless;
         charts += 1;
         built += u64::from(raw);
     }
     println!(
-        "seed {seed}: {charts} charts, {built} of them built of raw objects, {objects} objects over all calls, no difference"
+        "seed {seed}: {charts} charts, {built} of them built of raw objects, {objects} objects over all calls, {noteless} \
+         stretches without a note, no difference"
     );
 }

@@ -5,11 +5,10 @@ use Prim.Native.Nat.{ℕ, _+_, _-_}
 use native.Mathlib.Omega.{arith}
 use lib.ListN.{length}
 use lib.Ieee.{Float}
-use Rattle.lent.specs.Over.{part}
 use Rattle.lent.proofs.OverLaws.{length-part, getD-part}
 use Rattle.lent.proofs.PieceLaws.{part-pieces}
 use Rattle.grouping_interval.specs.Notes.{ofNotes}
-use Rattle.call_colour.specs.Stretch.{averageOf}
+use Rattle.call_colour.specs.Stretch.{fromTo, averageOf}
 use Rattle.call_colour.specs.passes.Rooms.{AverageRoom, StretchRoom}
 use borrow.Author.Needs.{needs}
 use Rattle.call_colour.proofs.stretches.mean.Statement.{statement}
@@ -17,7 +16,7 @@ use Rattle.call_colour.proofs.stretches.mean.Tie as tie
 
 -- there is room in the parts
 parts-room : {kinds : List ℕ} {values : List Float} {a b : ℕ} → StretchRoom kinds values a b
-    → (ks : List ℕ) (vs : List Float) → ks ≡ part a (b - a) kinds → vs ≡ part a (b - a) values → AverageRoom ks vs
+    → (ks : List ℕ) (vs : List Float) → ks ≡ fromTo a b kinds → vs ≡ fromTo a b values → AverageRoom ks vs
 parts-room {kinds} {values} {a} {b} x ks vs e f =
     let l : length ks ≡ b - a = ap length e ∙ length-part a (b - a) kinds (omega (arith, x .ordered, x .kinded)) in
     record {

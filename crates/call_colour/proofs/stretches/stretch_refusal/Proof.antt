@@ -1,11 +1,9 @@
 -- `stretch_refusal` meets its contract: the tests that were run are the definition's.
 use mathlib.Core.Path.{_≡_, sym, ap, _∙_}
 use mathlib.Core.Bool.{Bool}
-use Prim.Native.Nat.{_-_}
 use native.Mathlib.Omega.{arith}
-use Rattle.lent.specs.Over.{part}
 use Rattle.lent.proofs.PieceLaws.{part-pieces}
-use Rattle.call_colour.specs.Stretch.{hasNote}
+use Rattle.call_colour.specs.Stretch.{fromTo, hasNote}
 use Rattle.call_colour.proofs.StretchCases.{none-refused, past-refused, noteless-refused, lies-good}
 use borrow.Author.Needs.{needs}
 use Rattle.call_colour.proofs.stretches.stretch_refusal.Statement.{statement}
@@ -22,7 +20,7 @@ abbrev tested : tie.After-has-note → tie.Start
 tested c = c .before .before .before .before .before
 
 noted : (c : tie.After-has-note) {b : Bool} → c .has-note .result ≡ b
-    → hasNote (part (tested c .args .a) (tested c .args .b - tested c .args .a) (tested c .args .kind .now)) ≡ b
+    → hasNote (fromTo (tested c .args .a) (tested c .args .b) (tested c .args .kind .now)) ≡ b
 noted c e = ap hasNote (sym (part-pieces _ _ _)) ∙ sym (c .has-note .ensures) ∙ e
 
 returns-3 : tie.Need-returns-3
