@@ -1,8 +1,10 @@
--- What `ordered` leaves: the values of the list and no other, each at or before every later one. So to order it again changes nothing.
+-- What `ordered` leaves: the values of the list and no other, each at or before every later one. So to order it again changes nothing. Pieces of an
+-- ascending list ascend too.
 use mathlib.Core.Path.{_≡_, refl, sym, subst}
 use mathlib.Core.Logic.{_⊎_, inl, inr, ⊎-elim}
 use mathlib.Core.Bool.{Bool, true, false, cond}
-use mathlib.Core.List.{List, [], _∷_, List·Memᴰ, List·Memᴰ·head, List·Memᴰ·tail, List·Memᴰ·not-nil, List·Memᴰ·cases-cons}
+use mathlib.Core.List.{List, [], _∷_, _++_, List·Memᴰ, List·Memᴰ·head, List·Memᴰ·tail, List·Memᴰ·not-nil, List·Memᴰ·cases-cons}
+use mathlib.Core.List.{Memᴰ·append-left, Memᴰ·append-right}
 use Prim.Native.Nat.{ℕ, zero, suc, _<_}
 use native.Mathlib.Nat.{le-of-lt, le-of-suc-le-suc, not-suc-le-zero}
 use native.Mathlib.Omega.{arith}
@@ -22,6 +24,10 @@ use Rattle.numeric_sort.proofs.OrderedLaws.{length-ordered, numbers-ord
 pub number-in : {z : Float} {xs : List Float} → Numbers xs → List·Memᴰ z xs → Number z
 number-in none m = absurd (List·Memᴰ·not-nil m)
 number-in (also p n) m = ⊎-elim (λ e. subst Number (sym e) p) (λ m. number-in n m) (List·Memᴰ·cases-cons m)
+
+pub numbers-in : (xs : List Float) → ((z : Float) → List·Memᴰ z xs → Number z) → Numbers xs
+numbers-in [] f = none
+numbers-in (x ∷ xs) f = also (f x (List·Memᴰ·head refl)) (numbers-in xs (λ z m. f z (List·Memᴰ·tail m)))
 
 value-at : (xs : List Float) (i : ℕ) → i < length xs → List·Memᴰ (getD xs i nan) xs
 value-at [] i h = absurd (not-suc-le-zero h)
@@ -105,10 +111,32 @@ unfolding ordered
 ordered-ascending none = empty
 ordered-ascending (also p n) = ascending-insert p (numbers-ordered n) (ordered-ascending n)
 
+-- a list whose values ascend is its own order
+pub ascending-ordered : {xs : List Float} → Numbers xs → Ascending AtOrBefore xs → ordered xs ≡ xs
+ascending-ordered n a = ordered-same n (ascending-at a)
+
 module _ {xs : List Float} (n : Numbers xs) where
   -- no later value is before an earlier one
   pub ordered-rises : (i j : ℕ) → i < j → j < length xs → T (totalOrder (getD (ordered xs) i nan) (getD (ordered xs) j nan))
   ordered-rises i j h k = ascending-at (ordered-ascending n) i j h (omega (arith, length-ordered xs))
 
   pub ordered-again : ordered (ordered xs) ≡ ordered xs
-  ordered-again = ordered-same (numbers-ordered n) (ascending-at (ordered-ascending n))
+  ordered-again = ascending-ordered (numbers-ordered n) (ordered-ascending n)
+
+-- ---- two pieces of a list: what holds of the whole holds of each
+
+module _ (xs ys : List Float) (n : Numbers (xs ++ ys)) where
+  pub numbers-front : Numbers xs
+  numbers-front = numbers-in xs (λ z m. number-in n (Memᴰ·append-left ys m))
+
+  pub numbers-back : Numbers ys
+  numbers-back = numbers-in ys (λ z m. number-in n (Memᴰ·append-right xs m))
+
+module _ {R : Float → Float → Type 0} where
+  pub ascending-front : (xs ys : List Float) → Ascending R (xs ++ ys) → Ascending R xs
+  ascending-front [] ys a = empty
+  ascending-front (x ∷ xs) ys (before f a) = before (λ z m. f z (Memᴰ·append-left ys m)) (ascending-front xs ys a)
+
+  pub ascending-back : (xs ys : List Float) → Ascending R (xs ++ ys) → Ascending R ys
+  ascending-back [] ys a = a
+  ascending-back (x ∷ xs) ys (before f a) = ascending-back xs ys a
