@@ -13,7 +13,7 @@ use Rattle.numeric.proofs.order.Laws.{total, trans}
 use Rattle.numeric_sort.specs.Ordered.{ordered}
 use Rattle.numeric_sort.proofs.InsertLaws.{Numbers, none, also}
 use Rattle.numeric_sort.proofs.OrderedLaws.{numbers-ordered}
-use Rattle.numeric_sort.proofs.AscendingLaws.{number-in, ordered-only, ordered-all, Ascending, empty, before, ascending-at, AtOrBefore, ordered-ascending}
+use Rattle.numeric_sort.proofs.AscendingLaws.{number-in, numbers-in, ordered-only, ordered-all, Ascending, empty, before, ascending-at, AtOrBefore, ordered-ascending}
 use Rattle.grouping_normalizer.specs.Normalizer.{alike, unrepeated, distinct}
 use Rattle.grouping_normalizer.proofs.DistinctLaws.{alike-same}
 
@@ -89,10 +89,22 @@ ascending-unrepeated (also {x} p (also {x = y} {xs = ys} q n)) (before f (before
     by true e s = s
     by false e s = before (λ z m. next e z (unrepeated-only (y ∷ ys) m)) s
 
+-- what stands strictly before stands before
+not-behind : {xs : List Float} → Numbers xs → Ascending StrictlyBefore xs → Ascending AtOrBefore xs
+not-behind none empty = empty
+not-behind (also p n) (before f a) =
+    before (λ z m. ⊎-elim (λ t. t) (λ t. absurd (subst T (f z m) t)) (total p (number-in n m))) (not-behind n a)
+
 module _ {xs : List Float} (n : Numbers xs) where
+  pub numbers-distinct : Numbers (distinct xs)
+  numbers-distinct = numbers-in (distinct xs) (λ z m. number-in n (distinct-only xs m))
+
   pub distinct-ascending : Ascending StrictlyBefore (distinct xs)
   unfolding distinct
   distinct-ascending = ascending-unrepeated (numbers-ordered n) (ordered-ascending n)
+
+  pub distinct-ordered : Ascending AtOrBefore (distinct xs)
+  distinct-ordered = not-behind numbers-distinct distinct-ascending
 
   -- no value stands at or before an earlier one
   pub distinct-rises : (i j : ℕ) → i < j → j < length (distinct xs) → totalOrder (getD (distinct xs) j nan) (getD (distinct xs) i nan) ≡ false

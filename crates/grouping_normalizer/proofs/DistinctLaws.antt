@@ -39,7 +39,7 @@ pub length-distinct : (xs : List Float) → length (distinct xs) ≤ length xs
 unfolding distinct
 length-distinct xs = omega (arith, length-unrepeated (ordered xs), length-ordered xs)
 
-length-left : (xs : List Float) → length (distinctInFront xs) ≡ length xs
+pub length-left : (xs : List Float) → length (distinctInFront xs) ≡ length xs
 unfolding distinctInFront
 length-left xs = length-over (distinct xs) (ordered xs) (omega (arith, length-distinct xs, length-ordered xs)) ∙ length-ordered xs
 

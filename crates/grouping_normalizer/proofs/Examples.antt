@@ -56,3 +56,8 @@ whole-right = refl
 zeros-right : bits (distinct (ofBits binary64 0 ∷ ofBits binary64 0x8000_0000_0000_0000 ∷ ofBits binary64 0 ∷ [])) ≡ 0x8000_0000_0000_0000 ∷ 0 ∷ []
 unfolding bits distinct unrepeated alike ordered insert totalOrder lt eq ofBits toBits
 zeros-right = refl
+
+-- the deltas themselves may stand in another order: sorting exchanges 105 and 100
+deltas-turned : bits (ordered (whole 105 ∷ whole 100 ∷ [])) ≡ 0x4059_0000_0000_0000 ∷ 0x405a_4000_0000_0000 ∷ []
+unfolding bits whole ordered insert totalOrder lt eq ofInt toBits round
+deltas-turned = refl

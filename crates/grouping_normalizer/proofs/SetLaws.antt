@@ -150,8 +150,8 @@ module _ {margin : Float} {values : List Float} {x : Float} {at : ℕ} (s : Look
         rw (f, ← (s .same), g)
 
     pub looking-found : (t : Bool) → t ≡ holds x (take (end - at) (drop at values)) → t ≡ true
-        → middle (take (end - at) (drop at values)) ≡ middleOf x (sets margin values)
-    looking-found t f g = here true (sym g ∙ f)
+        → {r : Float} → r ≡ middle (take (end - at) (drop at values)) → r ≡ middleOf x (sets margin values)
+    looking-found t f g m = m ∙ here true (sym g ∙ f)
 
     pub looking-turn : (t : Bool) → t ≡ holds x (take (end - at) (drop at values)) → t ≡ false → Looking margin values x end
     looking-turn t f g = record { upto = e .upto; same = here false (sym g ∙ f) }

@@ -93,8 +93,9 @@ fn middle_of(values: &[f64], margin: f64, x: f64) -> f64
     let mut at = 0;
     while at < values.len() {
         let end = set_end(values, margin, at);
-        if is_held(&values[at..end], x) {
-            return middle_value(&values[at..end]);
+        let set = &values[at..end];
+        if is_held(set, x) {
+            return middle_value(set);
         }
         at = end;
     }

@@ -1,7 +1,7 @@
 -- The loop's invariant: no set before `at` holds x.
 use Prim.Native.Nat.{_-_}
 use native.Mathlib.Omega.{arith}
-use mathlib.Core.Path.{refl, _∙_}
+use mathlib.Core.Path.{refl}
 use lib.ListN.{length}
 use borrow.Author.Needs.{needs}
 use Rattle.grouping_normalizer.proofs.SetLaws.{Looking, looking-some, looking-found, looking-turn, looking-end}
@@ -19,15 +19,14 @@ loop-holds c = record { upto = omega arith; same = refl }
 
 middle-value-requires : tie.Need-middle-value-requires Inv-loop μ-loop
 middle-value-requires c κs =
-    let k = c .before .before .before .before in
-    looking-some (k .before .before .loop .inv) (k .before .loop-test .taken) (k .set-end .ensures)
+    let k = c .before .before .before in
+    omega (arith, looking-some (k .before .before .loop .inv) (k .before .loop-test .taken) (k .set-end .ensures))
 
 returns : tie.Need-returns Inv-loop μ-loop
 returns c =
-    let k = c .before .before .before .before .before in
-    c .middle-value .ensures
-    ∙ looking-found (k .before .before .loop .inv) (k .before .loop-test .taken) (k .set-end .ensures) _
-    (c .before .before .before .is-held .ensures) (c .before .before .if1 .taken)
+    let k = c .before .before .before .before in
+    looking-found (k .before .before .loop .inv) (k .before .loop-test .taken) (k .set-end .ensures) _
+    (c .before .before .is-held .ensures) (c .before .if1 .taken) (c .middle-value .ensures)
 
 loop-again : tie.Need-loop-again Inv-loop μ-loop
 loop-again c =
@@ -50,10 +49,6 @@ middle-of-spec =
     (λ c. omega arith)
     (λ c. omega arith)
     (λ c κs. search needs)
-    (λ c. omega arith)
-    (λ c. omega arith)
-    (λ c. omega arith)
-    (λ c. omega arith)
     middle-value-requires
     returns
     (λ c. omega arith)
