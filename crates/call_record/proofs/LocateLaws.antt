@@ -11,7 +11,7 @@ use lib.Ieee.{Float, nan, binary64, sub}
 use lib.Ieee.Scale.{finite}
 use Rattle.lent.specs.Over.{over, put, part, written}
 use Rattle.grouping_marks.specs.Parted.{parted}
-use Rattle.lent.proofs.OverLaws.{drop-over, put-front, length-part, getD-part}
+use Rattle.lent.proofs.OverLaws.{drop-over, put-front, getD-part}
 use Rattle.lent.proofs.PieceLaws.{over-pieces}
 use Rattle.grouping_chart.specs.Object.{notes}
 use Rattle.grouping_interval.specs.Notes.{noteObjects, ofNotes}
@@ -23,6 +23,7 @@ use Rattle.grouping_same_rhythm.specs.SameRhythm.{groupObjects, groupDeltas}
 use Rattle.grouping_same_rhythm.specs.passes.Owns.{GroupThere, ReachedIs, settledUpTo}
 use Rattle.grouping_same_rhythm.specs.declared.owns.Reached.{Reached}
 use Rattle.grouping_same_rhythm.proofs.MadeLaws.{groupObjects-made, groupDeltas-made}
+use Rattle.grouping_same_rhythm.proofs.ReachedLaws.{part-notes}
 use Rattle.call_rhythm.proofs.TablesLaws.{groups-counted, NotesLeft, notes-left, Noted, notes-lent, values-are, marks-are}
 use Rattle.call_record.specs.Record.{objectsIn, ownsAt, durationOf}
 use Rattle.call_record.specs.passes.Found.{GroupRoom, locatedAt, locateWrites}
@@ -101,9 +102,9 @@ module _ {margin : Float} {kinds : List ℕ} {starts deltas : List Float} {g : �
           rw objects-grouped (reached .notes (noteObjects kinds) (omega (arith, length-note-objects kinds, x .noted, front-long)))
 
       noted-long : length objects ≡ r .end - r .at
+      unfolding objectsIn
       noted-long =
-          ap length group-notes
-          ∙ length-part (r .at) (r .end - r .at) (noteObjects kinds) (omega (arith, reached .from, end-inside, x .noted, length-note-objects kinds))
+          rw objects-grouped (part-notes reached (noteObjects kinds) (omega (arith, length-note-objects kinds, x .noted, front-long)))
 
       noted-at : (i : ℕ) → i < r .end - r .at → getD objects i 0 ≡ getD work₂ (r .at + i) 0
       noted-at i h =

@@ -2,6 +2,7 @@
 pub mod MadeLaws
 pub mod GroupsLaws
 pub mod FirstLaws
+pub mod ReachedLaws
 mod PatternsLaws
 mod OwnLaws
 mod OwnExamples

@@ -7,10 +7,10 @@ use lib.ListN.{length, take, drop, length-append, take-append-drop}
 use lib.Seq.{length-take-le, take-at, drop-drop}
 use lib.Ieee.{Float, nan}
 use borrow.Rule.Slice.PartMut.{putMid, same-len-mid, mid-len, drop-put}
-use Rattle.lent.specs.Over.{part}
+use Rattle.lent.specs.Over.{put, part}
 use Rattle.grouping_marks.specs.Parted.{parted}
 use Rattle.lent.proofs.OverLaws.{length-part, getD-part}
-use Rattle.lent.proofs.PieceLaws.{part-pieces}
+use Rattle.lent.proofs.PieceLaws.{put-pieces, part-pieces}
 use Rattle.numeric_sort.specs.Ordered.{AllFinite}
 use Rattle.grouping_normalizer.specs.Normalizer.{distinctInFront}
 use Rattle.grouping_interval.specs.IntervalGrouping.{intervalMarks}
@@ -32,14 +32,15 @@ pub record Reaching (margin : Float) (deltas₀ deltas : List Float) (g : ℕ) (
   pub long : length deltas ≡ length deltas₀
   pub same : drop end deltas ≡ drop end deltas₀
   pub known : Known margin (ownsOf margin (parted (intervalMarks margin deltas₀) deltas₀)) k recent (groupsFrom margin deltas₀ deltas₀ end)
-  pub left : settledUpTo (suc g) (parted (intervalMarks margin deltas₀) deltas₀)
-      ≡ take end deltas ++ settledUpTo (suc g - k) (groupsFrom margin deltas₀ deltas₀ end)
+  pub left : (j : ℕ)
+      → settledUpTo (k + j) (parted (intervalMarks margin deltas₀) deltas₀) ≡ take end deltas ++ settledUpTo j (groupsFrom margin deltas₀ deltas₀ end)
+  pub alone : (j : ℕ) → k ≡ suc j
+      → deltas ≡ put at (distinctInFront (part at (end - at) deltas₀)) (settledUpTo j (parted (intervalMarks margin deltas₀) deltas₀))
 
 pub reaching-start : (margin : Float) (deltas : List Float) (g : ℕ) → GroupThere margin deltas g
     → Reaching margin deltas deltas g (record { newest = Absent; second = Absent; third = Absent; fourth = Absent }) 0 0 0
 reaching-start margin deltas g p =
     let a : parted (intervalMarks margin deltas) deltas ≡ groupsFrom margin deltas deltas 0 = groups-all margin deltas deltas in
-    let z : suc g - 0 ≡ suc g = omega arith in
     record {
       asked = p;
       walk = walk-start margin deltas;
@@ -47,7 +48,10 @@ reaching-start margin deltas g p =
       long = refl;
       same = refl;
       known = rw a (known-start margin (groupsFrom margin deltas deltas 0));
-      left = rw (a, z);
+      left = λ j.
+          let z : 0 + j ≡ j = omega arith in
+          rw (z, a);
+      alone = λ j e. absurd (omega arith);
     }
 
 -- the next group lies from `end` to `new`, and its deltas are as they were lent
@@ -77,6 +81,12 @@ take-mid a b xs ys h w l =
     ∙ take-at (take a xs ++ ys) (drop (b - a) (drop a xs)) b (omega (arith, length-append (take a xs) ys, length-take-le a xs (omega arith)))
 
 module _ {margin : Float} {deltas₀ deltas : List Float} {g : ℕ} {recent : Recent} {at end k : ℕ} (x : Reaching margin deltas₀ deltas g recent at end k) where
+  -- the deltas are those of the groups, of which k are in order
+  settled : settledUpTo k (parted (intervalMarks margin deltas₀) deltas₀) ≡ deltas
+  settled =
+      let z : k ≡ k + 0 = omega arith in
+      rw (z, x .left 0, as-they-are margin deltas₀ end, ← (x .same)) (take-append-drop end deltas)
+
   -- while k is at most g a group opens at `end`
   pub reaching-open : k ≤ g → (new : ℕ) → new ≡ groupEnd margin deltas end → Opened margin deltas₀ deltas end new
   reaching-open h new e =
@@ -107,7 +117,6 @@ module _ {margin : Float} {deltas₀ deltas : List Float} {g : ℕ} {recent : Re
       let b : end < length deltas₀ = omega (arith, x .long) in
       let u : groupsFrom margin deltas₀ deltas₀ end ≡ first ∷ rest = rw (o .is) (groups-next margin deltas₀ deltas₀ refl end b) in
       let size : length group ≡ new - end = l ∙ mid-len end new deltas (o .upto) in
-      let n : suc g - k ≡ suc (suc g - suc k) = omega arith in
       let f : distinctInFront first ≡ group = sym (m .left ∙ ap distinctInFront (o .notes)) in
       record {
         asked = x .asked;
@@ -116,19 +125,24 @@ module _ {margin : Float} {deltas₀ deltas : List Float} {g : ℕ} {recent : Re
         long = same-len-mid end (new - end) deltas group l ∙ x .long;
         same = drop-put end new deltas group (omega (arith, o .on)) (o .upto) size ∙ drop-later end new deltas deltas₀ (omega (arith, o .on)) (x .same);
         known = known-turn (rw u at (x .known)) own (m .own ∙ ap (modalDelta margin) (o .notes)) newest r;
-        left = x .left ∙ rw (u, n, f, take-mid end new deltas group (omega (arith, o .on)) (o .upto) size, append-assoc);
+        left = λ j.
+            let n : suc k + j ≡ k + suc j = omega arith in
+            rw n (x .left (suc j) ∙ rw (u, f, take-mid end new deltas group (omega (arith, o .on)) (o .upto) size, append-assoc));
+        alone = λ j e.
+            let n : j ≡ k = omega arith in
+            rw (n, f, settled) (put-pieces end (new - end) group deltas size);
       }
 
   -- group g was the last turn's
   pub reaching-end : g < k → ReachedIs margin deltas₀ deltas g (record { owns = recent; at = at; end = end })
   reaching-end h =
       let t : k ≡ suc g = omega (arith, x .turns) in
-      let z : suc g - k ≡ 0 = omega arith in
       let w : Notes margin deltas₀ at end g = x .walk .last g t in
       record {
         owns = known-end (rw t at (x .known));
         from = w .from;
         upto = x .walk .upto;
         notes = w .here;
-        left = sym (x .left ∙ rw (z, as-they-are margin deltas₀ end, ← (x .same)) (take-append-drop end deltas));
+        left = sym (rw t at settled);
+        alone = x .alone g t;
       }

@@ -18,14 +18,19 @@ module _ {A : Type 0} where
   unfolding over
   getD-over new old i d h = List·getD-append new (drop (length new) old) d i h
 
+  -- what stood before, what was written, and what stood behind it
+  pub put-pieces : (a n : ℕ) (new old : List A) → length new ≡ n → take a old ++ (new ++ drop n (drop a old)) ≡ put a new old
+  unfolding put over
+  put-pieces a n new old l = rw l
+
   -- k places from place a on, lent, written whole and put back
   pub put-back : (a k : ℕ) (new w region : List A) → length new ≡ k → region ≡ over new (take k (drop a w))
       → take a w ++ (region ++ drop k (drop a w)) ≡ put a new w
-  unfolding put over
+  unfolding over
   put-back a k new w region l e =
       let none : drop (length new) (take k (drop a w)) ≡ [] =
       drop-of-length-le (take k (drop a w)) {i = length new} (omega (arith, length-take k (drop a w))) in
-      rw (e, none, append-nil new, l)
+      rw (e, none, append-nil new) (put-pieces a k new w l)
 
   pub part-pieces : (a n : ℕ) (w : List A) → take n (drop a w) ≡ part a n w
   unfolding part

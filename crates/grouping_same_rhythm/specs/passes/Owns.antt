@@ -5,7 +5,7 @@ use Prim.Native.Nat.{ℕ, zero, suc, _-_, _≤_, _<_}
 use mathlib.Core.List.{List, [], _∷_, _++_}
 use lib.ListN.{length, getD}
 use lib.Ieee.{Float}
-use Rattle.lent.specs.Over.{part}
+use Rattle.lent.specs.Over.{put, part}
 use Rattle.grouping_marks.specs.Marks.{groupCount}
 use Rattle.grouping_marks.specs.Parted.{parted}
 use Rattle.numeric_sort.specs.Ordered.{AllFinite}
@@ -43,3 +43,7 @@ pub record ReachedIs (margin : Float) (deltas₀ deltas : List Float) (g : ℕ) 
   pub notes : (xs : List ℕ) → length xs ≡ length deltas₀
       → getD (parted (intervalMarks margin deltas₀) xs) g [] ≡ part (r .at) (r .end - r .at) xs
   pub left : deltas ≡ settledUpTo (suc g) (parted (intervalMarks margin deltas₀) deltas₀)
+  -- these notes' places alone changed since the group before was reached
+  pub alone : deltas
+      ≡ put (r .at) (distinctInFront (part (r .at) (r .end - r .at) deltas₀))
+      (settledUpTo g (parted (intervalMarks margin deltas₀) deltas₀))
