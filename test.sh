@@ -28,6 +28,7 @@ rt staticlib test_host
 (cd tests/numeric && cargo test --release --offline --quiet)
 tests/numeric/table.sh
 (cd tests/grouping && cargo test --release --offline --quiet)
+tests/grouping/memory.sh
 tests/host/run.sh
 (cd bindings/rust && cargo test --release --offline --quiet)
 tests/examples/run.sh

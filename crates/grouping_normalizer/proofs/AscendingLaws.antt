@@ -13,7 +13,8 @@ use Rattle.numeric.proofs.order.Laws.{total, trans}
 use Rattle.numeric_sort.specs.Ordered.{ordered}
 use Rattle.numeric_sort.proofs.InsertLaws.{Numbers, none, also}
 use Rattle.numeric_sort.proofs.OrderedLaws.{numbers-ordered}
-use Rattle.numeric_sort.proofs.AscendingLaws.{number-in, numbers-in, ordered-only, ordered-all, Ascending, empty, before, ascending-at, AtOrBefore, ordered-ascending}
+use Rattle.numeric_sort.proofs.AscendingLaws.{number-in, numbers-in, ordered-only, ordered-all, Ascending, empty, before, ascending-at, AtOrBefore}
+use Rattle.numeric_sort.proofs.AscendingLaws.{ordered-ascending}
 use Rattle.grouping_normalizer.specs.Normalizer.{alike, unrepeated, distinct}
 use Rattle.grouping_normalizer.proofs.DistinctLaws.{alike-same}
 

@@ -1,14 +1,17 @@
--- A set sorted again is what it was. Pieces of an ascending list ascend, so each is its own order; and a set, with the values behind it, is the list cut in two.
+-- A set sorted again is what it was. Pieces of an ascending list ascend, so each is its own order; and a set is the front piece of the distinct values that are
+-- left where it begins.
 use mathlib.Core.Path.{_≡_, refl, ap, _∙_, subst}
 use mathlib.Core.Bool.{Bool, true, false, cond}
 use mathlib.Core.List.{List, [], _∷_, _++_, map}
 use Prim.Native.Nat.{ℕ, zero, suc}
+use native.Mathlib.Omega.{arith}
 use lib.ListN.{take, drop, getD, take-append-drop}
 use lib.Seq.{append-snoc}
 use lib.Ieee.{Float}
 use Rattle.numeric.specs.Near.{isNear}
 use Rattle.numeric_sort.specs.Ordered.{ordered}
 use Rattle.numeric_sort.proofs.InsertLaws.{Numbers}
+use Rattle.numeric_sort.proofs.OrderedLaws.{ordered-few}
 use Rattle.numeric_sort.proofs.AscendingLaws.{Ascending, AtOrBefore, ascending-ordered, numbers-front, numbers-back, ascending-front, ascending-back}
 use Rattle.grouping_normalizer.specs.Normalizer.{distinct, setsAfter, sets, middleOf, normalOf}
 use Rattle.grouping_normalizer.specs.SortedAgain.{SortedAgain}
@@ -54,8 +57,7 @@ sets-sorted margin [] n a = refl
 sets-sorted margin (v ∷ values) n a = after-sorted margin v (v ∷ []) values n a
 
 each-sorted : (lists : List (List Float)) (i : ℕ) → ordered (getD lists i []) ≡ getD (map ordered lists) i []
-unfolding ordered
-each-sorted [] i = refl
+each-sorted [] i = ordered-few [] (omega arith)
 each-sorted (list ∷ lists) zero = refl
 each-sorted (list ∷ lists) (suc i) = each-sorted lists i
 

@@ -72,7 +72,7 @@ fn is_held(values: &[f64], x: f64) -> bool
     false
 }
 
-// The middle value of a set, or half the sum of the two.
+// The middle value of a set, or half the sum of the two. The source sorts the set first, which changes nothing of it.
 fn middle_value(set: &[f64]) -> f64
     requires { ⌜ 0 < length (now set) ⌝ }
     ensures { λ r. ⌜ r ≡ middle (lent set) ⌝ }
