@@ -3,6 +3,8 @@
 pub mod plain;
 pub mod samples;
 pub mod stored;
+#[path = "../../plain_normalizer.rs"]
+pub mod plain_normalizer;
 #[path = "../../xorshift.rs"]
 mod xorshift;
 

@@ -1,4 +1,4 @@
-//! The scope's rules for the groups of intervals, value by value, and for the normaliser. They know nothing of the library.
+//! The scope's rule for the groups of intervals, value by value. It knows nothing of the library.
 
 /// How a value stands to the one before it.
 #[derive(Clone, Copy, PartialEq, Eq, Debug)]
@@ -51,39 +51,4 @@ pub fn groups(values: &[f64], margin: f64) -> Vec<u16> {
         opened - 1
     };
     opens(values, margin).into_iter().map(number).collect()
-}
-
-/// The distinct deltas in total order, cut into lists of those near their first one.
-pub fn sets(deltas: &[f64], margin: f64) -> Vec<Vec<f64>> {
-    let mut distinct = deltas.to_vec();
-    distinct.sort_by(f64::total_cmp);
-    distinct.dedup_by_key(|x| x.to_bits());
-    let mut sets: Vec<Vec<f64>> = Vec::new();
-    for value in distinct {
-        match sets.last_mut() {
-            Some(set) if (value - set[0]).abs() <= margin => set.push(value),
-            _ => sets.push(vec![value]),
-        }
-    }
-    sets
-}
-
-/// The middle of a set, which is sorted for it.
-fn middle(mut set: Vec<f64>) -> f64 {
-    set.sort_by(f64::total_cmp);
-    let half = set.len() / 2;
-    if set.len() % 2 == 1 {
-        set[half]
-    } else {
-        (set[half - 1] + set[half]) / 2.0
-    }
-}
-
-/// What x counts as: the middle of the set that holds it, or x.
-pub fn normal(deltas: &[f64], margin: f64, x: f64) -> f64 {
-    let holds = |set: &Vec<f64>| set.iter().any(|value| value.to_bits() == x.to_bits());
-    sets(deltas, margin)
-        .into_iter()
-        .find(holds)
-        .map_or(x, middle)
 }

@@ -3,7 +3,7 @@
 
 use grouping_tests::samples::{values, Xorshift};
 use grouping_tests::stored::{cases, floats};
-use grouping_tests::{normal_of, plain};
+use grouping_tests::{normal_of, plain_normalizer};
 
 const STORED: &str = include_str!("../data/normalized.txt");
 const STORED_MARGIN: f64 = 5.0;
@@ -40,7 +40,7 @@ fn all_normal(deltas: &[f64], margin: f64) -> Vec<u64> {
             .map(|&x| f(deltas, margin, x).to_bits())
             .collect()
     };
-    let (ours, ruled) = (each(normal), each(plain::normal));
+    let (ours, ruled) = (each(normal), each(plain_normalizer::normal));
     assert_eq!(ours, ruled, "{deltas:?} at the margin {margin:?}");
     ours
 }
@@ -96,7 +96,7 @@ fn sets_sorted_again_have_the_same_middles() {
             let size = random.below(40);
             let list = values(&mut random, size, 5.0);
             all_normal(&list, margin);
-            let sets = plain::sets(&list, margin);
+            let sets = plain_normalizer::sets(&list, margin);
             of_several += sets.iter().filter(|set| set.len() > 1).count();
         }
     }

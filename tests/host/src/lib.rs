@@ -11,6 +11,8 @@ pub mod pairs;
 pub mod plain;
 pub mod plain_build;
 pub mod plain_colour;
+#[path = "../../plain_normalizer.rs"]
+pub mod plain_normalizer;
 pub mod plain_rhythm;
 pub mod rhythm;
 pub mod samples;

@@ -1,8 +1,7 @@
 //! The scope's words for rhythm and record, with lists of lists. It knows nothing of the library.
 
-use std::collections::HashMap;
-
 use crate::chart::Chart;
+use crate::plain_normalizer::normal;
 use crate::rhythm::Recorded;
 
 const MARGIN: f64 = 5.0;
@@ -44,41 +43,12 @@ fn parted<T: Copy>(ends: &[usize], items: &[T]) -> Vec<Vec<T>> {
         .collect()
 }
 
-fn middle(set: &[f64]) -> f64 {
-    let half = set.len() / 2;
-    match set.len() % 2 {
-        1 => set[half],
-        _ => (set[half - 1] + set[half]) / 2.0,
-    }
-}
-
-/// What each delta counts as, by its bits.
-pub fn normalized(deltas: &[f64]) -> HashMap<u64, f64> {
-    let mut ordered = deltas.to_vec();
-    ordered.sort_by(f64::total_cmp);
-    ordered.dedup_by_key(|x| x.to_bits());
-    let mut sets: Vec<Vec<f64>> = Vec::new();
-    for value in ordered {
-        match sets.last_mut() {
-            Some(set) if near(value, set[0]) => set.push(value),
-            _ => sets.push(vec![value]),
-        }
-    }
-    let each = |set: &Vec<f64>| {
-        let normal = middle(set);
-        set.iter()
-            .map(|x| (x.to_bits(), normal))
-            .collect::<Vec<_>>()
-    };
-    sets.iter().flat_map(each).collect()
-}
-
 fn own_intervals(groups: &[Vec<f64>]) -> Vec<Option<f64>> {
     let mut owns: Vec<Option<f64>> = Vec::new();
     for deltas in groups {
         let previous = owns.last().copied().flatten();
         let second = deltas.get(1);
-        let whole = second.map(|x| normalized(deltas)[&x.to_bits()].round_ties_even());
+        let whole = second.map(|&x| normal(deltas, MARGIN, x).round_ties_even());
         let snapped = |own: f64| previous.filter(|&p| near(own, p)).unwrap_or(own);
         owns.push(whole.map(snapped));
     }
