@@ -9,7 +9,7 @@ use lib.Ieee.{Float}
 use Rattle.numeric_sort.specs.Ordered.{ordered}
 use Rattle.grouping_normalizer.specs.Normalizer.{distinct, sets, middleOf, normalOf}
 
--- of finite deltas, and for every margin, a NaN or a negative one too
+-- It holds of finite deltas (`sorted-again`, in proofs/SortedLaws.antt), for every margin, a NaN or a negative one too.
 pub record SortedAgain (deltas : List Float) : Type 0 where
   -- the distinct values at any neighbouring places, `size` of them from place `at` on
   pub places : (at size : ℕ)
@@ -18,4 +18,5 @@ pub record SortedAgain (deltas : List Float) : Type 0 where
   pub set : (margin : Float) (i : ℕ)
       → ordered (getD (sets margin (distinct deltas)) i []) ≡ getD (sets margin (distinct deltas)) i []
   -- so x counts as the same where each set is sorted before its middle is taken
-  pub answer : (margin x : Float) → middleOf x (map ordered (sets margin (distinct deltas))) ≡ normalOf margin deltas x
+  pub answer : (margin x : Float)
+      → middleOf x (map ordered (sets margin (distinct deltas))) ≡ normalOf margin deltas x
