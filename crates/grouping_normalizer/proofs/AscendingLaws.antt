@@ -104,8 +104,8 @@ module _ {xs : List Float} (n : Numbers xs) where
   unfolding distinct
   distinct-ascending = ascending-unrepeated (numbers-ordered n) (ordered-ascending n)
 
-  pub distinct-ordered : Ascending AtOrBefore (distinct xs)
-  distinct-ordered = not-behind numbers-distinct distinct-ascending
+  pub distinct-at-or-before : Ascending AtOrBefore (distinct xs)
+  distinct-at-or-before = not-behind numbers-distinct distinct-ascending
 
   -- no value stands at or before an earlier one
   pub distinct-rises : (i j : ℕ) → i < j → j < length (distinct xs) → totalOrder (getD (distinct xs) j nan) (getD (distinct xs) i nan) ≡ false

@@ -15,7 +15,7 @@ use Rattle.numeric_sort.proofs.OrderedLaws.{ordered-few}
 use Rattle.numeric_sort.proofs.AscendingLaws.{Ascending, AtOrBefore, ascending-ordered, numbers-front, numbers-back, ascending-front, ascending-back}
 use Rattle.grouping_normalizer.specs.Normalizer.{distinct, setsAfter, sets, middleOf, normalOf}
 use Rattle.grouping_normalizer.specs.SortedAgain.{SortedAgain}
-use Rattle.grouping_normalizer.proofs.AscendingLaws.{numbers-distinct, distinct-ordered}
+use Rattle.grouping_normalizer.proofs.AscendingLaws.{numbers-distinct, distinct-at-or-before}
 
 -- the first of two pieces
 front-sorted : (xs ys : List Float) → Numbers (xs ++ ys) → Ascending AtOrBefore (xs ++ ys) → ordered xs ≡ xs
@@ -65,7 +65,7 @@ each-sorted (list ∷ lists) (suc i) = each-sorted lists i
 
 module _ {deltas : List Float} (n : Numbers deltas) where
   all-sorted : (margin : Float) → map ordered (sets margin (distinct deltas)) ≡ sets margin (distinct deltas)
-  all-sorted margin = sets-sorted margin (distinct deltas) (numbers-distinct n) (distinct-ordered n)
+  all-sorted margin = sets-sorted margin (distinct deltas) (numbers-distinct n) (distinct-at-or-before n)
 
   -- sorting a set again changes nothing of it
   pub set-sorted : (margin : Float) (i : ℕ) → ordered (getD (sets margin (distinct deltas)) i []) ≡ getD (sets margin (distinct deltas)) i []
@@ -73,7 +73,7 @@ module _ {deltas : List Float} (n : Numbers deltas) where
 
   -- nor does it where the set lies, in `size` places from `at` on of the distinct values
   pub place-sorted : (at size : ℕ) → ordered (take size (drop at (distinct deltas))) ≡ take size (drop at (distinct deltas))
-  place-sorted = neighbours-sorted (distinct deltas) (numbers-distinct n) (distinct-ordered n)
+  place-sorted = neighbours-sorted (distinct deltas) (numbers-distinct n) (distinct-at-or-before n)
 
   -- so what x counts as is the middle that the source takes
   pub middle-sorted : (margin x : Float) → middleOf x (map ordered (sets margin (distinct deltas))) ≡ normalOf margin deltas x

@@ -25,6 +25,7 @@ pub number-in : {z : Float} {xs : List Float} → Numbers xs → List·Memᴰ z 
 number-in none m = absurd (List·Memᴰ·not-nil m)
 number-in (also p n) m = ⊎-elim (λ e. subst Number (sym e) p) (λ m. number-in n m) (List·Memᴰ·cases-cons m)
 
+-- and the other way round
 pub numbers-in : (xs : List Float) → ((z : Float) → List·Memᴰ z xs → Number z) → Numbers xs
 numbers-in [] f = none
 numbers-in (x ∷ xs) f = also (f x (List·Memᴰ·head refl)) (numbers-in xs (λ z m. f z (List·Memᴰ·tail m)))
