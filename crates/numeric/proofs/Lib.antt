@@ -7,4 +7,5 @@ pub mod ConstantLaws
 pub mod Minus
 pub mod MinusZero
 mod Sign
+mod Closest
 mod Units
