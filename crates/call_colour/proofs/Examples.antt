@@ -6,7 +6,7 @@ use mathlib.Core.List.{List, [], _∷_, map}
 use Prim.Native.Nat.{ℕ, _*_}
 use lib.IntN.{pos}
 use lib.ListN.{length, replicate}
-use lib.Ieee.{inf, binary64, round, add, sub, mul, div, le, ofInt, ofBits, toBits}
+use lib.Ieee.{Float, inf, binary64, round, add, sub, mul, div, le, ofInt, ofBits, toBits}
 use Rattle.numeric.specs.Constants.{zero64, one64, eightTenths}
 use Rattle.numeric.specs.Logistic.{tableBits, logisticAt}
 use Rattle.numeric.specs.Near.{isNear}
@@ -38,11 +38,11 @@ use Rattle.call_colour.specs.declared.Stretching.the-variants as stretch
 use Rattle.call_colour.specs.Stretch.{hasNote, stretchRefusal, stretchValues, sumFrom, averageOf, chartMean, chartTenths}
 use Rattle.call_colour.specs.Call.{Memory, filled, colourOutcome, stretchOutcome}
 
--- starts and deltas 0.0, ratios 1.0
-unfoldable pub chart : List ℕ → Chart
-chart kinds =
+-- starts and deltas 0.0, all ratios equal
+unfoldable pub chart : Float → List ℕ → Chart
+chart ratio kinds =
     let zeros = replicate (length kinds) zero64 in
-    record { kinds = kinds; starts = zeros; deltas = zeros; ratios = replicate (length kinds) one64 }
+    record { kinds = kinds; starts = zeros; deltas = zeros; ratios = replicate (length kinds) ratio }
 
 -- n values, 8 n and n places of work, none of them 0 before the call
 unfoldable pub lent : ℕ → Memory
@@ -79,6 +79,7 @@ examples =
     ∷ []
 
 pub record StretchExample : Type 0 where
+  pub ratio : Float
   pub kinds : List ℕ
   pub a : ℕ
   pub b : ℕ
@@ -88,11 +89,12 @@ unfoldable pub stretches : List StretchExample
 stretches =
     -- d, b = n: the value itself, which is 4.98..
     record {
+      ratio = one64;
       kinds = 0 ∷ [];
       a = 0;
       b = 1;
       outcome = record {
-        answer = stretching.Done (ofBits binary64 0x4013_ee42_c838_4268) (pos 49);
+        answer = stretching.Done (ofBits binary64 0x4013_ee42_c838_4268) (pos 50);
         value = 0x4013_ee42_c838_4268 ∷ [];
         work = replicate 8 0;
         scratch = 0 ∷ [];
@@ -100,6 +102,7 @@ stretches =
     }
     -- ndn: all three have values, and the note's alone is the mean
     ∷ record {
+      ratio = one64;
       kinds = 2 ∷ 0 ∷ 2 ∷ [];
       a = 0;
       b = 3;
@@ -110,13 +113,26 @@ stretches =
         scratch = 0 ∷ 0 ∷ 0 ∷ [];
       };
     }
+    -- ddddk, each ratio 0x1.df7197f2d26a0p+0, its last object alone: 1.25, whose tenths are half-way, and 12 is even
+    ∷ record {
+      ratio = ofBits binary64 0x3ffd_f719_7f2d_26a0;
+      kinds = 0 ∷ 0 ∷ 0 ∷ 0 ∷ 1 ∷ [];
+      a = 4;
+      b = 5;
+      outcome = record {
+        answer = stretching.Done (ofBits binary64 0x3ff4_0000_0000_0000) (pos 12);
+        value = 0x4013_ee42_c838_4268 ∷ 0 ∷ 0 ∷ 0 ∷ 0x3ff4_0000_0000_0000 ∷ [];
+        work = replicate 40 0;
+        scratch = replicate 5 0;
+      };
+    }
     -- d, b = n + 1, and a = b: refused, and all as lent
-    ∷ record { kinds = 0 ∷ []; a = 0; b = 2; outcome = refused 9 }
-    ∷ record { kinds = 0 ∷ []; a = 1; b = 1; outcome = refused 9 }
+    ∷ record { ratio = one64; kinds = 0 ∷ []; a = 0; b = 2; outcome = refused 9 }
+    ∷ record { ratio = one64; kinds = 0 ∷ []; a = 1; b = 1; outcome = refused 9 }
     -- n: refused as it has no note, but where it is overlong or empty for that
-    ∷ record { kinds = 2 ∷ []; a = 0; b = 1; outcome = refused 11 }
-    ∷ record { kinds = 2 ∷ []; a = 0; b = 2; outcome = refused 9 }
-    ∷ record { kinds = 2 ∷ []; a = 0; b = 0; outcome = refused 9 }
+    ∷ record { ratio = one64; kinds = 2 ∷ []; a = 0; b = 1; outcome = refused 11 }
+    ∷ record { ratio = one64; kinds = 2 ∷ []; a = 0; b = 2; outcome = refused 9 }
+    ∷ record { ratio = one64; kinds = 2 ∷ []; a = 0; b = 0; outcome = refused 9 }
     ∷ []
   where
     -- one object's memory, as lent
@@ -129,10 +145,10 @@ stretches =
     }
 
 unfoldable pub coloured : Example → Shown Colouring
-coloured e = shown (colourOutcome baseSettings (chart (e .kinds)) (lent (length (e .kinds))))
+coloured e = shown (colourOutcome baseSettings (chart one64 (e .kinds)) (lent (length (e .kinds))))
 
 unfoldable pub stretched : StretchExample → Shown Stretching
-stretched e = shown (stretchOutcome baseSettings (chart (e .kinds)) (e .a) (e .b) (lent (length (e .kinds))))
+stretched e = shown (stretchOutcome baseSettings (chart (e .ratio) (e .kinds)) (e .a) (e .b) (lent (length (e .kinds))))
 
 -- every one of the two lists comes out as it says
 pub examples-right : (map coloured examples ≡ map (λ (e : Example). e .outcome) examples)

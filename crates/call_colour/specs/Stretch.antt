@@ -1,6 +1,6 @@
--- A stretch of a chart, which has object a and not object b (scope: Stretch, as amended by 2/12): which stretches are
--- refused; the mean of one, the colour values of its notes added from left to right and divided by how many they are;
--- and its whole tenths, rounded down.
+-- A stretch of a chart, which has object a and not object b (scope: Stretch, as amended by 2/12 and 4/12): which
+-- stretches are refused; the mean of one, the colour values of its notes added from left to right and divided by how
+-- many they are; and its tenths, to the nearest.
 use mathlib.Core.Path.{_≡_}
 use Prim.Native.Nat.{ℕ, _-_}
 use mathlib.Core.Bool.{Bool, _||_, cond}

@@ -1,3 +1,5 @@
--- The module `tenths`: the size off the bit pattern, and ten times a fraction cut to a whole number.
+-- The module `tenths`: the size off the bit pattern, the whole number nearest to ten times a fraction, and that no other is.
 mod Size
 mod Tens
+pub mod Nearest
+mod Examples

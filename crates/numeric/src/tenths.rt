@@ -1,8 +1,8 @@
-// The tenths of an f64, cut downwards: whole numbers made of its bits, so that the product with ten is exact.
+// The tenths of an f64, to the nearest: whole numbers made of its bits, so that the product with ten is exact.
 ghost use mathlib.Core.Path.{_≡_};
-ghost use Prim.Native.Nat.{_*_, _/_, _^_, _<_};
-ghost use Rattle.numeric.specs.Tenths.{tenthsOf, ceiling, InTenthsRange};
-ghost use Rattle.numeric.specs.passes.Tenths.{ScaledOf, CutTo};
+ghost use Prim.Native.Nat.{_^_, _<_};
+ghost use Rattle.numeric.specs.Tenths.{tenthsOf, InTenthsRange};
+ghost use Rattle.numeric.specs.passes.Tenths.{ScaledOf, TenNearest};
 
 // The size of a float: digits / 2^shift.
 pub struct Scaled {
@@ -29,39 +29,37 @@ fn size_of(x: f64) -> Scaled
     }
 }
 
-// 10 * digits / 2^shift, downwards.
-fn ten_floor(digits: u64, shift: u64) -> u64
+// The whole number nearest to 10 * digits / 2^shift, at an exact half the even one. Ten times the digits is below
+// 2^57, half of 2^58. The rest is doubled, as 2^shift has no half at shift 0.
+fn ten_nearest(digits: u64, shift: u64) -> u64
     requires { ⌜ digits < 2 ^ 53 ⌝ }
-    ensures { λ r. ⌜ CutTo (10 * digits / 2 ^ shift) r ⌝ }
+    ensures { λ r. ⌜ TenNearest digits shift r ⌝ }
 {
-    if 56 < shift {
+    if 57 < shift {
         return 0;
     }
-    (10 * digits) >> shift
+    let ten = 10 * digits;
+    let whole = ten >> shift;
+    let rest = ten - (whole << shift);
+    let unit = 1u64 << shift;
+    if 2 * rest < unit {
+        return whole;
+    }
+    if 2 * rest == unit {
+        return whole + whole % 2;
+    }
+    whole + 1
 }
 
-// 10 * digits / 2^shift, upwards.
-fn ten_ceiling(digits: u64, shift: u64) -> u64
-    requires { ⌜ digits < 2 ^ 53 ⌝ }
-    ensures { λ r. ⌜ CutTo (ceiling (10 * digits) (2 ^ shift)) r ⌝ }
-{
-    if digits == 0 {
-        return 0;
-    }
-    if 56 < shift {
-        return 1;
-    }
-    (10 * digits + ((1u64 << shift) - 1)) >> shift
-}
-
-// Ten times x, downwards to a whole number.
+// The whole number nearest to ten times x. What is nearest to the size is so with either sign.
 pub fn tenths(x: f64) -> i64
     requires { ⌜ InTenthsRange x ⌝ }
     ensures { λ r. ⌜ r ≡ tenthsOf x ⌝ }
 {
     let s = size_of(x);
+    let t = ten_nearest(s.digits, s.shift) as i64;
     if x < 0.0 {
-        return -(ten_ceiling(s.digits, s.shift) as i64);
+        return -t;
     }
-    ten_floor(s.digits, s.shift) as i64
+    t
 }

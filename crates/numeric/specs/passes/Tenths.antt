@@ -1,8 +1,9 @@
--- What the steps of `tenths` promise: the size as a fraction, and ten times it cut to a whole number.
+-- What the steps of `tenths` promise: the size as a fraction, and the whole number nearest to ten times it.
 use mathlib.Core.Path.{_≡_}
-use Prim.Native.Nat.{ℕ, _^_, _≤_, _<_}
+use Prim.Native.Nat.{ℕ, _*_, _^_, _≤_, _<_}
 use lib.Ieee.{Float}
 use lib.Ieee.Digits.{Equals}
+use lib.Ieee.Nearest.{closest}
 
 -- the size of x is digits / 2 ^ shift
 pub record ScaledOf (x : Float) (digits shift : ℕ) : Type 0 where
@@ -10,7 +11,7 @@ pub record ScaledOf (x : Float) (digits shift : ℕ) : Type 0 where
   pub low : shift ≤ 1074
   pub value : Equals x digits (2 ^ shift)
 
--- a quotient of ten times the digits, with the bound that its cast to an i64 needs
-pub record CutTo (exact r : ℕ) : Type 0 where
-  pub equal : r ≡ exact
+-- the answer, with the bound that its cast to an i64 needs
+pub record TenNearest (digits shift r : ℕ) : Type 0 where
+  pub equal : r ≡ closest (10 * digits) (2 ^ shift)
   pub small : r < 2 ^ 58
