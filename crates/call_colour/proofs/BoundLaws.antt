@@ -1,4 +1,4 @@
--- Sizes: the mean of every stretch of an accepted chart is finite, no NaN, and at most `largestColour` in size.
+-- Sizes: the mean of every stretch of an accepted chart is finite, no NaN, and at most `largestColour` in size. So it has tenths.
 -- A sum of m values is at most m times that, so divided by m it is at most that again.
 use mathlib.Core.Path.{_≡_}
 use mathlib.Core.Bool.{not}
@@ -11,17 +11,18 @@ use lib.ListN.{length, getD}
 use lib.Ieee.{Float, nan, binary64, isNan, add}
 use lib.Ieee.Fits.{div-fits}
 use Rattle.numeric.specs.Constants.{zero64}
-use Rattle.numeric.specs.Tenths.{InTenthsRange}
+use Rattle.numeric.specs.Tenths.{NearestTenths, InTenthsRange}
 use Rattle.numeric.proofs.Values.{Number, number-no-nan}
 use Rattle.numeric.proofs.Bounded as bounds
 use Rattle.numeric.proofs.Bounded.{Bounded, bounded-more, bounded-number, bounded-tenths, add-bounded}
+use Rattle.numeric.proofs.tenths.Nearest.{tenths-nearest}
 use Rattle.grouping_chart.specs.Chart.{Chart}
 use Rattle.grouping_chart.specs.Refusal.{verdict}
 use Rattle.grouping_chart.specs.declared.refusal.Verdict.the-variants.{Accepted}
 use Rattle.grouping_chart.specs.Settings.{Settings}
 use Rattle.grouping_chart.proofs.AcceptedLaws.{accepted-good}
 use Rattle.evaluator_values.proofs.BoundLaws.{largestColour, value-bounded}
-use Rattle.call_colour.specs.Stretch.{GoodStretch, stretchValues, sumFrom, averageOf, chartMean}
+use Rattle.call_colour.specs.Stretch.{GoodStretch, stretchValues, sumFrom, averageOf, chartMean, chartTenths}
 use Rattle.call_colour.proofs.StretchCases.{StretchLies, good-lies}
 use Rattle.call_colour.proofs.StretchValues.{stretch-some, stretch-few, stretch-all}
 
@@ -73,3 +74,8 @@ module _ (s : Settings) (c : Chart) (refusal : ℕ) (accepted : verdict c refusa
 
   pub mean-tenths : InTenthsRange (chartMean s c a b)
   mean-tenths = bounded-tenths (chartMean s c a b) largestColour (lit≤ tt) mean-bounded
+
+  -- so what stretch shows is the whole number nearest to ten times its mean, an even one at a half
+  pub shown-nearest : NearestTenths (chartMean s c a b) (chartTenths s c a b)
+  unfolding chartTenths
+  shown-nearest = tenths-nearest (chartMean s c a b) (mean-number .is-finite)

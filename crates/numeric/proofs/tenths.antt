@@ -2,4 +2,5 @@
 mod Size
 mod Tens
 pub mod Nearest
+pub mod Halves
 mod Examples
