@@ -215,7 +215,8 @@ def stretch(kinds, values, a, b):
     for i in notes:
         total += values[i]
     mean = total / len(notes)
-    return mean, math.floor(10 * fractions.Fraction(mean))
+    # of a fraction Python rounds exactly, a half to the even number
+    return mean, round(10 * fractions.Fraction(mean))
 
 
 def ask_colour(oracle, charts):
@@ -228,21 +229,27 @@ def ask_colour(oracle, charts):
     assert next(lines, None) is None, "more answers than requests"
 
 
-def tenth_charts(oracle):
-    """Charts `ddk` of equal ratios, sought so that the mean of the last object, or of all, lies on a tenth or beside it."""
-    (values, _), = ask_colour(oracle, [("001", [1.0] * 3, [])])
-    first, most = values[0] + values[1], values[2] / 0.6
+# means half-way between two tenths, and how they are sought: the kinds, and stretches from the first object on
+HALVES = [k / 4 for k in range(-11, 12, 2)]
+SOUGHT, ENDS, STEPS = "01101", (4, 5), 200
+KNOWN_HALF = ("00001", [float.fromhex("0x1.df7197f2d26a0p+0")] * 5, [(4, 5)])
+
+
+def half_charts(oracle):
+    """Charts of equal ratios, sought so that a mean is half-way between two tenths, or as near to that as an f64 comes, or beside that."""
+    (values, _), = ask_colour(oracle, [(SOUGHT, [1.0] * len(SOUGHT), [])])
     tried = []
-    for (a, b), k in itertools.product([(2, 3), (0, 3)], range(-30, 25)):
-        wanted = k / 10 * (b - a) - (first if a == 0 else 0.0)
+    for end, k in itertools.product(ENDS, range(-59, 60, 2)):
+        # the first two values stay; the others have 1 - 0.4 * ratio as a factor, which is 0.6 at the ratio 1
+        wanted, most = k / 20 * end - sum(values[:2]), sum(values[2:end]) / 0.6
         near = (1.0 - wanted / most) / 0.4
         if LEAST < near < LARGEST:
-            tried += [(k / 10, ("001", [beside(near, i)] * 3, [(a, b)])) for i in range(-40, 41)]
+            tried += [(k / 20, (SOUGHT, [beside(near, i)] * len(SOUGHT), [(0, end)])) for i in range(-STEPS, STEPS + 1)]
     found = {}
-    for (tenth, chart), (_, ((mean, _),)) in zip(tried, ask_colour(oracle, [chart for _, chart in tried])):
-        if mean in (beside(tenth, -1), tenth, beside(tenth, 1)):
-            found.setdefault((chart[2][0], mean), chart)
-    return list(found.values())
+    for (half, chart), (_, ((mean, _),)) in zip(tried, ask_colour(oracle, [chart for _, chart in tried])):
+        if mean in (beside(half, -1), half, beside(half, 1)):
+            found.setdefault(mean, chart)
+    return [*found.values(), KNOWN_HALF]
 
 
 def colour_case(kinds, ratios, values):
@@ -279,14 +286,16 @@ def check_parts(charts, answers):
 
 
 def check_tenths(answers):
-    """Some tenths a rounded product would miss, below zero and above."""
-    off = [mean for _, stretches in answers for mean, tenths in stretches if math.floor(10.0 * mean) != tenths]
+    """Exact halves with either neighbour even, below zero and above, and some tenths that a rounded product would miss."""
+    found = [stretch for _, stretches in answers for stretch in stretches]
+    assert {mean for mean, _ in found} >= {*HALVES}, "a mean half-way between two tenths is missing"
+    off = [mean for mean, tenths in found if round(10.0 * mean) != tenths]
     assert sum(m < 0.0 for m in off) >= 5 and sum(m > 0.0 for m in off) >= 5, f"rounded tenths differ at {off} only"
     return len(off)
 
 
 def main_colour(oracle, out):
-    charts = [*colour_charts(), *tenth_charts(oracle)]
+    charts = [*colour_charts(), *half_charts(oracle)]
     answers = list(ask_colour(oracle, charts))
     check_values(charts, answers)
     check_parts(charts, answers)

@@ -97,17 +97,17 @@ turn encode 1 10000 2
 turned 'two cases' encode 1 9841 0 "$(differ encode 2 9841)"
 turn encode 1 10000 2
 
-# colour: distinct ratios (2), kinds, places in the table, values, the table; the last is ddk, with one stretch.
+# colour: distinct ratios (2), kinds, places in the table, values, the table; the last is ddddk, with one stretch.
 # What a colour case stores its stretches fill again, so they differ too.
-last_colour="$(differ colour 1 1013)$(differ stretch 1 5212)"
-turned 'a kind of a colour case' colour 2 1013 3 "$last_colour"
-turned 'a colour value' colour 2 1013 24 "$last_colour"
+last_colour="$(differ colour 1 1010)$(differ stretch 1 5209)"
+turned 'a kind of a colour case' colour 2 1010 3 "$last_colour"
+turned 'a colour value' colour 2 1010 24 "$last_colour"
 turned 'a ratio' colour 2 904 -1 "$(differ colour 1 904)$(differ stretch 6 5098)"
 
 # stretch: both ends (2, 2), mean (8), tenths (4)
-turned 'an end of a stretch' colour 3 5212 0 "$(differ stretch 1 5212)"
+turned 'an end of a stretch' colour 3 5209 0 "$(differ stretch 1 5209)"
 turned 'a mean' colour 3 0 4 "$(differ stretch 1 0)"
-turned 'tenths' colour 3 5212 12 "$(differ stretch 1 5212)"
+turned 'tenths' colour 3 5209 12 "$(differ stretch 1 5209)"
 
 # rhythm: both counts (2, 2), kinds, starts, deltas, groups, pattern groups; case 42 has the deltas 102, 102, 150, 75, 75 and two records
 turned 'the last delta' rhythm 4 42 88 "$(differ rhythm 1 42)$(differ record 1 39)"
@@ -123,7 +123,7 @@ turned 'a pattern ratio' rhythm 5 38 50 "$(differ record 1 38)"
 # a case that can't be read counts as one of build, encode, colour or rhythm that differs
 ends 'a built chart without its last byte' build 1 's/35223/18840/;'"$(differ build 1 129)"
 ends 'a chart without its last byte' encode 1 's/276742/260358/;'"$(differ encode 1 10763)"
-ends 'a stretch without its last byte' colour 1 's/1014/1015/; s/5213/5212/;'"$(differ colour 1 1014)"
+ends 'a stretch without its last byte' colour 1 's/1011/1012/; s/5210/5209/;'"$(differ colour 1 1011)"
 ends 'a head without its last byte' rhythm 59 's/465/466/; s/3673/3672/;'"$(differ rhythm 1 465)"
 ends 'a file without its last case' rhythm 66 's/3673/3672/'
 
