@@ -1,4 +1,5 @@
-/* colour and stretch from C and from C++: values by the scope's formulas, a mean below zero, its tenths, and NonHits in a stretch.
+/* colour and stretch from C and from C++: values by the scope's formulas, means below zero and half-way between tenths, and NonHits in a
+ * stretch.
  * Prints `ok`, or each line that fails. */
 #include "dresserduck.h"
 
@@ -9,7 +10,7 @@
 static uint8_t kind[N] = {DRESSERDUCK_CENTER, DRESSERDUCK_CENTER, DRESSERDUCK_RIM};
 static const double start[N] = {0.0, 100.0, 200.0};
 static const double delta[N] = {100.0, 100.0, 100.0};
-static const double ratio[N] = {4.0, 1.0, 4.0};
+static double ratio[N] = {4.0, 1.0, 4.0};
 
 /* of an object that opens all three groups, by T(0) and T(17) */
 static double opening_value(void)
@@ -53,7 +54,7 @@ static void stretched(void)
     CHECK(got.mean > -1.5 && got.mean < -1.4 && got.tenths == -15);
     check_values();
     got = stretch(0, 1);
-    CHECK(got.mean == opening_value() && got.tenths == 49);
+    CHECK(got.mean == opening_value() && got.tenths == 50);
 }
 
 static void expect_refused(uint64_t refusal, size_t a, size_t b)
@@ -63,13 +64,21 @@ static void expect_refused(uint64_t refusal, size_t a, size_t b)
     CHECK(untouched());
 }
 
+/* All ratios are the one with these bits, by which the mean of all three objects lies half-way between two tenths: the even one is shown. */
+static void half_way(uint64_t equal_ratio, double mean, int64_t tenths)
+{
+    ratio[0] = ratio[1] = ratio[2] = dresserduck_double(equal_ratio);
+    dresserduck_stretched got = stretch(0, 3);
+    CHECK(got.refusal == DRESSERDUCK_ACCEPTED && got.mean == mean && got.tenths == tenths);
+}
+
 /* With a NonHit for its last object: it has a value, and the mean of a stretch is that of the notes before it. */
 static void struck(void)
 {
     kind[2] = DRESSERDUCK_NON_HIT;
     dresserduck_stretched got = stretch(0, 3);
     CHECK(got.refusal == DRESSERDUCK_ACCEPTED && got.place == 0);
-    CHECK(lent.value[2] != 0.0 && got.mean == opening_value() / 2.0 && got.tenths == 24);
+    CHECK(lent.value[2] != 0.0 && got.mean == opening_value() / 2.0 && got.tenths == 25);
     expect_refused(DRESSERDUCK_NO_NOTE, 2, 3);
     expect_refused(DRESSERDUCK_BAD_STRETCH, 2, 4);
     expect_refused(DRESSERDUCK_BAD_STRETCH, 3, 3);
@@ -80,6 +89,9 @@ int main(void)
     coloured();
     stretched();
     expect_refused(DRESSERDUCK_BAD_STRETCH, 0, 4);
+    half_way(0x40127EAA3979F8FEu, 0.25, 2);
+    half_way(0x3FF9CFF0152703C6u, 2.25, 22);
+    half_way(0x401E89586DAA310Au, -1.75, -18);
     struck();
     return finish();
 }

@@ -14,6 +14,8 @@ pub mod plain_colour;
 #[path = "../../plain_normalizer.rs"]
 pub mod plain_normalizer;
 pub mod plain_rhythm;
+#[path = "../../plain_tenths.rs"]
+pub mod plain_tenths;
 pub mod rhythm;
 pub mod samples;
 #[path = "../../xorshift.rs"]

@@ -52,16 +52,3 @@ pub fn mean(kind: &[u8], values: &[f64]) -> Option<f64> {
     }
     (notes > 0).then(|| sum / f64::from(notes))
 }
-
-/// Ten times x, rounded down, by 128-bit integers.
-pub fn tenths(x: f64) -> i64 {
-    let bits = x.to_bits();
-    let (field, rest) = ((bits >> 52) & 2047, (bits & ((1 << 52) - 1)) as i128);
-    let (digits, shift) = match field {
-        0 => (rest, 1074),
-        _ => (rest | 1 << 52, 1075 - field),
-    };
-    let ten = if x < 0.0 { -10 * digits } else { 10 * digits };
-    // ten times the digits is below 2^57, so from 120 on only the sign is left
-    (ten >> shift.min(120)) as i64
-}

@@ -3,7 +3,7 @@
 use host_tests::chart::Chart;
 use host_tests::check::bad_charts;
 use host_tests::colour::{colour, stretch, Coloured, Memory};
-use host_tests::plain_colour;
+use host_tests::{plain_colour, plain_tenths};
 use host_tests::samples::{biased_chart, ratios, Xorshift};
 use host_tests::LARGEST_CHART;
 
@@ -65,7 +65,7 @@ fn check_stretch(chart: &Chart, values: &[f64], a: usize, b: usize) -> Option<f6
     let got = stretch(chart, a, b, &mut memory);
     assert_eq!((got.refusal, got.place), (0, 0), "{a}..{b} of {chart}");
     assert_eq!(got.mean.to_bits(), mean.to_bits(), "{a}..{b} of {chart}");
-    let tenths = plain_colour::tenths(mean);
+    let tenths = plain_tenths::tenths(mean);
     assert_eq!(got.tenths, tenths, "{a}..{b} of {chart}");
     assert_eq!(memory.bits(), lent.filled(values).bits(), "{chart}");
     Some(mean)
@@ -101,6 +101,26 @@ fn values_and_stretches_follow_the_scope() {
         stretches > 1_500 && negative > 100 && noteless > 20,
         "{stretches} stretches, {negative} negative means, {noteless} without notes"
     );
+}
+
+/// Means half-way between two tenths: the even one is shown. All ratios of a chart are equal.
+#[test]
+fn half_way_the_even_tenth_is_shown() {
+    let table = table();
+    for (kinds, ratio, (a, b), mean, tenths) in [
+        ("ddddk", 0x3FFD_F719_7F2D_26A0, (4, 5), 1.25, 12),
+        ("dkkdk", 0x4022_FAA8_E5E7_E3F9, (0, 4), 0.75, 8),
+        ("dkkdk", 0x4026_FE38_4CA2_A152, (0, 4), 0.25, 2),
+        ("dkkdk", 0x402B_01C7_B35D_5EAD, (0, 4), -0.25, -2),
+        ("dkkdk", 0x402F_0557_1A18_1C06, (0, 4), -0.75, -8),
+    ] {
+        let mut chart = Chart::of_text(kinds);
+        chart.ratio = vec![f64::from_bits(ratio); kinds.len()];
+        let values = check_values(&chart, &table);
+        assert_eq!(check_stretch(&chart, &values, a, b), Some(mean));
+        let got = stretch(&chart, a, b, &mut roomy(kinds.len()));
+        assert_eq!(got.tenths, tenths, "{a}..{b} of {chart}");
+    }
 }
 
 /// NonHits are filled like other objects, and lend the mean neither their values nor their number.

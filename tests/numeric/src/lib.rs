@@ -1,5 +1,7 @@
 //! Exports of libtest_host.a as safe functions, and the values that the tests try.
 
+#[path = "../../plain_tenths.rs"]
+pub mod plain_tenths;
 pub mod samples;
 #[path = "../../xorshift.rs"]
 mod xorshift;
@@ -40,7 +42,7 @@ unsafe extern "C" {
     pub safe fn bits(x: f64) -> u64;
 }
 
-/// The largest whole number not above 10 x, with nothing rounded; x lies between -2^53 and 2^53.
+/// The whole number nearest to 10 x, at an exact half the even one; x lies between -2^53 and 2^53.
 pub fn tenths(x: f64) -> i64 {
     assert!(x.abs() < TENTHS_LIMIT, "tenths({x:?}) is out of range");
     // SAFETY: x is in the range that it asks for.

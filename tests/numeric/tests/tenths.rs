@@ -1,27 +1,15 @@
-//! tenths against 128-bit integers: the floor of 10 x, with nothing rounded.
+//! tenths against 128-bit integers: the whole number nearest to 10 x, an exact half to the even one, with nothing else rounded.
+
+use std::thread;
 
 use numeric_tests::samples::{neighbours, Xorshift};
-use numeric_tests::{tenths, TENTHS_LIMIT};
-
-/// x is its digits / 2^shift in size, so the floor of 10 x is an arithmetic shift of ten times the digits.
-fn exact_tenths(x: f64) -> i64 {
-    let field = x.to_bits() >> 52 & 0x7FF;
-    let fraction = x.to_bits() & ((1 << 52) - 1);
-    let (digits, shift) = match field {
-        0 => (fraction, 1074),
-        _ => (fraction | 1 << 52, 1075 - field),
-    };
-    let size = 10 * i128::from(digits);
-    let signed = if x.is_sign_negative() { -size } else { size };
-    // ten times the digits is below 2^57, so from 120 on only the sign is left; -0.0 has the value 0
-    (signed >> shift.min(120)) as i64
-}
+use numeric_tests::{plain_tenths, tenths, TENTHS_LIMIT};
 
 /// Checks x, and says whether a rounded product would have given another answer.
 fn check(x: f64) -> bool {
-    let want = exact_tenths(x);
+    let want = plain_tenths::tenths(x);
     assert_eq!(tenths(x), want, "tenths({x:?}), bits {:016x}", x.to_bits());
-    (x * 10.0).floor() as i64 != want
+    (x * 10.0).round_ties_even() as i64 != want
 }
 
 fn check_signs(x: f64) {
@@ -33,27 +21,61 @@ fn check_signs(x: f64) {
 fn known_values() {
     let known = [
         (0.0, 0),
-        (-0.0, 0),
-        (0.05, 0),
+        // exact halves
+        (0.25, 2),
+        (0.75, 8),
+        (1.25, 12),
+        (1.75, 18),
+        (2.25, 22),
+        // those that a rounded product puts on a half
+        (0.05, 1),
+        (0.15, 1),
+        (0.35, 3),
+        (0.45, 5),
+        // the last below 1/16, where ten times x may still be above a half, and the first that is nearer to 0
+        (0.06, 1),
+        (0.05_f64.next_down(), 0),
+        (0.031_25, 0),
+        (0.04, 0),
         (0.1, 1),
-        (-0.1, -2),
-        (0.3, 2),
-        (-0.3, -3),
+        (0.3, 3),
         (0.5, 5),
-        (-0.5, -5),
-        (0.7, 6),
         (0.95, 9),
-        (-2.25, -23),
         (f64::from_bits(1), 0),
-        (-f64::from_bits(1), -1),
         (f64::MIN_POSITIVE, 0),
-        (-f64::MIN_POSITIVE, -1),
+        (2_251_799_813_685_247.75, 22_517_998_136_852_478),
         (9_007_199_254_740_991.0, 90_071_992_547_409_910),
-        (-9_007_199_254_740_991.0, -90_071_992_547_409_910),
     ];
     for (x, want) in known {
-        assert_eq!(tenths(x), want, "tenths({x:?})");
-        assert_eq!(exact_tenths(x), want, "the reference at {x:?}");
+        for (x, want) in [(x, want), (-x, -want)] {
+            assert_eq!(tenths(x), want, "tenths({x:?})");
+            assert_eq!(plain_tenths::tenths(x), want, "the plain version at {x:?}");
+        }
+    }
+}
+
+/// No mean is larger in size: 5 * (2^24 + 1).
+const LARGEST_MEAN: u64 = 5 * ((1 << 24) + 1);
+
+/// Every k / 4 that a mean can be, for odd k, where 10 k / 4 lies half-way between whole numbers; and the f64s beside it.
+#[test]
+fn every_half_in_reach() {
+    let last = 4 * LARGEST_MEAN;
+    let parts = [1..last / 2, last / 2 + 1..last];
+    thread::scope(|scope| {
+        for part in parts {
+            assert_eq!(part.start % 2, 1, "the first k is even");
+            scope.spawn(move || part.step_by(2).for_each(check_half));
+        }
+    });
+}
+
+fn check_half(k: u64) {
+    let x = k as f64 / 4.0;
+    let below = (5 * k as i64 - 1) / 2;
+    let even = below + below % 2;
+    for (x, want) in [(x, even), (x.next_down(), below), (x.next_up(), below + 1)] {
+        assert_eq!((tenths(x), tenths(-x)), (want, -want), "tenths({x:?})");
     }
 }
 
@@ -68,26 +90,27 @@ fn every_exponent() {
     }
 }
 
-/// The exponents of the values from 2^-8 to 2^53, where the answer is more than a sign.
+/// The exponents of the values from 2^-8 to 2^53, where the answer is not always 0.
 #[test]
 fn usual_sizes() {
     let mut random = Xorshift::new(22);
     for field in 1015..=1075 {
-        for _ in 0..10_000 {
+        for _ in 0..20_000 {
             check_signs(random.with_field(field));
         }
     }
 }
 
-/// k / 10 and the f64s beside it. Rounded products go wrong here, and must do so in some of the samples.
+/// Odd multiples of 1/20, half-way between two tenths, and the f64s beside them. Rounded products go wrong here, and must do so in
+/// some of the samples.
 #[test]
-fn multiples_of_a_tenth() {
+fn halves_of_a_tenth() {
     let mut random = Xorshift::new(23);
     let mut misrounded = 0_u32;
     for size in 1..=53 {
         for _ in 0..5_000 {
-            let multiple = random.of_size(size) as f64 / 10.0;
-            for x in neighbours(multiple) {
+            let half = (random.of_size(size) | 1) as f64 / 20.0;
+            for x in neighbours(half) {
                 misrounded += u32::from(check(x));
             }
         }

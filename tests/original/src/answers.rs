@@ -3,7 +3,7 @@
 use host_tests::chart::Chart;
 use host_tests::lent::{exact_sizes, Lent};
 use host_tests::samples::Xorshift;
-use host_tests::{colour, encode, plain_colour, rhythm, Encoded};
+use host_tests::{colour, encode, plain_colour, plain_tenths, rhythm, Encoded};
 
 use crate::original::Original;
 
@@ -36,14 +36,15 @@ fn compare_colour(chart: &Chart, original: &Original, spare: usize) -> Vec<f64> 
     values
 }
 
-/// The mean is that of the notes, by the original's values: the original has none. The result is whether there is a note.
+/// The mean is that of the notes, by the original's values, and its tenths are the nearest: the original has neither. The result is
+/// whether there is a note.
 #[track_caller]
 fn compare_stretch(chart: &Chart, values: &[f64], a: usize, b: usize) -> bool {
     let n = chart.size();
     let lent = colour::Memory::of_sizes([n, 8 * n, n]);
     let (want, left) = match plain_colour::mean(&chart.kind[a..b], &values[a..b]) {
         Some(mean) => {
-            let tenths = oracle::chart::tenths(mean);
+            let tenths = plain_tenths::tenths(mean);
             ((0, 0, mean.to_bits(), tenths), lent.filled(values))
         }
         None => ((11, 0, 0, 0), lent.clone()),

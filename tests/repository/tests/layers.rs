@@ -94,8 +94,8 @@ fn no_proof_opens_a_definition_of_another_crate() {
 #[test]
 fn an_opened_definition_is_seen() {
     let text = "use Rattle.numeric.specs.Near.{absOf, isNear}\nuse Rattle.numeric.specs.Tenths as tenths\n\
-                use Rattle.own.specs.Own.{mine}\n  unfolding mine isNear\n    tenths.ceiling\n  x = absOf";
-    assert_eq!(opened(text), ["isNear", "tenths.ceiling"]);
+                use Rattle.own.specs.Own.{mine}\n  unfolding mine isNear\n    tenths.withSign\n  x = absOf";
+    assert_eq!(opened(text), ["isNear", "tenths.withSign"]);
 }
 
 /// Lent memory, arithmetic, the groupings, the evaluators, the calls, then all that stands on them: a crate's first word says which.
