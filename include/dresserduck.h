@@ -162,7 +162,7 @@ typedef struct dresserduck_stretched {
     uint64_t refusal;
     uint64_t place;
     double mean;    /* the sum over the notes from left to right, divided by how many they are; never a NaN or an infinity */
-    int64_t tenths; /* ten times the mean, rounded down to a whole number, exactly */
+    int64_t tenths; /* the whole number nearest to ten times the mean, of two as near the even one: of 0.25 it is 2, of 0.75 it is 8 */
 } dresserduck_stretched;
 
 /* Fills the colour values of all objects as dresserduck_colour does, and returns the mean of those of the notes from a to b, b not

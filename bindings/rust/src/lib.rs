@@ -20,7 +20,7 @@
 //! assert_eq!(encoding.interval, [17, 17, 17, 17, 17, 2]);
 //!
 //! let stretch = workspace.stretch(&chart, 1..5)?;
-//! assert_eq!(stretch.tenths, 13);
+//! assert_eq!(stretch.tenths, 14);
 //! # Ok::<(), dresserduck::Refusal>(())
 //! ```
 //!

@@ -39,7 +39,7 @@ fn colour_looks_at_the_ratios_alone_and_a_stretch_at_its_objects() {
     assert_ne!(other.unwrap()[3], values[3]);
     let stretch = workspace.stretch(&chart, 1..3).unwrap();
     assert_eq!(stretch.mean, (values[1] + values[2]) / 2.0);
-    assert_eq!(stretch.tenths, (stretch.mean * 10.0).floor() as i64);
+    assert_eq!(stretch.tenths, (stretch.mean * 10.0).round() as i64);
     // with a NonHit in it, which has a value too
     let chart = Chart::new(&[0, 1, 2, 0], &start, &delta, &ratio);
     let values = workspace.colour(&chart).unwrap();
