@@ -15,8 +15,8 @@ abbrev pub withSign : Bool → ℕ → ℤ
 withSign false n = pos n
 withSign true n = negℤ (pos n)
 
--- The kit's `closest a b` is the whole number nearest to the fraction a / b, at a tie the even one. Of a number and its
--- negative both or neither are even, so the sign stands outside.
+-- The kit's `closest a b` is the whole number nearest to the fraction a / b, at a tie the even one. A number and its
+-- negative are both even or both odd, so the sign stands outside.
 -- What a NaN or an infinity gives is not asked for: `InTenthsRange` rules them out.
 unfoldable pub tenthsOf : Float → ℤ
 tenthsOf nan = pos 0
@@ -29,8 +29,8 @@ offTenfold nan t = 0
 offTenfold (inf s) t = 0
 offTenfold (fin s m e) t = natAbs (withSign s (10 * (m * up e)) -ℤ t *ℤ pos (down e))
 
--- |10 x − t| ≤ 1/2, and t is even where they are equal: true of `tenthsOf x` (`tenths-nearest`) and of no other whole
--- number (`tenths-only`, both in proofs/tenths/Nearest.antt)
+-- |10 x − t| ≤ 1/2, and t is even where they are equal. It holds of `tenthsOf x` (`tenths-nearest`) and of no other
+-- whole number (`tenths-only`, both in proofs/tenths/Nearest.antt).
 pub record NearestTenths (x : Float) (t : ℤ) : Type 0 where
   pub isFinite : T (finite x)
   pub within : 2 * offTenfold x t ≤ den x
