@@ -1,5 +1,5 @@
 -- A value in tenths: the whole number nearest to ten times it, at an exact half the even one (scope: stretch, as
--- request 4/12 has it). A finite x is m * up e / down e in size, so ten times x is a fraction, and nothing is rounded.
+-- request 4/12 has it). A finite x is m * up e / down e in size, so ten times x is an exact fraction.
 use mathlib.Core.Bool.{Bool, true, false}
 use mathlib.Core.Path.{_≡_}
 use Prim.Native.Nat.{ℕ, _*_, _%_, _≤_}

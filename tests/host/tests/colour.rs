@@ -3,9 +3,9 @@
 use host_tests::chart::Chart;
 use host_tests::check::bad_charts;
 use host_tests::colour::{colour, stretch, Coloured, Memory};
-use host_tests::{plain_colour, plain_tenths};
 use host_tests::samples::{biased_chart, ratios, Xorshift};
 use host_tests::LARGEST_CHART;
+use host_tests::{plain_colour, plain_tenths};
 
 /// The table T by the definition's own list of bit patterns.
 fn table() -> impl Fn(usize) -> f64 {

@@ -38,7 +38,7 @@ const ORIGINAL: [&str; 14] = [
 ];
 
 /// Words of the kit, and of promises.
-const KIT: [&str; 5] = ["ensures", "old", "refl", "requires", "toBits"];
+const KIT: [&str; 6] = ["closest", "ensures", "old", "refl", "requires", "toBits"];
 
 /// A variable, or kinds as letters.
 fn is_short_or_letters(name: &str) -> bool {
