@@ -71,7 +71,7 @@ pub struct Stretched {
     pub place: u64,
     /// the sum over the notes from left to right, divided by how many they are
     pub mean: f64,
-    /// ten times the mean, rounded down to a whole number, exactly
+    /// the whole number nearest to ten times the mean, of two as near the even one: of 0.25 it is 2, of 0.75 it is 8
     pub tenths: i64,
 }
 

@@ -32,18 +32,18 @@ fn known_values() {
         (0.15, 1),
         (0.35, 3),
         (0.45, 5),
-        // the last below 1/16, where ten times x may still be above a half, and the first that is nearer to 0
+        // below 1/16 ten times x may still be above a half
         (0.06, 1),
         (0.05_f64.next_down(), 0),
         (0.031_25, 0),
-        (0.04, 0),
         (0.1, 1),
         (0.3, 3),
         (0.5, 5),
         (0.95, 9),
         (f64::from_bits(1), 0),
         (f64::MIN_POSITIVE, 0),
-        (2_251_799_813_685_247.75, 22_517_998_136_852_478),
+        // the last half
+        (2_251_799_813_685_248.0 - 0.25, 22_517_998_136_852_478),
         (9_007_199_254_740_991.0, 90_071_992_547_409_910),
     ];
     for (x, want) in known {
