@@ -4,7 +4,6 @@ use Rattle.std.specs.Prelude.{ℕ, zero, suc, ◌+◌, ◌-◌, List, length, dr
 use Rattle.std.specs.Float.{nan, binary64}
 use Rattle.std.specs.Float.Ieee.{sub, div}
 use Rattle.lent.specs.Scan.{tabulate}
-use Rattle.lent.specs.Slice.{SliceAt, Slice, lent}
 use Rattle.numeric.specs.Constants.{one64}
 use Rattle.grouping_chart.specs.Chart.{Chart}
 use Rattle.call_build.specs.Ratio.{nearest_ratio}
@@ -14,12 +13,9 @@ pub record Raw : Type 0 where
   pub kinds : List ℕ
   pub times : List Float
 
--- the raw objects of the two slices, as lent, and where a pass begins
-abbrev pub raw : Slice ℕ → Slice Float → Raw
-raw kind time = record { kinds = lent kind; times = lent time }
-
-abbrev pub raw_held : SliceAt ℕ → SliceAt Float → Raw
-raw_held kind time = record { kinds = kind.now; times = time.now }
+-- the raw objects of what the two slices hold
+abbrev pub raw : List ℕ → List Float → Raw
+raw kinds times = record { kinds = kinds; times = times }
 
 -- when object i starts
 unfoldable pub start_at : Float → List Float → ℕ → Float

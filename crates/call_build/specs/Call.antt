@@ -2,7 +2,6 @@
 use Rattle.std.specs.Prelude.{ℕ, Bool, false, cond, List, [], ◌∷◌, eqb, ltb, pos, negsuc, length, take, Float}
 use Rattle.std.specs.Float.{fin}
 use Rattle.lent.specs.Over.{over}
-use Rattle.lent.specs.Slice.{SliceAt, Slice, lent, left}
 use Rattle.numeric.specs.Range.{within}
 use Rattle.grouping_chart.specs.Chart.{Chart}
 use Rattle.grouping_chart.specs.Refusal.{in_order, objects_verdict}
@@ -21,23 +20,10 @@ pub record Memory : Type 0 where
   pub delta : List Float
   pub ratio : List Float
 
--- the memory that is made of the four slices, in the order in which they are lent, by how one of them is read
-abbrev pub Lending : (Type 0 → Type 0) → Type 0
-Lending S = S ℕ → S Float → S Float → S Float → Memory
-
-abbrev pub memory : {S : Type 0 → Type 0} → ((A : Type 0) → S A → List A) → Lending S
-memory read kind start delta ratio =
-    record { kind = read ℕ kind; start = read Float start; delta = read Float delta; ratio = read Float ratio }
-
--- as lent, as left, and where a pass begins
-abbrev pub before : Lending Slice
-before = memory (λ A. lent)
-
-abbrev pub after : Lending Slice
-after = memory (λ A. left)
-
-abbrev pub held : Lending SliceAt
-held = memory (λ A. (λ x. x.now))
+-- the memory that is made of the four slices, in the order in which they are lent
+abbrev pub memory : List ℕ → List Float → List Float → List Float → Memory
+memory kind start delta ratio =
+    record { kind = kind; start = start; delta = delta; ratio = ratio }
 
 -- how many places the answer slices have
 abbrev pub answer_lengths : Memory → List ℕ

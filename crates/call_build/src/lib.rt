@@ -1,9 +1,9 @@
 // The call build: a chart made of raw kinds and times, as an editor holds them, and a clock rate.
+#![tactic(auto)]
 ghost use Rattle.std.specs.Prelude.{◌≡◌, ◌-◌, length};
-ghost use Rattle.lent.specs.Slice.{lent};
 ghost use Rattle.grouping_chart.specs.Outcome.{outcome};
-ghost use Rattle.call_build.specs.Build.{raw, raw_held, built_chart};
-ghost use Rattle.call_build.specs.Call.{before, after, held, filled, build_outcome};
+ghost use Rattle.call_build.specs.Build.{raw, built_chart};
+ghost use Rattle.call_build.specs.Call.{memory, filled, build_outcome};
 ghost use Rattle.call_build.specs.passes.Room.{BuildRoom};
 
 use grouping_chart::object::ObjectIndex;
@@ -23,7 +23,7 @@ pub enum Building {
 
 // How many objects are built of the raw ones.
 fn built_size(kind: &[u8]) -> usize
-    ensures { result ≡ length (lent kind) - 2 }
+    ensures { result ≡ length kind.now - 2 }
 {
     if kind.len() < 2 { 0 } else { kind.len() - 2 }
 }
@@ -39,9 +39,9 @@ fn fill_chart(
     delta: &mut [f64],
     ratio: &mut [f64],
 )
-    requires { BuildRoom (raw_held kind time) n (held built_kind start delta ratio) }
-    ensures { after built_kind start delta ratio
-        ≡ filled (built_chart rate (raw kind time)) (before built_kind start delta ratio) }
+    requires { BuildRoom (raw kind.now time.now) n (memory built_kind.old start.old delta.old ratio.old) }
+    ensures { memory built_kind.new start.new delta.new ratio.new
+        ≡ filled (built_chart rate (raw kind.now time.now)) (memory built_kind.old start.old delta.old ratio.old) }
 {
     let from = kind.len() - n;
     fill::copy_bytes(&kind[from..], built_kind);
@@ -59,8 +59,8 @@ pub fn build(
     delta: &mut [f64],
     ratio: &mut [f64],
 ) -> Building
-    ensures { outcome result (after built_kind start delta ratio)
-        ≡ build_outcome rate (raw kind time) (before built_kind start delta ratio) }
+    ensures { outcome result (memory built_kind.new start.new delta.new ratio.new)
+        ≡ build_outcome rate (raw kind.now time.now) (memory built_kind.old start.old delta.old ratio.old) }
 {
     let n = built_size(kind);
     let short = (built_kind.len() < n) | (start.len() < n) | (delta.len() < n) | (ratio.len() < n);

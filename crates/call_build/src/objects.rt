@@ -1,7 +1,6 @@
 // The objects that are built of raw times: their starts, deltas and ratios.
 ghost use Rattle.std.specs.Prelude.{◌≡◌, ◌+◌, ◌-◌, ◌≤◌, ◌<◌, length};
 ghost use Rattle.lent.specs.Over.{over};
-ghost use Rattle.lent.specs.Slice.{lent, left};
 ghost use Rattle.call_build.specs.Build.{start_at, delta_at, built_starts, built_deltas};
 ghost use Rattle.call_build.specs.passes.Ratios.{ratios_from};
 
@@ -9,21 +8,21 @@ use crate::ratio::nearest_ratio;
 
 pub fn start_at(time: &[f64], rate: f64, i: usize) -> f64
     requires { i + 2 < length time.now }
-    ensures { result ≡ start_at rate (lent time) i }
+    ensures { result ≡ start_at rate time.now i }
 {
     time[i + 2] / rate
 }
 
 pub fn delta_at(time: &[f64], rate: f64, i: usize) -> f64
     requires { i + 2 < length time.now }
-    ensures { result ≡ delta_at rate (lent time) i }
+    ensures { result ≡ delta_at rate time.now i }
 {
     (time[i + 2] - time[i + 1]) / rate
 }
 
 pub fn fill_starts(time: &[f64], rate: f64, n: usize, start: &mut [f64])
     requires { (n ≤ length start.old) × (n ≤ length time.now - 2) }
-    ensures { left start ≡ over (built_starts rate (lent time) n) (lent start) }
+    ensures { start.new ≡ over (built_starts rate time.now n) start.old }
 {
     let mut i = 0;
     while i < n {
@@ -34,7 +33,7 @@ pub fn fill_starts(time: &[f64], rate: f64, n: usize, start: &mut [f64])
 
 pub fn fill_deltas(time: &[f64], rate: f64, n: usize, delta: &mut [f64])
     requires { (n ≤ length delta.old) × (n ≤ length time.now - 2) }
-    ensures { left delta ≡ over (built_deltas rate (lent time) n) (lent delta) }
+    ensures { delta.new ≡ over (built_deltas rate time.now n) delta.old }
 {
     let mut i = 0;
     while i < n {
@@ -46,7 +45,7 @@ pub fn fill_deltas(time: &[f64], rate: f64, n: usize, delta: &mut [f64])
 // The first object has no delta before its own.
 pub fn fill_ratios(delta: &[f64], ratio: &mut [f64])
     requires { length delta.now ≤ length ratio.old }
-    ensures { left ratio ≡ over (ratios_from (lent delta)) (lent ratio) }
+    ensures { ratio.new ≡ over (ratios_from delta.now) ratio.old }
 {
     if delta.len() == 0 {
         return;

@@ -1,9 +1,8 @@
 // The verdict on a call: refusals 1, 2, 3 and 10, then those of the objects that it would build.
 ghost use Rattle.std.specs.Prelude.{◌≡◌, ◌-◌, ◌≤◌, length};
-ghost use Rattle.lent.specs.Slice.{lent};
 ghost use Rattle.grouping_chart.specs.Refusal.{time_good, objects_verdict};
 ghost use Rattle.grouping_chart.specs.passes.Good.{all};
-ghost use Rattle.call_build.specs.Build.{raw, raw_held, built_size, built_starts, built_deltas, built_chart};
+ghost use Rattle.call_build.specs.Build.{raw, built_size, built_starts, built_deltas, built_chart};
 ghost use Rattle.call_build.specs.Call.{rate_good, beside_refusal, verdict_of};
 ghost use Rattle.call_build.specs.passes.Room.{RawRoom};
 
@@ -15,7 +14,7 @@ use numeric::range;
 
 fn starts_good(time: &[f64], rate: f64, n: usize) -> bool
     requires { n ≤ length time.now - 2 }
-    ensures { result ≡ all time_good (built_starts rate (lent time) n) }
+    ensures { result ≡ all time_good (built_starts rate time.now n) }
 {
     let mut good = true;
     let mut i = 0;
@@ -28,7 +27,7 @@ fn starts_good(time: &[f64], rate: f64, n: usize) -> bool
 
 fn deltas_good(time: &[f64], rate: f64, n: usize) -> bool
     requires { n ≤ length time.now - 2 }
-    ensures { result ≡ all time_good (built_deltas rate (lent time) n) }
+    ensures { result ≡ all time_good (built_deltas rate time.now n) }
 {
     let mut good = true;
     let mut i = 0;
@@ -41,8 +40,8 @@ fn deltas_good(time: &[f64], rate: f64, n: usize) -> bool
 
 // The first object that is refused. Its ratio is one of the common ones, so 1.0 serves for it: none of them is refused.
 fn first_refused(kind: &[u8], time: &[f64], rate: f64, n: usize) -> Verdict
-    requires { RawRoom (raw_held kind time) n }
-    ensures { result ≡ objects_verdict (built_chart rate (raw kind time)) }
+    requires { RawRoom (raw kind.now time.now) n }
+    ensures { result ≡ objects_verdict (built_chart rate (raw kind.now time.now)) }
 {
     let mut at = ObjectIndex(0);
     while at.0 < n {
@@ -63,8 +62,8 @@ fn first_refused(kind: &[u8], time: &[f64], rate: f64, n: usize) -> Verdict
 
 // Most charts are good, which is told without a jump for each object.
 fn check_objects(kind: &[u8], time: &[f64], rate: f64, n: usize) -> Verdict
-    requires { RawRoom (raw_held kind time) n }
-    ensures { result ≡ objects_verdict (built_chart rate (raw kind time)) }
+    requires { RawRoom (raw kind.now time.now) n }
+    ensures { result ≡ objects_verdict (built_chart rate (raw kind.now time.now)) }
 {
     let from = kind.len() - n;
     let kinds = kinds_good(&kind[from..]);
@@ -98,8 +97,8 @@ fn beside_refusal(short: bool, rate: f64) -> u8
 
 // The verdict on raw objects of which n are built; `short` says that an answer slice is too short for these.
 pub fn judge(kind: &[u8], time: &[f64], rate: f64, n: usize, short: bool) -> Verdict
-    requires { built_size (raw_held kind time) ≡ n }
-    ensures { result ≡ verdict_of rate (raw kind time) short }
+    requires { built_size (raw kind.now time.now) ≡ n }
+    ensures { result ≡ verdict_of rate (raw kind.now time.now) short }
 {
     if 16386 < kind.len() {
         return Verdict::Refused(1, ObjectIndex(0));

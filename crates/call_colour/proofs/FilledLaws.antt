@@ -13,7 +13,7 @@ use Rattle.evaluator_values.specs.Colour.{colour_values}
 use Rattle.call_colour.specs.Call.{Memory, memory, filled}
 
 abbrev pub of_lists : List Float → List ℕ → List Float → Memory
-of_lists = memory (λ A (xs : List A). xs)
+of_lists = memory
 
 pub filled_is : (s : Settings) {kinds w work : List ℕ} {k : Levels} {value scratch : List Float} (ratios : List Float) (m : Memory)
     → Tables s.limit kinds m.work w k

@@ -5,7 +5,6 @@ use Rattle.lent.specs.Over.{over}
 use Rattle.grouping_chart.specs.Chart.{Chart}
 use Rattle.grouping_chart.specs.Room.{cleared_work, cleared_scratch}
 use Rattle.grouping_chart.specs.Outcome.{Outcome, outcome, judged_by, answered}
-use Rattle.lent.specs.Slice.{SliceAt, Slice, lent, left}
 use Rattle.grouping_chart.specs.declared.refusal.Verdict.{Verdict}
 use Rattle.grouping_chart.specs.Settings.{Settings}
 use Rattle.evaluator_values.specs.Colour.{colour_values}
@@ -21,26 +20,10 @@ pub record Memory : Type 0 where
   pub work : List ℕ
   pub scratch : List Float
 
--- the memory that is made of the three slices, in the order in which they are lent, by how one of them is read
-abbrev pub Lending : (Type 0 → Type 0) → Type 0
-Lending S = S Float → S ℕ → S Float → Memory
-
-abbrev pub memory : {S : Type 0 → Type 0} → ((A : Type 0) → S A → List A) → Lending S
-memory read value work scratch = record {
-  value = read Float value;
-  work = read ℕ work;
-  scratch = read Float scratch;
-}
-
--- as lent, as left, and where a pass begins
-abbrev pub before : Lending Slice
-before = memory (λ A. lent)
-
-abbrev pub after : Lending Slice
-after = memory (λ A. left)
-
-abbrev pub held : Lending SliceAt
-held = memory (λ A. (λ x. x.now))
+-- the memory that is made of the three slices, in the order in which they are lent
+abbrev pub memory : List Float → List ℕ → List Float → Memory
+memory value work scratch =
+    record { value = value; work = work; scratch = scratch }
 
 -- how many places the answer slice has
 abbrev pub answer_lengths : Memory → List ℕ

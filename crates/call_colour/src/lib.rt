@@ -1,10 +1,10 @@
 // The calls colour and stretch: one f64 an object, and the mean of a stretch of them.
+#![tactic(auto)]
 ghost use Rattle.std.specs.Prelude.{◌≡◌};
 ghost use Rattle.grouping_chart.specs.Settings.{base_settings};
 ghost use Rattle.grouping_chart.specs.Outcome.{outcome};
 ghost use Rattle.grouping_chart.specs.Chart.{chart};
-ghost use Rattle.lent.specs.Slice.{lent};
-ghost use Rattle.call_colour.specs.Call.{before, after, held, filled, colour_outcome, stretch_outcome};
+ghost use Rattle.call_colour.specs.Call.{memory, filled, colour_outcome, stretch_outcome};
 ghost use Rattle.call_colour.specs.passes.Rooms.{ChartRoom};
 
 use grouping_chart::object::ObjectIndex;
@@ -39,8 +39,9 @@ fn fill_chart(
     work: &mut [u16],
     scratch: &mut [f64],
 )
-    requires { ChartRoom s kind.now ratio.now (held value work scratch) }
-    ensures { after value work scratch ≡ filled s (lent kind) (lent ratio) (before value work scratch) }
+    requires { ChartRoom s kind.now ratio.now (memory value.old work.old scratch.old) }
+    ensures { memory value.new work.new scratch.new ≡ filled s kind.now ratio.now
+        (memory value.old work.old scratch.old) }
 {
     let n = kind.len();
     let k = grouping_preprocessor::encode_levels(kind, work, s.limit as u16);
@@ -59,8 +60,9 @@ pub fn colour(
     work: &mut [u16],
     scratch: &mut [f64],
 ) -> Colouring
-    ensures { outcome result (after value work scratch)
-        ≡ colour_outcome base_settings (chart kind start delta ratio) (before value work scratch) }
+    ensures { outcome result (memory value.new work.new scratch.new)
+        ≡ colour_outcome base_settings (chart kind.now start.now delta.now ratio.now)
+        (memory value.old work.old scratch.old) }
 {
     let short = value.len() < kind.len();
     match judge(kind, start, delta, ratio, short, work.len(), scratch.len()) {
@@ -83,8 +85,9 @@ pub fn stretch(
     work: &mut [u16],
     scratch: &mut [f64],
 ) -> Stretching
-    ensures { outcome result (after value work scratch)
-        ≡ stretch_outcome base_settings (chart kind start delta ratio) a b (before value work scratch) }
+    ensures { outcome result (memory value.new work.new scratch.new)
+        ≡ stretch_outcome base_settings (chart kind.now start.now delta.now ratio.now) a b
+        (memory value.old work.old scratch.old) }
 {
     let short = value.len() < kind.len();
     let verdict = judge(kind, start, delta, ratio, short, work.len(), scratch.len());

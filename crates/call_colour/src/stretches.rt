@@ -1,7 +1,6 @@
 // What is refused of a stretch, the verdict on it, and its mean.
 ghost use Rattle.std.specs.Prelude.{◌≡◌, cond, ◌≤◌};
 ghost use Rattle.numeric.specs.Constants.{minus_zero64};
-ghost use Rattle.lent.specs.Slice.{lent};
 ghost use Rattle.grouping_chart.specs.Object.{is_note};
 ghost use Rattle.grouping_interval.specs.Notes.{of_notes};
 ghost use Rattle.call_colour.specs.Stretch.{from_to, has_note, stretch_refusal, stretch_verdict, average_of};
@@ -12,7 +11,7 @@ use grouping_chart::refusal::Verdict;
 
 // Whether one of the objects is a note. The first that is one ends the search.
 fn has_note(kind: &[u8]) -> bool
-    ensures { result ≡ has_note (lent kind) }
+    ensures { result ≡ has_note kind.now }
 {
     let mut i = 0;
     while i < kind.len() {
@@ -27,7 +26,7 @@ fn has_note(kind: &[u8]) -> bool
 // The number of what is refused of a stretch, or 0: 9 where a is not below b or b is above n, else 11 where it has no
 // note.
 fn stretch_refusal(kind: &[u8], a: usize, b: usize) -> u8
-    ensures { result ≡ stretch_refusal (lent kind) a b }
+    ensures { result ≡ stretch_refusal kind.now a b }
 {
     let n = kind.len();
     if b <= a {
@@ -44,7 +43,7 @@ fn stretch_refusal(kind: &[u8], a: usize, b: usize) -> u8
 
 // The verdict on a stretch: the chart's own refusal, else the stretch's.
 pub fn stretch_verdict(verdict: Verdict, kind: &[u8], a: usize, b: usize) -> Verdict
-    ensures { result ≡ stretch_verdict verdict (lent kind) a b }
+    ensures { result ≡ stretch_verdict verdict kind.now a b }
 {
     match verdict {
         Verdict::Refused(number, place) => Verdict::Refused(number, place),
@@ -71,7 +70,7 @@ fn addend(kind: u8, value: f64) -> f64
 // The notes' values, added from left to right, from 0.0, each sum rounded, and divided by how many they are.
 fn average(kind: &[u8], value: &[f64]) -> f64
     requires { AverageRoom kind.now value.now }
-    ensures { result ≡ average_of (of_notes (lent kind) (lent value)) }
+    ensures { result ≡ average_of (of_notes kind.now value.now) }
 {
     let mut sum: f64 = 0.0;
     let mut notes = 0;
@@ -88,7 +87,7 @@ fn average(kind: &[u8], value: &[f64]) -> f64
 // The average of the notes from a to b, b not included.
 pub fn mean(kind: &[u8], value: &[f64], a: usize, b: usize) -> f64
     requires { StretchRoom kind.now value.now a b }
-    ensures { result ≡ average_of (of_notes (from_to a b (lent kind)) (from_to a b (lent value))) }
+    ensures { result ≡ average_of (of_notes (from_to a b kind.now) (from_to a b value.now)) }
 {
     average(&kind[a..b], &value[a..b])
 }

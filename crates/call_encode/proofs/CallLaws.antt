@@ -60,9 +60,9 @@ module _ (s : Settings) (c : Chart) (m : Memory) where
       record {
         few = r.chart.few;
         streak = r.long.0;
-        streak_place_at = r.long.1.0;
+        streak_place = r.long.1.0;
         pattern = r.long.1.1.0;
-        pattern_place_at = r.long.1.1.1.0;
+        pattern_place = r.long.1.1.1.0;
         hit = r.long.1.1.1.1.0;
         interval = r.long.1.1.1.1.1.0;
         work = r.regions;

@@ -19,7 +19,7 @@ use Rattle.call_encode.specs.passes.LookUps.{Below, PatternsRoom, by_streak, Hit
 use Rattle.call_encode.proofs.SpreadLaws.{written_front}
 
 abbrev of_lists : Lending List
-of_lists = memory (λ A (xs : List A). xs)
+of_lists = memory
 
 below_of : {m c d : ℕ} {xs ys : List ℕ} → xs ≡ ys → c ≡ d → ((i : ℕ) → i < m → get_or ys i 0 < d) → Below m xs c
 below_of e f b = record { below = λ i h. rw (e, f) (b i h) }
@@ -32,13 +32,13 @@ module _ {limit : ℕ} {kinds w : List ℕ} {k : Levels} {old : Memory} (t : Tab
     tables_room : 8 * n ≤ length w
     tables_room = omega (arith, t.outside.same, r.work)
 
-    pub patterns_room : PatternsRoom n k w old.streak old.streak_place_at old.pattern
+    pub patterns_room : PatternsRoom n k w old.streak old.streak_place old.pattern
     patterns_room = record {
       few = r.few;
       streaks = t.few_s;
       tables = tables_room;
       streak_room = r.streak;
-      place_room = r.streak_place_at;
+      place_room = r.streak_place;
       pattern_room = r.pattern;
       in_table = below_of t.streak t.count_s (streak-below kinds);
     }
@@ -57,14 +57,14 @@ module _ {limit : ℕ} {kinds w : List ℕ} {k : Levels} {old : Memory} (t : Tab
       pattern_front : take n pattern ≡ alternating_of kinds
       pattern_front = written_front old.pattern n (length-alternating_of kinds) pattern-written
 
-      pub hits_room : length pattern ≡ length old.pattern → HitsRoom n k w pattern old.pattern_place_at old.hit old.interval
+      pub hits_room : length pattern ≡ length old.pattern → HitsRoom n k w pattern old.pattern_place old.hit old.interval
       hits_room e = record {
         few = r.few;
         patterns = t.few_p;
         hits = t.few_h;
         tables = tables_room;
         pattern_room = omega (arith, e, r.pattern);
-        place_room = r.pattern_place_at;
+        place_room = r.pattern_place;
         hit_room = r.hit;
         interval_room = r.interval;
         in_patterns = below_of pattern_front t.count_p (alternating_of-below kinds);
@@ -82,14 +82,14 @@ module _ {limit : ℕ} {kinds w : List ℕ} {k : Levels} {old : Memory} (t : Tab
       intervals : gathered (part (7 * n) k.hits w) (by_pattern n n k w pattern) ≡ interval_of limit kinds
       intervals = (λ i. gathered (t.interval i) (hits i)) ∙ interval_of_looked kinds limit
 
-      pub encoded : {streak place pattern_place_at hit interval work : List ℕ}
+      pub encoded : {streak place pattern_place hit interval work : List ℕ}
           → streak ≡ over (part 0 n w) old.streak
-          → place ≡ over (by_streak (4 * n) n k w) old.streak_place_at
-          → pattern_place_at ≡ over (by_pattern (2 * n) n k w pattern) old.pattern_place_at
+          → place ≡ over (by_streak (4 * n) n k w) old.streak_place
+          → pattern_place ≡ over (by_pattern (2 * n) n k w pattern) old.pattern_place
           → hit ≡ over (by_pattern n n k w pattern) old.hit
           → interval ≡ over (gathered (part (7 * n) k.hits w) (by_pattern n n k w pattern)) old.interval
           → work ≡ over (replicate (8 * n) 0) w
-          → of_lists streak place pattern pattern_place_at hit interval work old.scratch ≡ encoded_kinds limit kinds old
+          → of_lists streak place pattern pattern_place hit interval work old.scratch ≡ encoded_kinds limit kinds old
       unfolding encoded_kinds
       encoded a b c d e z =
           let streaks = rw t.streak at a in

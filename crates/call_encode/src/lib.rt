@@ -1,13 +1,13 @@
 // The call encode: per object six numbers, and the number of hit patterns.
+#![tactic(auto)]
 ghost use Rattle.std.specs.Prelude.{◌≡◌, ◌*◌, length};
 ghost use Rattle.lent.specs.Over.{over, part};
 ghost use Rattle.lent.specs.Scan.{gathered};
 ghost use Rattle.grouping_preprocessor.specs.Preprocessor.{hit_count};
 ghost use Rattle.grouping_chart.specs.Settings.{base_settings};
 ghost use Rattle.grouping_chart.specs.Outcome.{outcome};
-ghost use Rattle.lent.specs.Slice.{lent, left};
 ghost use Rattle.grouping_chart.specs.Chart.{chart};
-ghost use Rattle.call_encode.specs.Call.{before, after, encoded_kinds, kinds_memory, encode_outcome};
+ghost use Rattle.call_encode.specs.Call.{memory, encoded_kinds, kinds_memory, encode_outcome};
 ghost use Rattle.call_encode.specs.passes.LookUps.{PatternsRoom, by_streak, HitsRoom, by_pattern, KindsRoom};
 
 use grouping_chart::object::ObjectIndex;
@@ -34,9 +34,9 @@ fn spread_patterns(
     pattern: &mut [u16],
 )
     requires { PatternsRoom n k work.now streak.old streak_place.old pattern.old }
-    ensures streak_value { left streak ≡ over (part 0 n (lent work)) (lent streak) }
-    ensures streak_place_value { left streak_place ≡ over (by_streak (4 * n) n k (lent work)) (lent streak_place) }
-    ensures pattern_value { left pattern ≡ over (by_streak (3 * n) n k (lent work)) (lent pattern) }
+    ensures streak_value { streak.new ≡ over (part 0 n work.now) streak.old }
+    ensures streak_place_value { streak_place.new ≡ over (by_streak (4 * n) n k work.now) streak_place.old }
+    ensures pattern_value { pattern.new ≡ over (by_streak (3 * n) n k work.now) pattern.old }
 {
     let s = k.streaks;
     fill::copy(&work[..n], streak);
@@ -55,12 +55,12 @@ fn spread_hits(
     interval: &mut [u8],
 )
     requires { HitsRoom n k work.now pattern.now pattern_place.old hit.old interval.old }
-    ensures pattern_place_value { left pattern_place
-        ≡ over (by_pattern (2 * n) n k (lent work) (lent pattern)) (lent pattern_place) }
-    ensures hit_value { left hit ≡ over (by_pattern n n k (lent work) (lent pattern)) (lent hit) }
-    ensures interval_value { left interval
-        ≡ over (gathered (part (7 * n) k.hits (lent work)) (by_pattern n n k (lent work) (lent pattern)))
-        (lent interval) }
+    ensures pattern_place_value { pattern_place.new
+        ≡ over (by_pattern (2 * n) n k work.now pattern.now) pattern_place.old }
+    ensures hit_value { hit.new ≡ over (by_pattern n n k work.now pattern.now) hit.old }
+    ensures interval_value { interval.new
+        ≡ over (gathered (part (7 * n) k.hits work.now) (by_pattern n n k work.now pattern.now))
+        interval.old }
 {
     let p = k.patterns;
     let h = k.hits;
@@ -82,11 +82,12 @@ pub fn encode_kinds(
     work: &mut [u16],
 ) -> usize
     requires { KindsRoom (length kind.now) limit
-        (kinds_memory (λ x. x.now) streak streak_place pattern pattern_place hit interval work) }
-    ensures value { result ≡ hit_count (lent kind) }
-    ensures work_value { kinds_memory left streak streak_place pattern pattern_place hit interval work
-        ≡ encoded_kinds limit (lent kind)
-        (kinds_memory lent streak streak_place pattern pattern_place hit interval work) }
+        (kinds_memory streak.old streak_place.old pattern.old pattern_place.old hit.old interval.old work.old) }
+    ensures value { result ≡ hit_count kind.now }
+    ensures work_value { kinds_memory streak.new streak_place.new pattern.new pattern_place.new hit.new interval.new
+        work.new
+        ≡ encoded_kinds limit kind.now
+        (kinds_memory streak.old streak_place.old pattern.old pattern_place.old hit.old interval.old work.old) }
 {
     let n = kind.len();
     let k = grouping_preprocessor::encode_levels(kind, work, limit);
@@ -110,9 +111,10 @@ pub fn encode(
     work: &mut [u16],
     scratch: &mut [f64],
 ) -> Encoding
-    ensures { outcome result (after streak streak_place pattern pattern_place hit interval work scratch)
-        ≡ encode_outcome base_settings (chart kind start delta ratio)
-        (before streak streak_place pattern pattern_place hit interval work scratch) }
+    ensures { outcome result
+        (memory streak.new streak_place.new pattern.new pattern_place.new hit.new interval.new work.new scratch.new)
+        ≡ encode_outcome base_settings (chart kind.now start.now delta.now ratio.now)
+        (memory streak.old streak_place.old pattern.old pattern_place.old hit.old interval.old work.old scratch.old) }
 {
     let n = kind.len();
     let short = (streak.len() < n)

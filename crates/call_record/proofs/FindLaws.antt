@@ -150,7 +150,7 @@ recorded s kinds starts deltas g window x r r' p q =
 -- and both slices are cleared
 
 abbrev pub of_lists : List ℕ → List Float → Memory
-of_lists = memory (λ A (xs : List A). xs)
+of_lists = memory
 
 pub cleared_is : {margin : Float} {kinds : List ℕ} {starts deltas : List Float} {g : ℕ} {work₀ work₁ work : List ℕ} {scratch₀ scratch : List Float}
     (scratch₁ : List Float)

@@ -6,7 +6,6 @@ use Rattle.numeric.specs.Range.{within}
 use Rattle.grouping_chart.specs.Chart.{Chart, size}
 use Rattle.grouping_chart.specs.Room.{cleared_work, cleared_scratch}
 use Rattle.grouping_chart.specs.Outcome.{Outcome, outcome, judged_by, refused_then, answered}
-use Rattle.lent.specs.Slice.{SliceAt, Slice, lent, left}
 use Rattle.grouping_chart.specs.Settings.{Settings}
 use Rattle.grouping_chart.specs.declared.refusal.Verdict.{Verdict}
 use Rattle.call_rhythm.specs.Rhythm.{groups_in}
@@ -20,22 +19,10 @@ pub record Memory : Type 0 where
   pub work : List ℕ
   pub scratch : List Float
 
--- the memory that is made of the two slices, in the order in which they are lent, by how one of them is read
-abbrev pub Lending : (Type 0 → Type 0) → Type 0
-Lending S = S ℕ → S Float → Memory
-
-abbrev pub memory : {S : Type 0 → Type 0} → ((A : Type 0) → S A → List A) → Lending S
-memory read work scratch = record { work = read ℕ work; scratch = read Float scratch }
-
--- as lent, as left, and where a pass begins
-abbrev pub before : Lending Slice
-before = memory (λ A. lent)
-
-abbrev pub after : Lending Slice
-after = memory (λ A. left)
-
-abbrev pub held : Lending SliceAt
-held = memory (λ A. (λ x. x.now))
+-- the memory that is made of the two slices, in the order in which they are lent
+abbrev pub memory : List ℕ → List Float → Memory
+memory work scratch =
+    record { work = work; scratch = scratch }
 
 -- there are no answer slices
 abbrev pub answer_lengths : Memory → List ℕ

@@ -1,7 +1,6 @@
 // One rhythm group of a chart, found by passes through the work slices.
 ghost use Rattle.std.specs.Prelude.{◌≡◌, length, drop};
 ghost use Rattle.lent.specs.Over.{written};
-ghost use Rattle.lent.specs.Slice.{lent, left};
 ghost use Rattle.call_rhythm.specs.passes.Tables.{notes_writes};
 ghost use Rattle.call_record.specs.passes.Found.{GroupRoom, located_at, locate_writes, found_at, find_writes};
 
@@ -42,10 +41,10 @@ fn locate(
     scratch: &mut [f64],
 ) -> LocatedGroup
     requires { GroupRoom margin kind.now start.now delta.now g work.old scratch.old }
-    ensures value { result ≡ located_at margin (lent kind) (lent start) (lent delta) g }
-    ensures work_value { left work ≡ written (notes_writes margin (lent kind) (lent delta)) (lent work) }
-    ensures scratch_value { left scratch ≡ written (locate_writes margin (lent kind) (lent delta) g) (lent scratch) }
-    ensures scratch_value_2 { drop (length (lent kind)) (left scratch) ≡ drop (length (lent kind)) (lent scratch) }
+    ensures value { result ≡ located_at margin kind.now start.now delta.now g }
+    ensures work_value { work.new ≡ written (notes_writes margin kind.now delta.now) work.old }
+    ensures scratch_value { scratch.new ≡ written (locate_writes margin kind.now delta.now g) scratch.old }
+    ensures scratch_value_2 { drop (length kind.now) scratch.new ≡ drop (length kind.now) scratch.old }
 {
     let n = kind.len();
     let m = list_notes(kind, delta, work, scratch);
@@ -78,11 +77,11 @@ pub fn find(
     scratch: &mut [f64],
 ) -> FoundGroup
     requires { GroupRoom margin kind.now start.now delta.now g work.old scratch.old }
-    ensures value { result ≡ found_at margin (lent kind) (lent start) (lent delta) g }
-    ensures work_value { left work ≡ written (notes_writes margin (lent kind) (lent delta)) (lent work) }
-    ensures scratch_value { left scratch
-        ≡ written (find_writes margin (lent kind) (lent start) (lent delta) g) (lent scratch) }
-    ensures scratch_value_2 { drop (length (lent kind)) (left scratch) ≡ drop (length (lent kind)) (lent scratch) }
+    ensures value { result ≡ found_at margin kind.now start.now delta.now g }
+    ensures work_value { work.new ≡ written (notes_writes margin kind.now delta.now) work.old }
+    ensures scratch_value { scratch.new
+        ≡ written (find_writes margin kind.now start.now delta.now g) scratch.old }
+    ensures scratch_value_2 { drop (length kind.now) scratch.new ≡ drop (length kind.now) scratch.old }
 {
     let n = kind.len();
     let located = locate(kind, start, delta, margin, g, work, scratch);

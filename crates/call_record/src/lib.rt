@@ -1,12 +1,12 @@
 // The call record: what is said of one rhythm group.
+#![tactic(auto)]
 ghost use Rattle.std.specs.Prelude.{◌≡◌, length};
 ghost use Rattle.grouping_chart.specs.Settings.{base_settings};
 ghost use Rattle.grouping_chart.specs.Outcome.{outcome};
 ghost use Rattle.grouping_chart.specs.Chart.{chart};
-ghost use Rattle.lent.specs.Slice.{lent};
 ghost use Rattle.call_rhythm.specs.Rhythm.{groups_in};
 ghost use Rattle.call_record.specs.Record.{record_at};
-ghost use Rattle.call_record.specs.Call.{before, after, window_good, record_refusal, cleared, record_outcome};
+ghost use Rattle.call_record.specs.Call.{memory, window_good, record_refusal, cleared, record_outcome};
 ghost use Rattle.call_record.specs.passes.Found.{GroupRoom};
 
 use evaluator_rhythm::repeated_interval_penalty;
@@ -53,7 +53,7 @@ fn window_good(window: f64) -> bool
 // then 9 for a number that no group has.
 fn record_refusal(kind: &[u8], delta: &[f64], margin: f64, g: usize, window: f64) -> u8
     requires { length delta.now ≡ length kind.now }
-    ensures { result ≡ record_refusal window g (groups_in margin (lent kind) (lent delta)) }
+    ensures { result ≡ record_refusal window g (groups_in margin kind.now delta.now) }
 {
     if window_good(window) {
         if g < grouping_interval::notes::count_groups(kind, delta, margin) {
@@ -76,8 +76,8 @@ fn make_record(
     scratch: &mut [f64],
 ) -> GroupRecord
     requires { GroupRoom s.margin kind.now start.now delta.now g work.old scratch.old }
-    ensures value { result ≡ record_at s (lent kind) (lent start) (lent delta) g window }
-    ensures scratch_value { after work scratch ≡ cleared (length (lent kind)) (before work scratch) }
+    ensures value { result ≡ record_at s kind.now start.now delta.now g window }
+    ensures scratch_value { memory work.new scratch.new ≡ cleared (length kind.now) (memory work.old scratch.old) }
 {
     let n = kind.len();
     let found = found::find(kind, start, delta, s.margin, g, work, scratch);
@@ -119,8 +119,9 @@ pub fn record(
     work: &mut [u16],
     scratch: &mut [f64],
 ) -> Recording
-    ensures { outcome result (after work scratch)
-        ≡ record_outcome base_settings (chart kind start delta ratio) g window (before work scratch) }
+    ensures { outcome result (memory work.new scratch.new)
+        ≡ record_outcome base_settings (chart kind.now start.now delta.now ratio.now) g window
+        (memory work.old scratch.old) }
 {
     match judge(kind, start, delta, ratio, false, work.len(), scratch.len()) {
         Verdict::Refused(number, place) => Recording::Refused(number, place),

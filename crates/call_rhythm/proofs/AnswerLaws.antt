@@ -56,7 +56,7 @@ module _ {kinds : List ℕ} {k : GroupCounts} {work group₀ pattern₀ : List �
 -- ---- the answers are the definition's
 
 abbrev pub of_lists : List ℕ → List ℕ → List ℕ → List Float → Memory
-of_lists = memory (λ A (xs : List A). xs)
+of_lists = memory
 
 module _ (s : Settings) {kinds : List ℕ} {starts deltas : List Float} {m : Memory} {k : GroupCounts} {work₁ : List ℕ} {scratch₁ : List Float}
     (r : GroupsRoom kinds starts deltas m) (counts : k ≡ counts_of s.margin kinds starts deltas)

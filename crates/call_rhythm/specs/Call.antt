@@ -1,7 +1,6 @@
 -- The call rhythm (scope: Calls and what they fill): what it answers, and what every lent slice holds afterwards.
 use Rattle.std.specs.Prelude.{ℕ, List, [], ◌∷◌, length, Float}
 use Rattle.lent.specs.Over.{over}
-use Rattle.lent.specs.Slice.{SliceAt, Slice, lent, left}
 use Rattle.grouping_chart.specs.Chart.{Chart}
 use Rattle.grouping_chart.specs.Room.{cleared_work, cleared_scratch}
 use Rattle.grouping_chart.specs.Outcome.{Outcome, outcome, judged_by, answered}
@@ -20,27 +19,10 @@ pub record Memory : Type 0 where
   pub work : List ℕ
   pub scratch : List Float
 
--- the memory that is made of the four slices, in the order in which they are lent, by how one of them is read
-abbrev pub Lending : (Type 0 → Type 0) → Type 0
-Lending S = S ℕ → S ℕ → S ℕ → S Float → Memory
-
-abbrev pub memory : {S : Type 0 → Type 0} → ((A : Type 0) → S A → List A) → Lending S
-memory read group pattern work scratch = record {
-  group = read ℕ group;
-  pattern = read ℕ pattern;
-  work = read ℕ work;
-  scratch = read Float scratch;
-}
-
--- as lent, as left, and where a pass begins
-abbrev pub before : Lending Slice
-before = memory (λ A. lent)
-
-abbrev pub after : Lending Slice
-after = memory (λ A. left)
-
-abbrev pub held : Lending SliceAt
-held = memory (λ A. (λ x. x.now))
+-- the memory that is made of the four slices, in the order in which they are lent
+abbrev pub memory : List ℕ → List ℕ → List ℕ → List Float → Memory
+memory group pattern work scratch =
+    record { group = group; pattern = pattern; work = work; scratch = scratch }
 
 -- how many places the answer slices have
 abbrev pub answer_lengths : Memory → List ℕ

@@ -1,11 +1,11 @@
 // The call rhythm: per object the number of its rhythm group and of its pattern group.
+#![tactic(auto)]
 ghost use Rattle.std.specs.Prelude.{◌≡◌};
 ghost use Rattle.grouping_chart.specs.Settings.{base_settings};
 ghost use Rattle.grouping_chart.specs.Outcome.{outcome};
 ghost use Rattle.grouping_chart.specs.Chart.{chart};
-ghost use Rattle.lent.specs.Slice.{lent};
 ghost use Rattle.call_rhythm.specs.Rhythm.{counts_of};
-ghost use Rattle.call_rhythm.specs.Call.{before, after, held, filled, rhythm_outcome};
+ghost use Rattle.call_rhythm.specs.Call.{memory, filled, rhythm_outcome};
 ghost use Rattle.call_rhythm.specs.passes.Tables.{GroupsRoom};
 
 use crate::tables::GroupCounts;
@@ -37,10 +37,10 @@ fn fill_groups(
     work: &mut [u16],
     scratch: &mut [f64],
 ) -> GroupCounts
-    requires { GroupsRoom kind.now start.now delta.now (held group pattern work scratch) }
-    ensures value { result ≡ counts_of s.margin (lent kind) (lent start) (lent delta) }
-    ensures scratch_value { after group pattern work scratch
-        ≡ filled s (lent kind) (lent start) (lent delta) (before group pattern work scratch) }
+    requires { GroupsRoom kind.now start.now delta.now (memory group.old pattern.old work.old scratch.old) }
+    ensures value { result ≡ counts_of s.margin kind.now start.now delta.now }
+    ensures scratch_value { memory group.new pattern.new work.new scratch.new
+        ≡ filled s kind.now start.now delta.now (memory group.old pattern.old work.old scratch.old) }
 {
     let n = kind.len();
     let k = tables::group_notes(kind, start, delta, s.margin, work, scratch);
@@ -60,8 +60,9 @@ pub fn rhythm(
     work: &mut [u16],
     scratch: &mut [f64],
 ) -> Grouping
-    ensures { outcome result (after group pattern work scratch)
-        ≡ rhythm_outcome base_settings (chart kind start delta ratio) (before group pattern work scratch) }
+    ensures { outcome result (memory group.new pattern.new work.new scratch.new)
+        ≡ rhythm_outcome base_settings (chart kind.now start.now delta.now ratio.now)
+        (memory group.old pattern.old work.old scratch.old) }
 {
     let n = kind.len();
     let short = (group.len() < n) | (pattern.len() < n);

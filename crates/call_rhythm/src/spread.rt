@@ -2,7 +2,6 @@
 ghost use Rattle.std.specs.Prelude.{◌≡◌, true, cond, ◌*◌, ◌<◌, length, get_or};
 ghost use Rattle.lent.specs.Over.{over, put, part};
 ghost use Rattle.lent.specs.Scan.{gathered};
-ghost use Rattle.lent.specs.Slice.{lent, left};
 ghost use Rattle.grouping_chart.specs.Object.{is_note};
 ghost use Rattle.call_rhythm.specs.passes.Tables.{SpreadRoom, LookRoom, TablesThere};
 ghost use Rattle.call_rhythm.specs.passes.Tables.{by_object, note_groups, note_patterns};
@@ -13,7 +12,7 @@ use grouping_chart::object::{NoteIndex, ObjectIndex, is_note, note_after};
 // The number of an object's note, which is `next` where it is one; 65535 for a NonHit.
 fn number_of(kind: u8, numbers: &[u16], next: NoteIndex) -> u16
     requires { is_note kind ≡ true → next.0 < length numbers.now }
-    ensures { result ≡ cond (is_note kind) (get_or (lent numbers) next.0 0) 65535 }
+    ensures { result ≡ cond (is_note kind) (get_or numbers.now next.0 0) 65535 }
 {
     if is_note(kind) {
         let j = next.0;
@@ -25,7 +24,7 @@ fn number_of(kind: u8, numbers: &[u16], next: NoteIndex) -> u16
 // Gives each object the number of its note.
 pub fn spread(kind: &[u8], numbers: &[u16], out: &mut [u16])
     requires { SpreadRoom kind.now numbers.now out.old }
-    ensures { left out ≡ over (by_object (lent numbers) (lent kind)) (lent out) }
+    ensures { out.new ≡ over (by_object numbers.now kind.now) out.old }
 {
     let mut at = ObjectIndex(0);
     let mut next = NoteIndex(0);
@@ -41,7 +40,7 @@ pub fn spread(kind: &[u8], numbers: &[u16], out: &mut [u16])
 // Puts, over each of m numbers at `at`, what the table of k places has at it.
 pub fn look_up(w: &mut [u16], table: usize, k: usize, at: usize, m: usize)
     requires { LookRoom w.old table k at m }
-    ensures { left w ≡ put at (gathered (part table k (lent w)) (part at m (lent w))) (lent w) }
+    ensures { w.new ≡ put at (gathered (part table k w.old) (part at m w.old)) w.old }
 {
     let mut i = 0;
     while i < m {
@@ -60,10 +59,10 @@ pub fn fill_answers(
     pattern: &mut [u16],
 )
     requires { TablesThere kind.now k work.old group.old pattern.old }
-    ensures group_value { left group ≡ over (by_object (note_groups (lent kind) k (lent work)) (lent kind)) (lent group) }
-    ensures pattern_value { left pattern
-        ≡ over (by_object (note_patterns (lent kind) k (lent work)) (lent kind)) (lent pattern) }
-    ensures work_value { left work ≡ put (2 * length (lent kind)) (note_patterns (lent kind) k (lent work)) (lent work) }
+    ensures group_value { group.new ≡ over (by_object (note_groups kind.now k work.old) kind.now) group.old }
+    ensures pattern_value { pattern.new
+        ≡ over (by_object (note_patterns kind.now k work.old) kind.now) pattern.old }
+    ensures work_value { work.new ≡ put (2 * length kind.now) (note_patterns kind.now k work.old) work.old }
 {
     let n = kind.len();
     let m = k.notes;

@@ -1,7 +1,6 @@
 // The tables of rhythm groups: each note's group, each group's pattern.
 ghost use Rattle.std.specs.Prelude.{◌≡◌, ◌*◌, length, take};
 ghost use Rattle.lent.specs.Over.{over, put, written};
-ghost use Rattle.lent.specs.Slice.{lent, left};
 ghost use Rattle.grouping_marks.specs.Marks.{group_count, group_numbers};
 ghost use Rattle.grouping_interval.specs.IntervalGrouping.{interval_marks};
 ghost use Rattle.call_rhythm.specs.Rhythm.{counts_of};
@@ -29,10 +28,10 @@ pub struct GroupCounts {
 // numbers in their places. The result is how many groups there are, which is the last number and one more.
 pub fn number_notes(deltas: &[f64], margin: f64, work: &mut [u16], n: usize) -> usize
     requires { NumbersRoom deltas.now n work.old }
-    ensures value { result ≡ group_count (interval_marks margin (lent deltas)) }
-    ensures work_value { left work
-        ≡ written (numbers_writes n (interval_marks margin (lent deltas)) (take (length (lent deltas)) (lent work)))
-        (lent work) }
+    ensures value { result ≡ group_count (interval_marks margin deltas.now) }
+    ensures work_value { work.new
+        ≡ written (numbers_writes n (interval_marks margin deltas.now) (take (length deltas.now) work.old))
+        work.old }
 {
     let notes = deltas.len();
     if notes == 0 {
@@ -55,10 +54,10 @@ fn number_groups(
     scratch: &mut [f64],
 ) -> usize
     requires { FirstsThere start.now n groups work.old scratch.old }
-    ensures value { result ≡ group_count (patterns_from margin (lent start) n groups (lent work)) }
-    ensures work_value { left work
-        ≡ put (3 * n) (group_numbers (patterns_from margin (lent start) n groups (lent work))) (lent work) }
-    ensures scratch_value { left scratch ≡ over (intervals_from margin (lent start) n groups (lent work)) (lent scratch) }
+    ensures value { result ≡ group_count (patterns_from margin start.now n groups work.old) }
+    ensures work_value { work.new
+        ≡ put (3 * n) (group_numbers (patterns_from margin start.now n groups work.old)) work.old }
+    ensures scratch_value { scratch.new ≡ over (intervals_from margin start.now n groups work.old) scratch.old }
 {
     fill_intervals(start, &work[n..n + groups], margin, scratch);
     group_by_interval(&scratch[..groups], margin, &mut work[3 * n..3 * n + groups])
@@ -74,10 +73,10 @@ pub fn group_notes(
     scratch: &mut [f64],
 ) -> GroupCounts
     requires { TablesRoom kind.now start.now delta.now work.old scratch.old }
-    ensures value { result ≡ counts_of margin (lent kind) (lent start) (lent delta) }
-    ensures work_value { left work ≡ written (work_writes margin (lent kind) (lent start) (lent delta)) (lent work) }
-    ensures scratch_value { left scratch
-        ≡ written (scratch_writes margin (lent kind) (lent start) (lent delta)) (lent scratch) }
+    ensures value { result ≡ counts_of margin kind.now start.now delta.now }
+    ensures work_value { work.new ≡ written (work_writes margin kind.now start.now delta.now) work.old }
+    ensures scratch_value { scratch.new
+        ≡ written (scratch_writes margin kind.now start.now delta.now) scratch.old }
 {
     let n = kind.len();
     let notes = list_notes(kind, delta, work, scratch);

@@ -1,9 +1,9 @@
 // A stored case of build.
+#![tactic(auto)]
 ghost use Rattle.std.specs.Prelude.{◌≡◌, ◌+◌, ◌-◌, ◌*◌, ◌≤◌, ◌<◌};
-ghost use Rattle.lent.specs.Slice.{lent};
 ghost use Rattle.grouping_chart.specs.Chart.{largest};
 ghost use Rattle.call_build.specs.Build.{raw};
-ghost use Rattle.call_build.specs.Call.{before, build_outcome};
+ghost use Rattle.call_build.specs.Call.{memory, build_outcome};
 ghost use Rattle.call_build.specs.declared.Building.TheVariants as building;
 ghost use Rattle.vectors.specs.Held.{Tells};
 ghost use Rattle.cases_build.specs.Build.{raw_size, stored_rate, stored_raw, build_lent};
@@ -29,14 +29,14 @@ fn built(m: usize) -> usize
 
 // How many raw objects the body has.
 fn raw_size(body: &[u8]) -> usize
-    ensures { (result ≡ raw_size (lent body)) × (result < 65536) }
+    ensures { (result ≡ raw_size body.now) × (result < 65536) }
 {
     case::pair_at(body, 0) as usize
 }
 
 // The rate that the body has.
 fn stored_rate(body: &[u8]) -> f64
-    ensures { result ≡ stored_rate (lent body) }
+    ensures { result ≡ stored_rate body.now }
 {
     case::float_of(case::word_at(body, 2))
 }
@@ -62,7 +62,7 @@ fn chart_held(
     ratio: &[f64],
 ) -> bool
     requires { ChartThere at n body.now kind.now }
-    ensures { Tells result (ChartHeld at n (lent body) (before kind start delta ratio)) }
+    ensures { Tells result (ChartHeld at n body.now (memory kind.now start.now delta.now ratio.now)) }
 {
     let kinds = held::bytes_held(body, at, n, BYTE_SENTINEL, kind);
     let starts = held::floats_held(body, at + n, n, FLOAT_SENTINEL, start);
@@ -85,8 +85,8 @@ fn lent_holds(
     ratio: &mut [f64],
 ) -> bool
     requires { ChartThere at n body.now built_kind.old }
-    ensures { Tells result (BuildStored at n (lent body)
-        (build_outcome rate (raw kind time) (before built_kind start delta ratio))) }
+    ensures { Tells result (BuildStored at n body.now
+        (build_outcome rate (raw kind.now time.now) (memory built_kind.old start.old delta.old ratio.old))) }
 {
     let answer = call_build::build(kind, time, rate, built_kind, start, delta, ratio);
     let count = count_holds(n, answer);
@@ -99,8 +99,8 @@ fn lent_holds(
 // Build of m raw objects in slices full of sentinels, held to the body.
 fn call_holds(m: usize, n: usize, body: &[u8], spare: usize) -> bool
     requires { BuildRoom m n body.now spare }
-    ensures { Tells result (BuildStored (10 + 9 * m) n (lent body)
-        (build_outcome (stored_rate (lent body)) (stored_raw m (lent body)) (build_lent n spare))) }
+    ensures { Tells result (BuildStored (10 + 9 * m) n body.now
+        (build_outcome (stored_rate body.now) (stored_raw m body.now) (build_lent n spare))) }
 {
     let room = n + spare;
     let rate = stored_rate(body);
@@ -123,7 +123,7 @@ fn call_holds(m: usize, n: usize, body: &[u8], spare: usize) -> bool
 // Whether the bytes have the form of a build case of m raw objects.
 fn build_formed(m: usize, h: Head, body: &[u8]) -> bool
     requires { (m < 65536) × (h.objects ≤ largest) }
-    ensures { Tells result (BuildForm m h (lent body)) }
+    ensures { Tells result (BuildForm m h body.now) }
 {
     let size = 10 + 9 * m + 25 * h.objects;
     both(
@@ -135,7 +135,7 @@ fn build_formed(m: usize, h: Head, body: &[u8]) -> bool
 // Whether build answers as the case has it, in slices with so many places to spare.
 pub fn holds(h: Head, body: &[u8], spare: usize) -> bool
     requires { spare ≤ 7 }
-    ensures { Tells result (BuildHolds h (lent body) spare) }
+    ensures { Tells result (BuildHolds h body.now spare) }
 {
     let n = h.objects;
     if n > MOST_OBJECTS {

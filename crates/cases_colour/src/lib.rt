@@ -1,8 +1,8 @@
 // A stored case of colour, and of a stretch of its chart.
+#![tactic(auto)]
 ghost use Rattle.std.specs.Prelude.{◌≡◌, ◌+◌, ◌*◌, ◌≤◌};
-ghost use Rattle.lent.specs.Slice.{lent};
 ghost use Rattle.grouping_chart.specs.Chart.{chart, largest};
-ghost use Rattle.call_colour.specs.Call.{before, after};
+ghost use Rattle.call_colour.specs.Call.{memory};
 ghost use Rattle.call_colour.specs.declared.Colouring.TheVariants as colouring;
 ghost use Rattle.vectors.specs.Held.{Tells};
 ghost use Rattle.cases_colour.specs.Colour.{colour_chart, colour_lent, signed_of, stretch_of, MeanIs};
@@ -45,7 +45,7 @@ fn signed(x: u32) -> i64
 }
 
 fn read_stretch(part: &[u8]) -> StoredStretch
-    ensures { result ≡ stretch_of (lent part) }
+    ensures { result ≡ stretch_of part.now }
 {
     StoredStretch {
         a: case::pair_at(part, 0) as usize,
@@ -90,8 +90,8 @@ fn answer_holds(
     work: &mut [u16],
     scratch: &mut [f64],
 ) -> bool
-    ensures { CallTold asked (chart kind one one ratio)
-        (before value work scratch) (after value work scratch) result }
+    ensures { CallTold asked (chart kind.now one.now one.now ratio.now)
+        (memory value.old work.old scratch.old) (memory value.new work.new scratch.new) result }
 {
     match asked {
         Asked::Colour => done(call_colour::colour(kind, one, one, ratio, value, work, scratch)),
@@ -112,7 +112,7 @@ fn values_hold(
     scratch: &[f64],
 ) -> bool
     requires { (n ≤ largest) × (size ≤ 2 * n) }
-    ensures { Tells result (ValuesHeld size n (lent body) (before value work scratch)) }
+    ensures { Tells result (ValuesHeld size n body.now (memory value.now work.now scratch.now)) }
 {
     let values = held::floats_held(body, 2 + n + size, n, FLOAT_SENTINEL, value);
     let cleared = sentinel::work_cleared(n, work, scratch);
@@ -133,8 +133,8 @@ fn lent_holds(
     scratch: &mut [f64],
 ) -> bool
     requires { (n ≤ largest) × (size ≤ 2 * n) }
-    ensures { Tells result (CallStored asked size n (lent body)
-        (chart kind one one ratio) (before value work scratch)) }
+    ensures { Tells result (CallStored asked size n body.now
+        (chart kind.now one.now one.now ratio.now) (memory value.old work.old scratch.old)) }
 {
     let answer = answer_holds(asked, kind, one, ratio, value, work, scratch);
     both(answer, values_hold(size, n, body, value, work, scratch))
@@ -143,8 +143,8 @@ fn lent_holds(
 // The call that is asked, in slices full of sentinels, held to the body, whose column of ratios has so many bytes.
 fn call_holds(asked: Asked, size: usize, width: u8, n: usize, body: &[u8], spare: usize) -> bool
     requires { ColourRoom size n body.now spare }
-    ensures { Tells result (CallStored asked size n (lent body)
-        (colour_chart size width n (lent body)) (colour_lent n spare)) }
+    ensures { Tells result (CallStored asked size n body.now
+        (colour_chart size width n body.now) (colour_lent n spare)) }
 {
     let room = n + spare;
     let mut ratios = [0.0; MOST_OBJECTS];
@@ -166,7 +166,7 @@ fn call_holds(asked: Asked, size: usize, width: u8, n: usize, body: &[u8], spare
 // Whether the bytes have the form of a colour case with a column of this size.
 fn colour_formed(size: usize, h: Head, body: &[u8]) -> bool
     requires { (h.objects ≤ largest) × (size ≤ 2 * h.objects) }
-    ensures { Tells result (ColourForm size h (lent body)) }
+    ensures { Tells result (ColourForm size h body.now) }
 {
     let table = 8 * (case::pair_at(body, 0) as usize);
     formed(
@@ -182,7 +182,7 @@ fn colour_formed(size: usize, h: Head, body: &[u8]) -> bool
 // Whether colour answers as the case has it, in slices with so many places to spare.
 pub fn holds(h: Head, body: &[u8], spare: usize) -> bool
     requires { spare ≤ 7 }
-    ensures { Tells result (ColourHolds h (lent body) spare) }
+    ensures { Tells result (ColourHolds h body.now spare) }
 {
     let n = h.objects;
     if n > MOST_OBJECTS {
@@ -198,7 +198,7 @@ pub fn holds(h: Head, body: &[u8], spare: usize) -> bool
 // Whether the stretch with this head and these bytes, of the chart of a colour case, is answered as they have it.
 pub fn stretch_holds(chart: Head, body: &[u8], h: Head, part: &[u8], spare: usize) -> bool
     requires { spare ≤ 7 }
-    ensures { Tells result (StretchHolds chart (lent body) h (lent part) spare) }
+    ensures { Tells result (StretchHolds chart body.now h part.now spare) }
 {
     let n = chart.objects;
     if n > MOST_OBJECTS {

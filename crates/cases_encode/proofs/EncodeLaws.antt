@@ -38,8 +38,8 @@ module _ (body : List ℕ) (answer : Encoding) where
 
 pub outcome-told : {size width n : ℕ} {body : List ℕ} {o : Outcome Encoding Memory} {a b c d e f bc abc de def r : Bool}
     → Tells a (o.answer ≡ Done (pair_at body 0))
-    → Tells b (ColumnsHeld body (2 + n) size width n o.memory.streak o.memory.streak_place_at)
-    → Tells c (ColumnsHeld body (2 + n + 2 * size) size width n o.memory.pattern o.memory.pattern_place_at)
+    → Tells b (ColumnsHeld body (2 + n) size width n o.memory.streak o.memory.streak_place)
+    → Tells c (ColumnsHeld body (2 + n + 2 * size) size width n o.memory.pattern o.memory.pattern_place)
     → Tells d (FrontHeld (column body (2 + n + 4 * size) width n) number_sentinel o.memory.hit)
     → Tells e (FrontHeld (part (2 + n + 5 * size) n body) byte_sentinel o.memory.interval)
     → Tells f (Cleared n o.memory.work o.memory.scratch)
@@ -50,15 +50,15 @@ outcome-told ta tb tc td te tf p q u v w =
     (λ p. record {
       answer = p.0.0;
       streak = p.0.1.0.first;
-      streak_place_at = p.0.1.0.second;
+      streak_place = p.0.1.0.second;
       pattern = p.0.1.1.first;
-      pattern_place_at = p.0.1.1.second;
+      pattern_place = p.0.1.1.second;
       hit = p.1.0.0;
       interval = p.1.0.1;
       cleared = p.1.1;
     })
     (λ q. (
-      (q.answer, (record { first = q.streak; second = q.streak_place_at }, record { first = q.pattern; second = q.pattern_place_at })),
+      (q.answer, (record { first = q.streak; second = q.streak_place }, record { first = q.pattern; second = q.pattern_place })),
       ((q.hit, q.interval), q.cleared),
     ))
     (tells_both _ _ w (tells_both _ _ q ta (tells_both _ _ p tb tc)) (tells_both _ _ v (tells_both _ _ u td te) tf))
@@ -75,9 +75,9 @@ made_memory n spare =
     let numbers : List ℕ = take (n + spare) (replicate most_places number_sentinel) in
     record {
       streak = numbers;
-      streak_place_at = numbers;
+      streak_place = numbers;
       pattern = numbers;
-      pattern_place_at = numbers;
+      pattern_place = numbers;
       hit = numbers;
       interval = take (n + spare) (replicate most_places byte_sentinel);
       work = take (8 * n + spare) (replicate most_work number_sentinel);

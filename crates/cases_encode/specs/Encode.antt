@@ -25,9 +25,9 @@ encode_chart n body =
 unfoldable pub encode_lent : ℕ → ℕ → Memory
 encode_lent n spare = record {
   streak = numbers_lent n spare;
-  streak_place_at = numbers_lent n spare;
+  streak_place = numbers_lent n spare;
   pattern = numbers_lent n spare;
-  pattern_place_at = numbers_lent n spare;
+  pattern_place = numbers_lent n spare;
   hit = numbers_lent n spare;
   interval = replicate (n + spare) byte_sentinel;
   work = work_lent n spare;
@@ -38,9 +38,9 @@ encode_lent n spare = record {
 pub record EncodeStored (size width n : ℕ) (body : List ℕ) (o : Outcome Encoding Memory) : Type 0 where
   pub answer : o.answer ≡ Done (pair_at body 0)
   pub streak : FrontHeld (column body (2 + n) width n) number_sentinel o.memory.streak
-  pub streak_place_at : FrontHeld (column body (2 + n + size) width n) number_sentinel o.memory.streak_place_at
+  pub streak_place : FrontHeld (column body (2 + n + size) width n) number_sentinel o.memory.streak_place
   pub pattern : FrontHeld (column body (2 + n + 2 * size) width n) number_sentinel o.memory.pattern
-  pub pattern_place_at : FrontHeld (column body (2 + n + 2 * size + size) width n) number_sentinel o.memory.pattern_place_at
+  pub pattern_place : FrontHeld (column body (2 + n + 2 * size + size) width n) number_sentinel o.memory.pattern_place
   pub hit : FrontHeld (column body (2 + n + 4 * size) width n) number_sentinel o.memory.hit
   pub interval : FrontHeld (part (2 + n + 5 * size) n body) byte_sentinel o.memory.interval
   pub cleared : Cleared n o.memory.work o.memory.scratch

@@ -1,10 +1,10 @@
 // A stored case of encode.
+#![tactic(auto)]
 ghost use Rattle.std.specs.Prelude.{◌≡◌, ◌≤◌};
-ghost use Rattle.lent.specs.Slice.{lent};
 ghost use Rattle.grouping_chart.specs.Settings.{base_settings};
 ghost use Rattle.grouping_chart.specs.Outcome.{outcome};
 ghost use Rattle.grouping_chart.specs.Chart.{chart};
-ghost use Rattle.call_encode.specs.Call.{before, encode_outcome};
+ghost use Rattle.call_encode.specs.Call.{memory, encode_outcome};
 ghost use Rattle.call_encode.specs.declared.Encoding.TheVariants as encoding;
 ghost use Rattle.vectors.specs.Case.{pair_at};
 ghost use Rattle.vectors.specs.Held.{Tells};
@@ -22,7 +22,7 @@ use vectors::{held, sentinel};
 
 // Whether the chart is accepted, with as many hit patterns as the body's first number says.
 fn count_holds(body: &[u8], answer: Encoding) -> bool
-    ensures { Tells result (answer ≡ encoding.Done (pair_at (lent body) 0)) }
+    ensures { Tells result (answer ≡ encoding.Done (pair_at body.now 0)) }
 {
     match answer {
         Encoding::Done(count) => count == vectors::case::pair_at(body, 0) as usize,
@@ -46,8 +46,10 @@ fn outcome_holds(
     scratch: &[f64],
 ) -> bool
     requires { EncodeCompared size h.objects body.now interval.now }
-    ensures { Tells result (EncodeStored size h.width h.objects (lent body)
-        (outcome answer (before streak streak_place pattern pattern_place hit interval work scratch))) }
+    ensures { Tells result (EncodeStored size h.width h.objects body.now
+        (outcome answer
+        (memory streak.now streak_place.now pattern.now pattern_place.now hit.now interval.now work.now scratch.now)))
+        }
 {
     let n = h.objects;
     let at = 2 + n;
@@ -87,9 +89,10 @@ fn lent_holds(
     scratch: &mut [f64],
 ) -> bool
     requires { EncodeCompared size h.objects body.now interval.old }
-    ensures { Tells result (EncodeStored size h.width h.objects (lent body)
-        (encode_outcome base_settings (chart kind one one one)
-        (before streak streak_place pattern pattern_place hit interval work scratch))) }
+    ensures { Tells result (EncodeStored size h.width h.objects body.now
+        (encode_outcome base_settings (chart kind.now one.now one.now one.now)
+        (memory streak.old streak_place.old pattern.old pattern_place.old hit.old interval.old work.old scratch.old)))
+        }
 {
     let got = call_encode::encode(
         kind,
@@ -124,8 +127,8 @@ fn lent_holds(
 // Encode in slices full of sentinels, held to the body.
 fn call_holds(h: Head, size: usize, body: &[u8], spare: usize) -> bool
     requires { EncodeRoom size h.objects body.now spare }
-    ensures { Tells result (EncodeStored size h.width h.objects (lent body)
-        (encode_outcome base_settings (encode_chart h.objects (lent body)) (encode_lent h.objects spare))) }
+    ensures { Tells result (EncodeStored size h.width h.objects body.now
+        (encode_outcome base_settings (encode_chart h.objects body.now) (encode_lent h.objects spare))) }
 {
     let n = h.objects;
     let room = n + spare;
@@ -149,7 +152,7 @@ fn call_holds(h: Head, size: usize, body: &[u8], spare: usize) -> bool
 // Whether encode answers as the case has it, in slices with so many places to spare.
 pub fn holds(h: Head, body: &[u8], spare: usize) -> bool
     requires { spare ≤ 7 }
-    ensures { Tells result (EncodeHolds h (lent body) spare) }
+    ensures { Tells result (EncodeHolds h body.now spare) }
 {
     let n = h.objects;
     if n > MOST_OBJECTS {

@@ -1,12 +1,12 @@
 // A stored record of the chart of a rhythm case.
+#![tactic(auto)]
 ghost use Rattle.std.specs.Prelude.{◌≡◌, ◌+◌, ◌^◌, ◌≤◌, ◌<◌};
 ghost use Rattle.std.specs.Float.Ieee as Ieee;
 ghost use Rattle.std.specs.Float.{binary64};
 ghost use Rattle.vectors.specs.Case.{pair_at, word_at};
 ghost use Rattle.vectors.specs.Held.{Tells};
 ghost use Rattle.grouping_chart.specs.Chart.{chart, largest};
-ghost use Rattle.lent.specs.Slice.{lent};
-ghost use Rattle.call_record.specs.Call.{before};
+ghost use Rattle.call_record.specs.Call.{memory};
 ghost use Rattle.cases_rhythm.specs.Rhythm.{rhythm_chart};
 ghost use Rattle.cases_rhythm.specs.passes.Times.{RhythmRoom};
 ghost use Rattle.cases_record.specs.Record.{record_lent, asked_outcome, OwnIs, PlacesAre, ScoresAre};
@@ -24,7 +24,7 @@ use vectors::{case, sentinel};
 // Whether a float has the bits that stand at a place.
 fn bits_hold(part: &[u8], at: usize, x: f64) -> bool
     requires { at + 8 < 2 ^ 32 }
-    ensures { Tells result (Ieee.to_bits binary64 x ≡ word_at (lent part) at) }
+    ensures { Tells result (Ieee.to_bits binary64 x ≡ word_at part.now at) }
 {
     bits(x) == case::word_at(part, at)
 }
@@ -32,14 +32,14 @@ fn bits_hold(part: &[u8], at: usize, x: f64) -> bool
 // Whether a number stands in two bytes at a place.
 fn number_holds(part: &[u8], at: usize, x: usize) -> bool
     requires { at < 2 ^ 32 }
-    ensures { Tells result (x ≡ pair_at (lent part) at) }
+    ensures { Tells result (x ≡ pair_at part.now at) }
 {
     x == case::pair_at(part, at) as usize
 }
 
 // Whether the own interval is that of the part: 1 and its bits, or 0 and 0 where it is absent.
 fn own_holds(part: &[u8], own: Own) -> bool
-    ensures { Tells result (OwnIs (lent part) own) }
+    ensures { Tells result (OwnIs part.now own) }
 {
     match own {
         Own::Absent => both(case::pair_at(part, 8) == 0, case::word_at(part, 18) == 0),
@@ -49,7 +49,7 @@ fn own_holds(part: &[u8], own: Own) -> bool
 
 // Whether first note, note count, pattern group and own interval are those of the part.
 fn places_hold(part: &[u8], r: GroupRecord) -> bool
-    ensures { Tells result (PlacesAre (lent part) r) }
+    ensures { Tells result (PlacesAre part.now r) }
 {
     let first = r.first;
     let own = r.own;
@@ -65,7 +65,7 @@ fn places_hold(part: &[u8], r: GroupRecord) -> bool
 
 // Whether ratio, interval, penalty and pattern ratio are those of the part, by their bits.
 fn scores_hold(part: &[u8], r: GroupRecord) -> bool
-    ensures { Tells result (ScoresAre (lent part) r) }
+    ensures { Tells result (ScoresAre part.now r) }
 {
     let ratios = both(
         bits_hold(part, 26, r.ratio),
@@ -82,7 +82,7 @@ fn scores_hold(part: &[u8], r: GroupRecord) -> bool
 
 // Whether the record is accepted, with every field of the part.
 fn fields_hold(part: &[u8], answer: Recording) -> bool
-    ensures { Tells result (RecordIs (lent part) answer) }
+    ensures { Tells result (RecordIs part.now answer) }
 {
     match answer {
         Recording::Done(r) => both(places_hold(part, r), scores_hold(part, r)),
@@ -102,8 +102,8 @@ fn lent_holds(
     scratch: &mut [f64],
 ) -> bool
     requires { n ≤ largest }
-    ensures { Tells result (RecordStored n (lent part)
-        (asked_outcome (lent part) (chart kind start delta one) (before work scratch))) }
+    ensures { Tells result (RecordStored n part.now
+        (asked_outcome part.now (chart kind.now start.now delta.now one.now) (memory work.old scratch.old))) }
 {
     let group = case::pair_at(part, 0) as usize;
     let window = case::float_of(case::word_at(part, 10));
@@ -117,8 +117,8 @@ fn lent_holds(
 // Record in slices full of sentinels, held to the part.
 fn call_holds(n: usize, body: &[u8], part: &[u8], spare: usize) -> bool
     requires { RhythmRoom n body.now spare }
-    ensures { Tells result (RecordStored n (lent part)
-        (asked_outcome (lent part) (rhythm_chart n (lent body)) (record_lent n spare))) }
+    ensures { Tells result (RecordStored n part.now
+        (asked_outcome part.now (rhythm_chart n body.now) (record_lent n spare))) }
 {
     let mut starts = [0.0; MOST_OBJECTS];
     let mut deltas = [0.0; MOST_OBJECTS];
@@ -138,7 +138,7 @@ fn call_holds(n: usize, body: &[u8], part: &[u8], spare: usize) -> bool
 // Whether the record with this head and these bytes, of the chart of a rhythm case, is answered as they have it.
 pub fn holds(chart: Head, body: &[u8], h: Head, part: &[u8], spare: usize) -> bool
     requires { spare ≤ 7 }
-    ensures { Tells result (RecordHolds chart (lent body) h (lent part) spare) }
+    ensures { Tells result (RecordHolds chart body.now h part.now spare) }
 {
     let n = chart.objects;
     if n > MOST_OBJECTS {

@@ -1,10 +1,10 @@
 // A stored case of rhythm.
+#![tactic(auto)]
 ghost use Rattle.std.specs.Prelude.{◌≡◌, ◌≤◌};
-ghost use Rattle.lent.specs.Slice.{lent, left};
 ghost use Rattle.grouping_chart.specs.Settings.{base_settings};
 ghost use Rattle.grouping_chart.specs.Outcome.{outcome};
 ghost use Rattle.grouping_chart.specs.Chart.{chart, largest};
-ghost use Rattle.call_rhythm.specs.Call.{before, rhythm_outcome};
+ghost use Rattle.call_rhythm.specs.Call.{memory, rhythm_outcome};
 ghost use Rattle.call_rhythm.specs.declared.Grouping.TheVariants as grouping;
 ghost use Rattle.vectors.specs.Case.{pair_at};
 ghost use Rattle.vectors.specs.Held.{Tells};
@@ -21,7 +21,7 @@ use vectors::{case, sentinel, table};
 // Reads the starts and the deltas.
 pub fn read_times(n: usize, body: &[u8], start: &mut [f64], delta: &mut [f64])
     requires { TimesRoom n start.old delta.old }
-    ensures { TimesRead n (lent body) (lent start) (left start) (lent delta) (left delta) }
+    ensures { TimesRead n body.now start.old start.new delta.old delta.new }
 {
     table::read(body, 4 + n, 0, 0, n, start);
     table::read(body, 4 + 9 * n, 0, 0, n, delta);
@@ -29,7 +29,7 @@ pub fn read_times(n: usize, body: &[u8], start: &mut [f64], delta: &mut [f64])
 
 // Whether the chart is accepted, with as many groups and pattern groups as the body's first two numbers say.
 fn counts_hold(body: &[u8], answer: Grouping) -> bool
-    ensures { Tells result (answer ≡ grouping.Done (pair_at (lent body) 0) (pair_at (lent body) 2)) }
+    ensures { Tells result (answer ≡ grouping.Done (pair_at body.now 0) (pair_at body.now 2)) }
 {
     match answer {
         Grouping::Done(groups, patterns) => both(
@@ -51,7 +51,8 @@ fn outcome_holds(
     scratch: &[f64],
 ) -> bool
     requires { n ≤ largest }
-    ensures { Tells result (RhythmStored n (lent body) (outcome answer (before group pattern work scratch))) }
+    ensures { Tells result (RhythmStored n body.now (outcome answer
+        (memory group.now pattern.now work.now scratch.now))) }
 {
     let counts = counts_hold(body, answer);
     let numbers = sentinel::columns_held(body, 4 + 17 * n, 2 * n, 2, n, group, pattern);
@@ -73,8 +74,9 @@ fn lent_holds(
     scratch: &mut [f64],
 ) -> bool
     requires { n ≤ largest }
-    ensures { Tells result (RhythmStored n (lent body)
-        (rhythm_outcome base_settings (chart kind start delta one) (before group pattern work scratch))) }
+    ensures { Tells result (RhythmStored n body.now
+        (rhythm_outcome base_settings (chart kind.now start.now delta.now one.now)
+        (memory group.old pattern.old work.old scratch.old))) }
 {
     let answer = call_rhythm::rhythm(kind, start, delta, one, group, pattern, work, scratch);
     outcome_holds(n, body, answer, group, pattern, work, scratch)
@@ -83,8 +85,8 @@ fn lent_holds(
 // Rhythm in slices full of sentinels, held to the body.
 fn call_holds(n: usize, body: &[u8], spare: usize) -> bool
     requires { RhythmRoom n body.now spare }
-    ensures { Tells result (RhythmStored n (lent body)
-        (rhythm_outcome base_settings (rhythm_chart n (lent body)) (rhythm_lent n spare))) }
+    ensures { Tells result (RhythmStored n body.now
+        (rhythm_outcome base_settings (rhythm_chart n body.now) (rhythm_lent n spare))) }
 {
     let room = n + spare;
     let mut starts = [0.0; MOST_OBJECTS];
@@ -107,7 +109,7 @@ fn call_holds(n: usize, body: &[u8], spare: usize) -> bool
 // Whether the bytes have the form of a rhythm case.
 pub fn rhythm_formed(h: Head, body: &[u8]) -> bool
     requires { h.objects ≤ largest }
-    ensures { Tells result (RhythmForm h (lent body)) }
+    ensures { Tells result (RhythmForm h body.now) }
 {
     formed(h, RHYTHM, 2, 2, 4 + 21 * h.objects, body.len())
 }
@@ -115,7 +117,7 @@ pub fn rhythm_formed(h: Head, body: &[u8]) -> bool
 // Whether rhythm answers as the case has it, in slices with so many places to spare.
 pub fn holds(h: Head, body: &[u8], spare: usize) -> bool
     requires { spare ≤ 7 }
-    ensures { Tells result (RhythmHolds h (lent body) spare) }
+    ensures { Tells result (RhythmHolds h body.now spare) }
 {
     let n = h.objects;
     if n > MOST_OBJECTS {

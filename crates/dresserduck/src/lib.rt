@@ -1,4 +1,5 @@
 // The calls for C and Rust. Each hands its slices on and turns the answer into a record of plain numbers.
+#![tactic(auto)]
 ghost use Rattle.std.specs.Prelude.{◌≡◌};
 ghost use Rattle.grouping_chart.specs.Settings.{base_settings};
 ghost use Rattle.grouping_chart.specs.Outcome.{outcome};
@@ -60,9 +61,9 @@ pub extern "C" fn dresserduck_build(
     delta: &mut [f64],
     ratio: &mut [f64],
 ) -> Built
-    ensures { outcome result (build.after built_kind start delta ratio)
-        ≡ for_host built_of (build.build_outcome rate (raw kind time)
-        (build.before built_kind start delta ratio)) }
+    ensures { outcome result (build.memory built_kind.new start.new delta.new ratio.new)
+        ≡ for_host built_of (build.build_outcome rate (raw kind.now time.now)
+        (build.memory built_kind.old start.old delta.old ratio.old)) }
 {
     let answer = call_build::build(kind, time, rate, built_kind, start, delta, ratio);
     built_of(answer)
@@ -112,9 +113,12 @@ pub extern "C" fn dresserduck_encode(
     work: &mut [u16],
     scratch: &mut [f64],
 ) -> Encoded
-    ensures { outcome result (encode.after streak streak_place pattern pattern_place hit interval work scratch)
-        ≡ for_host encoded_of (encode.encode_outcome base_settings (chart kind start delta ratio)
-        (encode.before streak streak_place pattern pattern_place hit interval work scratch)) }
+    ensures { outcome result
+        (encode.memory streak.new streak_place.new pattern.new pattern_place.new hit.new interval.new work.new
+        scratch.new)
+        ≡ for_host encoded_of (encode.encode_outcome base_settings (chart kind.now start.now delta.now ratio.now)
+        (encode.memory streak.old streak_place.old pattern.old pattern_place.old hit.old interval.old work.old
+        scratch.old)) }
 {
     let answer = call_encode::encode(
         kind,
@@ -169,9 +173,9 @@ pub extern "C" fn dresserduck_colour(
     work: &mut [u16],
     scratch: &mut [f64],
 ) -> Coloured
-    ensures { outcome result (calls.after value work scratch)
-        ≡ for_host coloured_of (calls.colour_outcome base_settings (chart kind start delta ratio)
-        (calls.before value work scratch)) }
+    ensures { outcome result (calls.memory value.new work.new scratch.new)
+        ≡ for_host coloured_of (calls.colour_outcome base_settings (chart kind.now start.now delta.now ratio.now)
+        (calls.memory value.old work.old scratch.old)) }
 {
     let answer = call_colour::colour(kind, start, delta, ratio, value, work, scratch);
     coloured_of(answer)
@@ -221,9 +225,9 @@ pub extern "C" fn dresserduck_stretch(
     work: &mut [u16],
     scratch: &mut [f64],
 ) -> Stretched
-    ensures { outcome result (calls.after value work scratch)
-        ≡ for_host stretched_of (calls.stretch_outcome base_settings (chart kind start delta ratio) a b
-        (calls.before value work scratch)) }
+    ensures { outcome result (calls.memory value.new work.new scratch.new)
+        ≡ for_host stretched_of (calls.stretch_outcome base_settings (chart kind.now start.now delta.now ratio.now) a b
+        (calls.memory value.old work.old scratch.old)) }
 {
     let answer = call_colour::stretch(kind, start, delta, ratio, a, b, value, work, scratch);
     stretched_of(answer)
@@ -272,9 +276,9 @@ pub extern "C" fn dresserduck_rhythm(
     work: &mut [u16],
     scratch: &mut [f64],
 ) -> Grouped
-    ensures { outcome result (rhythm.after group pattern work scratch)
-        ≡ for_host grouped_of (rhythm.rhythm_outcome base_settings (chart kind start delta ratio)
-        (rhythm.before group pattern work scratch)) }
+    ensures { outcome result (rhythm.memory group.new pattern.new work.new scratch.new)
+        ≡ for_host grouped_of (rhythm.rhythm_outcome base_settings (chart kind.now start.now delta.now ratio.now)
+        (rhythm.memory group.old pattern.old work.old scratch.old)) }
 {
     let answer = call_rhythm::rhythm(kind, start, delta, ratio, group, pattern, work, scratch);
     grouped_of(answer)
@@ -369,9 +373,10 @@ pub extern "C" fn dresserduck_record(
     work: &mut [u16],
     scratch: &mut [f64],
 ) -> Recorded
-    ensures { outcome result (recording.after work scratch)
-        ≡ for_host recorded_of (recording.record_outcome base_settings (chart kind start delta ratio) group window
-        (recording.before work scratch)) }
+    ensures { outcome result (recording.memory work.new scratch.new)
+        ≡ for_host recorded_of (recording.record_outcome base_settings (chart kind.now start.now delta.now ratio.now)
+        group window
+        (recording.memory work.old scratch.old)) }
 {
     let answer = call_record::record(kind, start, delta, ratio, group, window, work, scratch);
     recorded_of(answer)

@@ -13,10 +13,10 @@ use Rattle.evaluator_colour.specs.Formulas.{hit_value, alt_value, mono_value, ad
 use Rattle.evaluator_colour.specs.RatioPenalty.{lowered, ratio_penalty}
 
 abbrev standing : ℕ → ℕ → ℕ → Bool → Bool → Bool → Standing
-standing interval pattern_place_at streak_place_at streak pattern hit = record {
+standing interval pattern_place streak_place streak pattern hit = record {
   interval = interval;
-  pattern_place = pattern_place_at;
-  streak_place = streak_place_at;
+  pattern_place = pattern_place;
+  streak_place = streak_place;
   streak = streak;
   pattern = pattern;
   hit = hit;

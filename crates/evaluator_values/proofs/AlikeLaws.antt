@@ -26,7 +26,7 @@ pub standing_alike : (limit : ℕ) (kinds : List ℕ) (i : ℕ) (kinds′ : List
     → standing_at limit kinds i ≡ standing_at limit kinds′ i'
 unfolding standing_at
 standing_alike limit kinds i kinds′ i' n q p s a h =
-    same_standing (record { interval = n; pattern_place_at = q; streak_place_at = p; streak = s; pattern = a; hit = h })
+    same_standing (record { interval = n; pattern_place = q; streak_place = p; streak = s; pattern = a; hit = h })
 
 -- from object 4 on the penalty hangs on the two ratios alone
 penalty-late : (tolerance : Float) (i j : ℕ) (c p : Float) → 4 ≤ i → 4 ≤ j → ratio_penalty tolerance i c p ≡ ratio_penalty tolerance j c p

@@ -23,8 +23,8 @@ change_first numbers i x y h p q = rw (ne_eqb i 0 h) (λ t. not (eqb (p t) (q t)
 -- ---- two standings, number by number
 pub record SameStanding (o p : Standing) : Type 0 where
   pub interval : o.interval ≡ p.interval
-  pub pattern_place_at : o.pattern_place ≡ p.pattern_place
-  pub streak_place_at : o.streak_place ≡ p.streak_place
+  pub pattern_place : o.pattern_place ≡ p.pattern_place
+  pub streak_place : o.streak_place ≡ p.streak_place
   pub streak : o.streak ≡ p.streak
   pub pattern : o.pattern ≡ p.pattern
   pub hit : o.hit ≡ p.hit
@@ -32,8 +32,8 @@ pub record SameStanding (o p : Standing) : Type 0 where
 pub same_standing : {o p : Standing} → SameStanding o p → o ≡ p
 same_standing e t = record {
   interval = e.interval t;
-  pattern_place = e.pattern_place_at t;
-  streak_place = e.streak_place_at t;
+  pattern_place = e.pattern_place t;
+  streak_place = e.streak_place t;
   streak = e.streak t;
   pattern = e.pattern t;
   hit = e.hit t;

@@ -1,7 +1,7 @@
 // Each object's value, from the encoder's tables.
+#![tactic(auto)]
 ghost use Rattle.std.specs.Prelude.{◌≡◌, ◌-◌, ◌<◌, ◌≤◌, length, get_or};
 ghost use Rattle.std.specs.Float.{nan};
-ghost use Rattle.lent.specs.Slice.{lent, left};
 ghost use Rattle.lent.specs.Over.{over};
 ghost use Rattle.evaluator_values.specs.Colour.{standing_at, colour_at, colour_values};
 ghost use Rattle.evaluator_values.specs.passes.Tables.{ObjectIn, NumbersAt, Sources};
@@ -20,7 +20,7 @@ pub struct Numbers {
 
 fn numbers_at(kind: &[u8], w: &[u16], k: Levels, idx: ObjectIndex) -> Numbers
     requires { ObjectIn kind.now w.now k idx.0 }
-    ensures { NumbersAt (lent kind) k idx.0 result }
+    ensures { NumbersAt kind.now k idx.0 result }
 {
     let n = kind.len();
     let i = idx.0;
@@ -36,7 +36,7 @@ fn numbers_at(kind: &[u8], w: &[u16], k: Levels, idx: ObjectIndex) -> Numbers
 
 fn standing_at(kind: &[u8], w: &[u16], k: Levels, idx: ObjectIndex) -> Standing
     requires { ObjectIn kind.now w.now k idx.0 }
-    ensures { result ≡ standing_at k.limit (lent kind) idx.0 }
+    ensures { result ≡ standing_at k.limit kind.now idx.0 }
 {
     let n = kind.len();
     let i = idx.0;
@@ -71,7 +71,7 @@ fn standing_at(kind: &[u8], w: &[u16], k: Levels, idx: ObjectIndex) -> Standing
 // The ratio of the object two before. Below object 2 there is none, and the first stands in: the penalty reads none.
 fn earlier_ratio(ratio: &[f64], idx: ObjectIndex) -> f64
     requires { idx.0 < length ratio.now }
-    ensures { result ≡ get_or (lent ratio) (idx.0 - 2) nan }
+    ensures { result ≡ get_or ratio.now (idx.0 - 2) nan }
 {
     let i = idx.0;
     if i < 2 {
@@ -91,7 +91,7 @@ fn value_at(
 ) -> f64
     requires fact_1 { Sources table.now kind.now ratio.now w.now k }
     requires fact_2 { idx.0 < length kind.now }
-    ensures { result ≡ colour_at k.limit tolerance (lent kind) (lent ratio) idx.0 }
+    ensures { result ≡ colour_at k.limit tolerance kind.now ratio.now idx.0 }
 {
     let sum = evaluator_colour::object_sum(table, standing_at(kind, w, k, idx));
     let i = idx.0;
@@ -112,8 +112,8 @@ pub fn fill_values(
 )
     requires fact_1 { Sources table.now kind.now ratio.now w.now k }
     requires fact_2 { length kind.now ≤ length value.old }
-    ensures { left value
-        ≡ over (colour_values k.limit tolerance (lent kind) (lent ratio)) (lent value) }
+    ensures { value.new
+        ≡ over (colour_values k.limit tolerance kind.now ratio.now) value.old }
 {
     let mut i = 0;
     while i < kind.len() {

@@ -59,9 +59,9 @@ plain_chart kinds = record {
 unfoldable pub encode_memory : ℕ → encode.Memory
 encode_memory n = record {
   streak = replicate (n + 1) 77;
-  streak_place_at = replicate (n + 1) 77;
+  streak_place = replicate (n + 1) 77;
   pattern = replicate (n + 1) 77;
-  pattern_place_at = replicate (n + 1) 77;
+  pattern_place = replicate (n + 1) 77;
   hit = replicate (n + 1) 77;
   interval = replicate (n + 1) 77;
   work = replicate (8 * n + 1) 77;
@@ -99,7 +99,7 @@ rhythm_answer (grouping.Refused number place) = number ∷ place.0 ∷ []
 
 unfoldable pub encode_shown : Outcome Encoding encode.Memory → List (List ℕ)
 encode_shown o =
-    encode_answer o.answer ∷ o.memory.streak ∷ o.memory.streak_place_at ∷ o.memory.pattern ∷ o.memory.pattern_place_at
+    encode_answer o.answer ∷ o.memory.streak ∷ o.memory.streak_place ∷ o.memory.pattern ∷ o.memory.pattern_place
     ∷ o.memory.hit ∷ o.memory.interval ∷ o.memory.work ∷ bits_of o.memory.scratch ∷ []
 
 unfoldable pub colour_shown : Outcome Colouring calls.Memory → List (List ℕ)

@@ -1,1 +1,2 @@
 // The scope's starred examples: definitions and a theorem, no code.
+#![tactic(auto)]

@@ -1,7 +1,6 @@
 // Whether all of a chart's objects are good, list by list. No loop here jumps by what it reads, so that several
 // values are tested at a time.
 ghost use Rattle.std.specs.Prelude.{◌≡◌};
-ghost use Rattle.lent.specs.Slice.{lent};
 ghost use Rattle.numeric.specs.Range.{within};
 ghost use Rattle.grouping_chart.specs.Refusal.{kind_good};
 ghost use Rattle.grouping_chart.specs.passes.Good.{all, all_good};
@@ -19,7 +18,7 @@ fn kind_good(kind: u8) -> bool
 }
 
 pub fn kinds_good(kind: &[u8]) -> bool
-    ensures { result ≡ all kind_good (lent kind) }
+    ensures { result ≡ all kind_good kind.now }
 {
     let mut good = true;
     let mut i = 0;
@@ -31,7 +30,7 @@ pub fn kinds_good(kind: &[u8]) -> bool
 }
 
 fn all_within(lo: f64, hi: f64, values: &[f64]) -> bool
-    ensures { result ≡ all (within lo hi) (lent values) }
+    ensures { result ≡ all (within lo hi) values.now }
 {
     let mut good = true;
     let mut i = 0;
@@ -43,7 +42,7 @@ fn all_within(lo: f64, hi: f64, values: &[f64]) -> bool
 }
 
 pub fn all_good(kind: &[u8], start: &[f64], delta: &[f64], ratio: &[f64]) -> bool
-    ensures { result ≡ all_good (lent kind) (lent start) (lent delta) (lent ratio) }
+    ensures { result ≡ all_good kind.now start.now delta.now ratio.now }
 {
     let kinds = kinds_good(kind);
     let starts = all_within(range::EARLIEST, range::LATEST, start);

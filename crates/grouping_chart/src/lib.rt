@@ -1,4 +1,5 @@
 // What a chart is, which charts are refused, and the two counters of an object.
+#![tactic(auto)]
 pub mod good;
 pub mod object;
 pub mod refusal;

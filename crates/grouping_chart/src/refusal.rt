@@ -1,6 +1,5 @@
 // Refusals 1 to 7: of the chart's size and lengths, and object by object.
 ghost use Rattle.std.specs.Prelude.{◌≡◌, length};
-ghost use Rattle.lent.specs.Slice.{lent};
 ghost use Rattle.grouping_chart.specs.Chart.{equally_long, chart};
 ghost use Rattle.grouping_chart.specs.passes.Good.{SameLengths};
 ghost use Rattle.grouping_chart.specs.Refusal.{time_good, ratio_good, object_refusal, first_refused, verdict};
@@ -56,7 +55,7 @@ pub fn object_refusal(kind: u8, start: f64, delta: f64, ratio: f64) -> u8
 // The first object that is refused.
 fn first_refused(kind: &[u8], start: &[f64], delta: &[f64], ratio: &[f64]) -> Verdict
     requires { SameLengths (length kind.now) start.now delta.now ratio.now }
-    ensures { result ≡ first_refused 0 (lent kind) (lent start) (lent delta) (lent ratio) }
+    ensures { result ≡ first_refused 0 kind.now start.now delta.now ratio.now }
 {
     let mut at = ObjectIndex(0);
     while at.0 < kind.len() {
@@ -73,7 +72,7 @@ fn first_refused(kind: &[u8], start: &[f64], delta: &[f64], ratio: &[f64]) -> Ve
 // Most charts are good, which is told without a jump for each object.
 fn check_objects(kind: &[u8], start: &[f64], delta: &[f64], ratio: &[f64]) -> Verdict
     requires { SameLengths (length kind.now) start.now delta.now ratio.now }
-    ensures { result ≡ first_refused 0 (lent kind) (lent start) (lent delta) (lent ratio) }
+    ensures { result ≡ first_refused 0 kind.now start.now delta.now ratio.now }
 {
     if good::all_good(kind, start, delta, ratio) {
         return Verdict::Accepted;
@@ -83,7 +82,7 @@ fn check_objects(kind: &[u8], start: &[f64], delta: &[f64], ratio: &[f64]) -> Ve
 
 // Whether the four slices are of one length.
 fn equally_long(kind: &[u8], start: &[f64], delta: &[f64], ratio: &[f64]) -> bool
-    ensures { result ≡ equally_long (chart kind start delta ratio) }
+    ensures { result ≡ equally_long (chart kind.now start.now delta.now ratio.now) }
 {
     if start.len() != kind.len() {
         return false;
@@ -99,7 +98,7 @@ fn equally_long(kind: &[u8], start: &[f64], delta: &[f64], ratio: &[f64]) -> boo
 
 // Refusals 1 to 7 of a call on a chart; `refusal` is the number of what is refused straight after 2, or 0.
 pub fn check(kind: &[u8], start: &[f64], delta: &[f64], ratio: &[f64], refusal: u8) -> Verdict
-    ensures { result ≡ verdict (chart kind start delta ratio) refusal }
+    ensures { result ≡ verdict (chart kind.now start.now delta.now ratio.now) refusal }
 {
     if 16384 < kind.len() {
         return Verdict::Refused(1, ObjectIndex(0));

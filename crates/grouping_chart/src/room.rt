@@ -1,6 +1,5 @@
 // The verdict on every call: refusals 1 to 7, of which 3, a slice that is too short, is beside the chart.
 ghost use Rattle.std.specs.Prelude.{◌≡◌, length};
-ghost use Rattle.lent.specs.Slice.{lent};
 ghost use Rattle.grouping_chart.specs.Chart.{chart};
 ghost use Rattle.grouping_chart.specs.Refusal.{verdict};
 ghost use Rattle.grouping_chart.specs.Room.{short_refusal};
@@ -37,7 +36,7 @@ pub fn judge(
     scratch: usize,
 ) -> Verdict
     ensures { result
-        ≡ verdict (chart kind start delta ratio) (short_refusal short (length (lent kind)) work scratch) }
+        ≡ verdict (chart kind.now start.now delta.now ratio.now) (short_refusal short (length kind.now) work scratch) }
 {
     let number = short_refusal(short, kind.len(), work, scratch);
     refusal::check(kind, start, delta, ratio, number)

@@ -1,6 +1,5 @@
 // Alternating patterns: which streaks open one, and which patterns are coupled.
 ghost use Rattle.std.specs.Prelude.{◌≡◌, ◌+◌, ◌≤◌, ◌<◌, length};
-ghost use Rattle.lent.specs.Slice.{lent, left};
 ghost use Rattle.lent.specs.Over.{put, part};
 ghost use Rattle.lent.specs.passes.Regions.{Apart, Triple, TripleApart};
 ghost use Rattle.grouping_colour.specs.AlternatingMonoPattern.{opens_pattern, pattern_marks};
@@ -11,7 +10,7 @@ use grouping_marks::alike::alike_at;
 fn opens_pattern(w: &[u16], from: usize, m: usize, i: usize) -> u16
     requires fact_1 { from + m ≤ length w.now }
     requires fact_2 { i < m }
-    ensures { result ≡ opens_pattern (part from m (lent w)) i }
+    ensures { result ≡ opens_pattern (part from m w.now) i }
 {
     if i == 0 {
         return 1;
@@ -22,7 +21,7 @@ fn opens_pattern(w: &[u16], from: usize, m: usize, i: usize) -> u16
 // Marks the streaks that open an alternating pattern, by the m lengths at `from`.
 pub fn mark_patterns(w: &mut [u16], from: usize, m: usize, to: usize)
     requires { Apart w.old from m to }
-    ensures { left w ≡ put to (pattern_marks (part from m (lent w))) (lent w) }
+    ensures { w.new ≡ put to (pattern_marks (part from m w.old)) w.old }
 {
     let mut i = 0;
     while i < m {
@@ -35,7 +34,7 @@ pub fn mark_patterns(w: &mut [u16], from: usize, m: usize, to: usize)
 fn is_coupled(w: &[u16], lengths: usize, counts: usize, types: usize, m: usize, i: usize) -> u16
     requires fact_1 { Triple w.now lengths counts types m }
     requires fact_2 { i < m }
-    ensures { result ≡ coupled_at_in lengths counts types m (lent w) i }
+    ensures { result ≡ coupled_at_in lengths counts types m w.now i }
 {
     if m - i <= 2 {
         return 0;
@@ -50,7 +49,7 @@ fn is_coupled(w: &[u16], lengths: usize, counts: usize, types: usize, m: usize, 
 // Flags the coupled patterns.
 pub fn flag_coupled(w: &mut [u16], lengths: usize, counts: usize, types: usize, m: usize, to: usize)
     requires { TripleApart w.old lengths counts types m to }
-    ensures { left w ≡ put to (coupled_in lengths counts types m (lent w)) (lent w) }
+    ensures { w.new ≡ put to (coupled_in lengths counts types m w.old) w.old }
 {
     let mut i = 0;
     while i < m {

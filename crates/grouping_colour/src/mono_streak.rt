@@ -1,6 +1,5 @@
 // Streaks: which objects open one.
 ghost use Rattle.std.specs.Prelude.{◌≡◌, cond, ◌+◌, ◌≤◌, eqb, length};
-ghost use Rattle.lent.specs.Slice.{lent, left};
 ghost use Rattle.lent.specs.Over.{put};
 ghost use Rattle.grouping_chart.specs.Object.{is_note};
 ghost use Rattle.grouping_colour.specs.MonoStreak.{streak_marks};
@@ -31,7 +30,7 @@ fn last_after(last: u8, k: u8) -> u8
 // Marks the objects that open a streak.
 pub fn mark_streaks(kind: &[u8], w: &mut [u16], to: usize)
     requires { to + length kind.now ≤ length w.old }
-    ensures { left w ≡ put to (streak_marks (lent kind)) (lent w) }
+    ensures { w.new ≡ put to (streak_marks kind.now) w.old }
 {
     let mut at = ObjectIndex(0);
     let mut next = NoteIndex(0);

@@ -1,6 +1,6 @@
 // Hit patterns: which patterns open one, and each hit pattern's repetition interval.
+#![tactic(auto)]
 ghost use Rattle.std.specs.Prelude.{◌≡◌, cond, ◌≤◌, ◌<◌, eqb};
-ghost use Rattle.lent.specs.Slice.{lent, left};
 ghost use Rattle.lent.specs.Over.{put, part};
 ghost use Rattle.lent.specs.passes.Regions.{Room, Pair, PairApart, TripleApart};
 ghost use Rattle.grouping_hits.specs.RepeatingHitPatterns.{hit_marks, second_at, second_lengths};
@@ -28,7 +28,7 @@ fn opens_hit(stage: u16, coupled: u16) -> u16
 // Turns the flags of m coupled patterns into the marks of those that open a hit pattern, in place.
 pub fn mark_hits(w: &mut [u16], at: usize, m: usize)
     requires { Room w.old at m at }
-    ensures { left w ≡ put at (hit_marks (part at m (lent w))) (lent w) }
+    ensures { w.new ≡ put at (hit_marks (part at m w.old)) w.old }
 {
     let mut stage: u16 = 0;
     let mut i = 0;
@@ -50,7 +50,7 @@ fn second_by(mark: u16, length: u16) -> u16
 fn second_at(w: &[u16], lengths: usize, marks: usize, m: usize, i: usize) -> u16
     requires fact_1 { Pair w.now lengths marks m }
     requires fact_2 { i < m }
-    ensures { result ≡ second_at (part lengths m (lent w)) (part marks m (lent w)) i }
+    ensures { result ≡ second_at (part lengths m w.now) (part marks m w.now) i }
 {
     let j = i + 1;
     if j < m {
@@ -64,8 +64,8 @@ fn second_at(w: &[u16], lengths: usize, marks: usize, m: usize, i: usize) -> u16
 // For each pattern the first-streak length of the next one in its hit pattern.
 pub fn second_lengths(w: &mut [u16], lengths: usize, marks: usize, m: usize, to: usize)
     requires { PairApart w.old lengths marks m to }
-    ensures { left w
-        ≡ put to (second_lengths (part lengths m (lent w)) (part marks m (lent w))) (lent w) }
+    ensures { w.new
+        ≡ put to (second_lengths (part lengths m w.old) (part marks m w.old)) w.old }
 {
     if m == 0 {
         return;
@@ -97,7 +97,7 @@ fn take_matches(
     to: usize,
 )
     requires { TripleApart w.old sizes firsts seconds m to }
-    ensures { left w ≡ put to (taken_in k sizes firsts seconds m to (lent w)) (lent w) }
+    ensures { w.new ≡ put to (taken_in k sizes firsts seconds m to w.old) w.old }
 {
     let back = k as usize;
     if m <= back {
@@ -125,8 +125,8 @@ pub fn repetition_intervals(
     requires fact_1 { TripleApart w.old sizes firsts seconds m to }
     requires fact_2 { 1 ≤ limit }
     requires fact_3 { limit < 65535 }
-    ensures { left w
-        ≡ put to (intervals_in limit sizes firsts seconds m (lent w)) (lent w) }
+    ensures { w.new
+        ≡ put to (intervals_in limit sizes firsts seconds m w.old) w.old }
 {
     fill::store_all(w, to, m, limit + 1);
     let mut k = limit;

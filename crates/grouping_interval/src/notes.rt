@@ -1,6 +1,5 @@
 // A chart's notes: their objects and deltas in lent slices, and how many rhythm groups they make.
 ghost use Rattle.std.specs.Prelude.{◌≡◌, length};
-ghost use Rattle.lent.specs.Slice.{lent, left};
 ghost use Rattle.grouping_marks.specs.Marks.{group_count};
 ghost use Rattle.grouping_interval.specs.Notes.{of_notes};
 ghost use Rattle.grouping_interval.specs.IntervalGrouping.{interval_marks};
@@ -14,8 +13,8 @@ use numeric::near::near;
 // Puts each note's object number and delta in front. The result is how many notes there are.
 pub fn list_notes(kind: &[u8], delta: &[f64], objects: &mut [u16], values: &mut [f64]) -> usize
     requires { NotesRoom kind.now delta.now objects.old values.old }
-    ensures { NotesListed (lent kind) (lent delta)
-        (lent objects) (left objects) (lent values) (left values) result }
+    ensures { NotesListed kind.now delta.now
+        objects.old objects.new values.old values.new result }
 {
     let mut note = NoteIndex(0);
     let mut object = ObjectIndex(0);
@@ -121,7 +120,7 @@ fn groups_counted(c: Counting, margin: f64) -> usize
 // How many rhythm groups a chart's notes make. Nothing is written.
 pub fn count_groups(kind: &[u8], delta: &[f64], margin: f64) -> usize
     requires { length delta.now ≡ length kind.now }
-    ensures { result ≡ group_count (interval_marks margin (of_notes (lent kind) (lent delta))) }
+    ensures { result ≡ group_count (interval_marks margin (of_notes kind.now delta.now)) }
 {
     let mut c = Counting {
         notes: 0,

@@ -1,6 +1,5 @@
 // Whether two items are alike, by three regions of one lent slice.
 ghost use Rattle.std.specs.Prelude.{◌≡◌, ◌<◌};
-ghost use Rattle.lent.specs.Slice.{lent};
 ghost use Rattle.lent.specs.Over.{part};
 ghost use Rattle.lent.specs.passes.Regions.{Triple};
 ghost use Rattle.grouping_marks.specs.Alike.{alike_at};
@@ -11,7 +10,7 @@ pub fn alike_at(w: &[u16], x: usize, y: usize, z: usize, m: usize, a: usize, b: 
     requires fact_1 { Triple w.now x y z m }
     requires fact_2 { a < m }
     requires fact_3 { b < m }
-    ensures { result ≡ alike_at (part x m (lent w)) (part y m (lent w)) (part z m (lent w)) a b }
+    ensures { result ≡ alike_at (part x m w.now) (part y m w.now) (part z m w.now) a b }
 {
     let first = w[x + a] == w[x + b];
     let second = w[y + a] == w[y + b];

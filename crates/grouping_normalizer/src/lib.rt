@@ -1,6 +1,6 @@
 // The delta normaliser: what a delta counts as among the deltas of its group.
+#![tactic(auto)]
 ghost use Rattle.std.specs.Prelude.{◌≡◌, ◌<◌, length};
-ghost use Rattle.lent.specs.Slice.{lent, left};
 ghost use Rattle.numeric_sort.specs.Ordered.{AllFinite};
 ghost use Rattle.grouping_normalizer.specs.Normalizer.{alike, holds, middle, middle_of, sets, NormalOf};
 ghost use Rattle.grouping_normalizer.specs.passes.Distinct.{Distinct};
@@ -22,7 +22,7 @@ fn is_alike(a: f64, b: f64) -> bool
 // Puts the distinct values, in total order, in front. The result is how many there are.
 fn distinct_values(values: &mut [f64]) -> usize
     requires { AllFinite values.old }
-    ensures { Distinct (lent values) (left values) result }
+    ensures { Distinct values.old values.new result }
 {
     numeric_sort::sort(values);
     let n = values.len();
@@ -46,7 +46,7 @@ fn distinct_values(values: &mut [f64]) -> usize
 // Where the set that starts at `at` ends: before the first value behind `at` that is not near the one there.
 fn set_end(values: &[f64], margin: f64, at: usize) -> usize
     requires { at < length values.now }
-    ensures { SetEnd margin (lent values) at result }
+    ensures { SetEnd margin values.now at result }
 {
     let mut last = at;
     while last + 1 < values.len() {
@@ -59,7 +59,7 @@ fn set_end(values: &[f64], margin: f64, at: usize) -> usize
 }
 
 fn is_held(values: &[f64], x: f64) -> bool
-    ensures { result ≡ holds x (lent values) }
+    ensures { result ≡ holds x values.now }
 {
     let mut i = 0;
     while i < values.len() {
@@ -74,7 +74,7 @@ fn is_held(values: &[f64], x: f64) -> bool
 // The middle value of a set, or half the sum of the two. The source sorts the set first, which changes nothing of it.
 fn middle_value(set: &[f64]) -> f64
     requires { 0 < length set.now }
-    ensures { result ≡ middle (lent set) }
+    ensures { result ≡ middle set.now }
 {
     let half = set.len() / 2;
     if set.len() % 2 == 1 {
@@ -87,7 +87,7 @@ fn middle_value(set: &[f64]) -> f64
 
 // The middle of the set that holds x, of distinct values in order; x itself where none holds it.
 fn middle_of(values: &[f64], margin: f64, x: f64) -> f64
-    ensures { result ≡ middle_of x (sets margin (lent values)) }
+    ensures { result ≡ middle_of x (sets margin values.now) }
 {
     let mut at = 0;
     while at < values.len() {
@@ -104,7 +104,7 @@ fn middle_of(values: &[f64], margin: f64, x: f64) -> f64
 // What x counts as among the deltas of a group. They are lent to be put in order, the distinct ones in front.
 pub fn normal_of(deltas: &mut [f64], margin: f64, x: f64) -> f64
     requires { AllFinite deltas.old }
-    ensures { NormalOf margin (lent deltas) (left deltas) x result }
+    ensures { NormalOf margin deltas.old deltas.new x result }
 {
     let k = distinct_values(deltas);
     middle_of(&deltas[..k], margin, x)

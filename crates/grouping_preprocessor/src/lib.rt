@@ -1,6 +1,6 @@
 // The encoder: from the kinds to the tables from which each object's six numbers are looked up.
+#![tactic(auto)]
 ghost use Rattle.std.specs.Prelude.{◌≤◌, ◌<◌, length};
-ghost use Rattle.lent.specs.Slice.{lent, left};
 ghost use Rattle.grouping_preprocessor.specs.passes.Steps.{Regions, Streaks, PatternsFound, HitMarksFound};
 ghost use Rattle.grouping_preprocessor.specs.passes.Steps.{HitsFound, Encodes};
 
@@ -18,7 +18,7 @@ pub struct Levels {
 // Streaks: each object's number, their lengths and types; the result is their count.
 fn find_streaks(kind: &[u8], w: &mut [u16]) -> usize
     requires { Regions (length kind.now) w.old }
-    ensures { Streaks (lent kind) (lent w) (left w) result }
+    ensures { Streaks kind.now w.old w.new result }
 {
     let n = kind.len();
     let marks = 7 * n;
@@ -32,7 +32,7 @@ fn find_streaks(kind: &[u8], w: &mut [u16]) -> usize
 fn find_patterns(w: &mut [u16], n: usize, s: usize) -> usize
     requires fact_1 { Regions n w.old }
     requires fact_2 { s ≤ n }
-    ensures { PatternsFound n s (lent w) (left w) result }
+    ensures { PatternsFound n s w.old w.new result }
 {
     let marks = 7 * n;
     let types = 2 * n;
@@ -48,7 +48,7 @@ fn find_patterns(w: &mut [u16], n: usize, s: usize) -> usize
 fn find_hit_marks(w: &mut [u16], n: usize, p: usize)
     requires fact_1 { Regions n w.old }
     requires fact_2 { p ≤ n }
-    ensures { HitMarksFound n p (lent w) (left w) }
+    ensures { HitMarksFound n p w.old w.new }
 {
     let marks = 6 * n;
     alternating_mono_pattern::flag_coupled(w, n, 5 * n, 2 * n, p, marks);
@@ -62,7 +62,7 @@ fn find_hits(w: &mut [u16], n: usize, p: usize, limit: u16) -> usize
     requires fact_2 { p ≤ n }
     requires fact_3 { 1 ≤ limit }
     requires fact_4 { limit < 65535 }
-    ensures { HitsFound limit n p (lent w) (left w) result }
+    ensures { HitsFound limit n p w.old w.new result }
 {
     let marks = 6 * n;
     let sizes = 5 * n;
@@ -82,7 +82,7 @@ pub fn encode_levels(kind: &[u8], w: &mut [u16], limit: u16) -> Levels
     requires fact_1 { Regions (length kind.now) w.old }
     requires fact_2 { 1 ≤ limit }
     requires fact_3 { limit < 65535 }
-    ensures { Encodes limit (lent kind) (lent w) (left w) result }
+    ensures { Encodes limit kind.now w.old w.new result }
 {
     let n = kind.len();
     let s = find_streaks(kind, w);

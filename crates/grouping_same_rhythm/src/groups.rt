@@ -1,7 +1,6 @@
 // Each group's interval.
 ghost use Rattle.std.specs.Prelude.{◌≡◌, ℕ, ◌<◌, length, get_or};
 ghost use Rattle.std.specs.Float.{nan};
-ghost use Rattle.lent.specs.Slice.{lent, left};
 ghost use Rattle.lent.specs.Over.{over};
 ghost use Rattle.grouping_same_rhythm.specs.SameRhythm.{starts_of, between, intervals_of};
 ghost use Rattle.grouping_same_rhythm.specs.passes.Groups.{IntervalsRoom};
@@ -23,7 +22,7 @@ fn start_between(previous: f64, start: f64, margin: f64) -> f64
 fn interval_at(start: &[f64], firsts: &[u16], margin: f64, k: usize) -> f64
     requires { (k < length firsts.now)
         × ((i : ℕ) → i < length firsts.now → get_or firsts.now i 0 < length start.now) }
-    ensures { result ≡ get_or (intervals_of margin (starts_of (lent start) (lent firsts))) k nan }
+    ensures { result ≡ get_or (intervals_of margin (starts_of start.now firsts.now)) k nan }
 {
     if k == 0 {
         return 1.0 / 0.0;
@@ -36,8 +35,8 @@ fn interval_at(start: &[f64], firsts: &[u16], margin: f64, k: usize) -> f64
 // Fills the interval of each group.
 pub fn fill_intervals(start: &[f64], firsts: &[u16], margin: f64, intervals: &mut [f64])
     requires { IntervalsRoom start.now firsts.now intervals.old }
-    ensures { left intervals
-        ≡ over (intervals_of margin (starts_of (lent start) (lent firsts))) (lent intervals) }
+    ensures { intervals.new
+        ≡ over (intervals_of margin (starts_of start.now firsts.now)) intervals.old }
 {
     let mut k = 0;
     while k < firsts.len() {

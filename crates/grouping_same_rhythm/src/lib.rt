@@ -1,4 +1,5 @@
 // Rhythm groups and pattern groups: own intervals, intervals and ratios.
+#![tactic(auto)]
 pub mod groups;
 pub mod own;
 pub mod owns;

@@ -1,6 +1,5 @@
 // A group's own interval: found, snapped to the one before, and set against it.
 ghost use Rattle.std.specs.Prelude.{◌≡◌};
-ghost use Rattle.lent.specs.Slice.{lent, left};
 ghost use Rattle.numeric_sort.specs.Ordered.{AllFinite};
 ghost use Rattle.grouping_same_rhythm.specs.Own.{snapped, ratio_of};
 ghost use Rattle.grouping_same_rhythm.specs.passes.Owns.{Modal};
@@ -19,7 +18,7 @@ pub enum Own {
 // What the second delta counts as in its group, made whole. The lent deltas are left with the distinct ones in front.
 pub fn modal_delta(deltas: &mut [f64], margin: f64) -> Own
     requires { AllFinite deltas.old }
-    ensures { Modal margin (lent deltas) (left deltas) result }
+    ensures { Modal margin deltas.old deltas.new result }
 {
     if deltas.len() < 2 {
         return Own::Absent;

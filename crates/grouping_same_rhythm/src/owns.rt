@@ -1,6 +1,5 @@
 // The own intervals up to one group: of them only the last four are needed at a time.
 ghost use Rattle.std.specs.Prelude.{◌≡◌};
-ghost use Rattle.lent.specs.Slice.{lent, left};
 ghost use Rattle.grouping_same_rhythm.specs.Own.{snapped};
 ghost use Rattle.grouping_same_rhythm.specs.passes.Owns.{recent_with, GroupThere, ReachedIs};
 
@@ -43,7 +42,7 @@ fn further(r: Recent, own: Own, margin: f64) -> Recent
 // Group g. The notes' deltas are lent to be put in order, group by group.
 pub fn reach(deltas: &mut [f64], margin: f64, g: usize) -> Reached
     requires { GroupThere margin deltas.old g }
-    ensures { ReachedIs margin (lent deltas) (left deltas) g result }
+    ensures { ReachedIs margin deltas.old deltas.new g result }
 {
     let mut owns = Recent {
         newest: Own::Absent,

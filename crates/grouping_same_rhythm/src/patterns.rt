@@ -1,6 +1,5 @@
 // Pattern groups: neighbouring groups by their intervals.
 ghost use Rattle.std.specs.Prelude.{◌≡◌, ◌-◌, ◌≤◌, ◌<◌, length};
-ghost use Rattle.lent.specs.Slice.{lent};
 ghost use Rattle.lent.specs.Over.{part};
 ghost use Rattle.grouping_same_rhythm.specs.SamePatterns.{pattern_interval, pattern_of};
 
@@ -16,7 +15,7 @@ pub struct Pattern {
 // The interval of the pattern of the groups from `at` to `end`.
 fn pattern_interval(intervals: &[f64], at: usize, end: usize) -> f64
     requires { (at < end) × (end ≤ length intervals.now) }
-    ensures { result ≡ pattern_interval (part at (end - at) (lent intervals)) }
+    ensures { result ≡ pattern_interval (part at (end - at) intervals.now) }
 {
     if at + 1 < end {
         return intervals[at + 1];
@@ -27,7 +26,7 @@ fn pattern_interval(intervals: &[f64], at: usize, end: usize) -> f64
 // The pattern of group g.
 pub fn pattern_at(intervals: &[f64], margin: f64, g: usize) -> Pattern
     requires { g < length intervals.now }
-    ensures { result ≡ pattern_of margin (lent intervals) g }
+    ensures { result ≡ pattern_of margin intervals.now g }
 {
     let mut number = 0;
     let mut before = 0;

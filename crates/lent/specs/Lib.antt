@@ -1,5 +1,4 @@
 -- The definitions that this crate's promises and laws cite.
-pub mod Slice
 pub mod Over
 pub mod Scan
 pub mod passes

@@ -2,14 +2,13 @@
 ghost use Rattle.std.specs.Prelude.{◌≡◌, ◌+◌, ◌≤◌, length, replicate};
 ghost use Rattle.std.specs.Float.Ieee as Ieee;
 ghost use Rattle.std.specs.Float.{binary64};
-ghost use Rattle.lent.specs.Slice.{lent, left};
 ghost use Rattle.lent.specs.Over.{over, put};
 ghost use Rattle.lent.specs.Scan.{gathered};
 ghost use Rattle.lent.specs.passes.Bounds.{AllBelow};
 
 pub fn copy(src: &[u16], out: &mut [u16])
     requires { length src.now ≤ length out.old }
-    ensures { left out ≡ over (lent src) (lent out) }
+    ensures { out.new ≡ over src.now out.old }
 {
     let mut i = 0;
     while i < src.len() {
@@ -20,7 +19,7 @@ pub fn copy(src: &[u16], out: &mut [u16])
 
 pub fn copy_bytes(src: &[u8], out: &mut [u8])
     requires { length src.now ≤ length out.old }
-    ensures { left out ≡ over (lent src) (lent out) }
+    ensures { out.new ≡ over src.now out.old }
 {
     let mut i = 0;
     while i < src.len() {
@@ -32,7 +31,7 @@ pub fn copy_bytes(src: &[u8], out: &mut [u8])
 // What the table has at each number.
 pub fn gather(table: &[u16], idx: &[u16], out: &mut [u16])
     requires { (length idx.now ≤ length out.old) × AllBelow idx.now (length table.now) }
-    ensures { left out ≡ over (gathered (lent table) (lent idx)) (lent out) }
+    ensures { out.new ≡ over (gathered table.now idx.now) out.old }
 {
     let mut i = 0;
     while i < idx.len() {
@@ -46,7 +45,7 @@ pub fn gather(table: &[u16], idx: &[u16], out: &mut [u16])
 pub fn gather_bytes(table: &[u16], idx: &[u16], out: &mut [u8])
     requires { (length idx.now ≤ length out.old)
         × (AllBelow idx.now (length table.now) × AllBelow table.now 256) }
-    ensures { left out ≡ over (gathered (lent table) (lent idx)) (lent out) }
+    ensures { out.new ≡ over (gathered table.now idx.now) out.old }
 {
     let mut i = 0;
     while i < idx.len() {
@@ -59,7 +58,7 @@ pub fn gather_bytes(table: &[u16], idx: &[u16], out: &mut [u8])
 // Stores v in m places from `to` on.
 pub fn store_all(s: &mut [u16], to: usize, m: usize, v: u16)
     requires { to + m ≤ length s.old }
-    ensures { left s ≡ put to (replicate m v) (lent s) }
+    ensures { s.new ≡ put to (replicate m v) s.old }
 {
     let mut i = 0;
     while i < m {
@@ -71,7 +70,7 @@ pub fn store_all(s: &mut [u16], to: usize, m: usize, v: u16)
 // Sets the first n places to 0.
 pub fn clear(s: &mut [u16], n: usize)
     requires { n ≤ length s.old }
-    ensures { left s ≡ over (replicate n 0) (lent s) }
+    ensures { s.new ≡ over (replicate n 0) s.old }
 {
     store_all(s, 0, n, 0);
 }
@@ -79,7 +78,7 @@ pub fn clear(s: &mut [u16], n: usize)
 // Sets the first n places to +0.0.
 pub fn clear_floats(s: &mut [f64], n: usize)
     requires { n ≤ length s.old }
-    ensures { left s ≡ over (replicate n (Ieee.of_bits binary64 0)) (lent s) }
+    ensures { s.new ≡ over (replicate n (Ieee.of_bits binary64 0)) s.old }
 {
     let mut i = 0;
     while i < n {

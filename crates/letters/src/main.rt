@@ -1,4 +1,5 @@
 // Reads letters from standard input and prints a line for each hit pattern, or what is wrong with the input.
+#![tactic(auto)]
 use letters_answer::{INPUT_BYTES, OUTPUT_BYTES};
 use libc::{STDIN_FILENO, STDOUT_FILENO};
 

@@ -43,7 +43,7 @@ columns_fit kinds room x = record {
 abbrev lent : List ℕ → Memory → Columns
 lent kinds new =
     let n = length kinds in
-    columns_of (λ (xs : List ℕ). xs) kinds (take n new.streak) (take n new.pattern) (take n new.hit) (take n new.interval)
+    columns_of kinds (take n new.streak) (take n new.pattern) (take n new.hit) (take n new.interval)
 
 module _ (kinds : List ℕ) (old : Memory) {new : Memory} (x : new ≡ encoded_kinds base_settings.limit kinds old) where
   lent-columns : columns kinds ≡ lent kinds new

@@ -1,6 +1,6 @@
 // Everything that the letters program does but writing its output.
+#![tactic(auto)]
 ghost use Rattle.std.specs.Prelude.{length};
-ghost use Rattle.lent.specs.Slice.{lent, left};
 ghost use Rattle.letters_text.specs.Lines.{lines, Written};
 ghost use Rattle.letters_answer.specs.Output.{columns, letters_output, InputAnswered};
 ghost use Rattle.letters_answer.specs.passes.Room.{LettersRoom};
@@ -16,7 +16,7 @@ pub const OUTPUT_BYTES: usize = 5120;
 // The lines of a text of letters, by the kinds of its letters.
 fn answer_letters(kinds: &[u8], out: &mut [u8]) -> usize
     requires { LettersRoom (length kinds.now) (length out.old) }
-    ensures { Written (lines (columns (lent kinds))) (lent out) (left out) result }
+    ensures { Written (lines (columns kinds.now)) out.old out.new result }
 {
     let n = kinds.len();
     let mut streak = [0u16; 1024];
@@ -49,7 +49,7 @@ fn answer_letters(kinds: &[u8], out: &mut [u8]) -> usize
 
 // The text to print for a whole text stands in the first places of `out`. The result is its length.
 fn answer(text: &[u8], out: &mut [u8; OUTPUT_BYTES]) -> usize
-    ensures { Written (letters_output (lent text)) (lent out) (left out) result }
+    ensures { Written (letters_output text.now) out.old out.new result }
 {
     let mut kinds = [0u8; 1024];
     match letters_text::read_letters(text, &mut kinds) {
@@ -62,7 +62,7 @@ fn answer(text: &[u8], out: &mut [u8; OUTPUT_BYTES]) -> usize
 // Reads the input, as much of it as tells all, and answers it as `answer` does.
 // How many bytes there were to read no promise can say: tests/letters sees that none was passed over.
 pub fn answer_input(fd: i32, input: &mut [u8; INPUT_BYTES], out: &mut [u8; OUTPUT_BYTES]) -> usize
-    ensures { InputAnswered (left input) (lent out) (left out) result }
+    ensures { InputAnswered input.new out.old out.new result }
 {
     let n = io::read_full(fd, input);
     let text: &[u8] = input;

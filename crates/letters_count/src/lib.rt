@@ -1,7 +1,7 @@
 // The count behind a letter or a bracket, and what it does: the objects of that item stand so many times.
+#![tactic(auto)]
 ghost use Rattle.std.specs.Prelude.{◌≡◌, ◌+◌, ◌-◌, ◌*◌, ◌≤◌, length, take};
 ghost use Rattle.lent.specs.Over.{put, part};
-ghost use Rattle.lent.specs.Slice.{lent, left};
 ghost use Rattle.letters_grammar.specs.Reading.{repeated};
 ghost use Rattle.letters_count.specs.passes.Counts.{Room, CountRead, digit_at, count_at, Repeating};
 
@@ -39,7 +39,7 @@ fn wide(b: u8) -> usize
 
 // The digit at a place, or 10 where none is there.
 fn digit_at(s: &[u8], at: usize) -> usize
-    ensures { result ≡ digit_at (lent s) at }
+    ensures { result ≡ digit_at s.now at }
 {
     if s.len() <= at {
         return 10;
@@ -54,7 +54,7 @@ fn digit_at(s: &[u8], at: usize) -> usize
 // The count at a place: a first digit is no 0, and a lone one is no 1.
 fn count_at(s: &[u8], at: usize) -> Times
     requires { at ≤ length s.now }
-    ensures { result ≡ count_at (lent s) at }
+    ensures { result ≡ count_at s.now at }
 {
     let a = digit_at(s, at);
     if 10 <= a {
@@ -76,7 +76,7 @@ fn count_at(s: &[u8], at: usize) -> Times
 // A count, or none, for the objects from `start` on.
 pub fn counted(s: &[u8], kinds: &mut [u8], c: Cursor, start: usize) -> Read
     requires { Room s.now kinds.old c × (start ≤ c.count) }
-    ensures { CountRead (lent s) (lent kinds) (left kinds) c start result }
+    ensures { CountRead s.now kinds.old kinds.new c start result }
 {
     let at = c.at;
     let end = c.count;
@@ -101,7 +101,7 @@ pub fn counted(s: &[u8], kinds: &mut [u8], c: Cursor, start: usize) -> Read
 // The objects from `start` to `end` stand n times from `start` on.
 fn repeat(kinds: &mut [u8], start: usize, end: usize, n: usize)
     requires { Repeating start end n (length kinds.old) }
-    ensures { take (start + n * (end - start)) (left kinds) ≡ repeated n start (take end (lent kinds)) }
+    ensures { take (start + n * (end - start)) kinds.new ≡ repeated n start (take end kinds.old) }
 {
     let size = end - start;
     let mut k = 1;
@@ -116,7 +116,7 @@ fn repeat(kinds: &mut [u8], start: usize, end: usize, n: usize)
 
 fn copy_block(kinds: &mut [u8], start: usize, size: usize, to: usize)
     requires { (start + size ≤ to) × (to + size ≤ length kinds.old) }
-    ensures { left kinds ≡ put to (part start size (lent kinds)) (lent kinds) }
+    ensures { kinds.new ≡ put to (part start size kinds.old) kinds.old }
 {
     let mut i = 0;
     while i < size {

@@ -1,5 +1,5 @@
 // Reads drills in shorthand: what an input is, and the kinds of a good text's objects.
-ghost use Rattle.lent.specs.Slice.{lent, left};
+#![tactic(auto)]
 ghost use Rattle.letters_shorthand.specs.Input.{trimmed, ReadText};
 ghost use Rattle.letters_shorthand.specs.passes.Readers.{Front};
 
@@ -22,7 +22,7 @@ pub enum Reading {
 
 // The text's length without one line feed at its end.
 fn trimmed_length(s: &[u8]) -> usize
-    ensures { Front (lent s) (trimmed (lent s)) result }
+    ensures { Front s.now (trimmed s.now) result }
 {
     let n = s.len();
     if n == 0 {
@@ -37,7 +37,7 @@ fn trimmed_length(s: &[u8]) -> usize
 
 // What was read: the kinds' front holds the objects of a good text; else the kinds are left as they are.
 pub fn read_input(s: &[u8], kinds: &mut [u8; MOST_OBJECTS]) -> Reading
-    ensures { ReadText (trimmed (lent s)) (lent kinds) (left kinds) result }
+    ensures { ReadText (trimmed s.now) kinds.old kinds.new result }
 {
     let n = trimmed_length(s);
     if MOST_BYTES < n {

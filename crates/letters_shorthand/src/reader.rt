@@ -1,6 +1,5 @@
 // The readers of a text: a sequence reads items, an item may be a bracket, and a bracket holds an item and a sequence.
 ghost use Rattle.std.specs.Prelude.{◌≡◌, [], ◌∷◌, ℕ, ◌≤◌, length};
-ghost use Rattle.lent.specs.Slice.{lent, left};
 ghost use Rattle.letters_grammar.specs.Letters.{opening_byte, kind_of, exchanged_if};
 ghost use Rattle.letters_grammar.specs.Reading.{most_objects};
 ghost use Rattle.letters_count.specs.passes.Counts.{Room};
@@ -16,7 +15,7 @@ const MOST_BRACKETS: usize = 16;
 #[cycle(bracket_item_sequence)]
 fn sequence(s: &[u8], kinds: &mut [u8], c: Cursor, depth: usize, swapped: bool) -> Read
     requires { Room s.now kinds.old c }
-    ensures { SequenceRead (lent s) (lent kinds) (left kinds) c depth swapped result }
+    ensures { SequenceRead s.now kinds.old kinds.new c depth swapped result }
 {
     let at = c.at;
     if s.len() <= at {
@@ -36,7 +35,7 @@ fn sequence(s: &[u8], kinds: &mut [u8], c: Cursor, depth: usize, swapped: bool) 
 #[cycle(bracket_item_sequence)]
 fn item(s: &[u8], kinds: &mut [u8], c: Cursor, depth: usize, swapped: bool) -> Read
     requires { Room s.now kinds.old c }
-    ensures { ItemRead (lent s) (lent kinds) (left kinds) c depth swapped result }
+    ensures { ItemRead s.now kinds.old kinds.new c depth swapped result }
 {
     let at = c.at;
     if s.len() <= at {
@@ -61,7 +60,7 @@ fn item(s: &[u8], kinds: &mut [u8], c: Cursor, depth: usize, swapped: bool) -> R
 #[cycle(bracket_item_sequence)]
 fn bracket(s: &[u8], kinds: &mut [u8], c: Cursor, depth: usize, swapped: bool) -> Read
     requires { Room s.now kinds.old c × AtByte s.now c opening_byte }
-    ensures { ItemRead (lent s) (lent kinds) (left kinds) c depth swapped result }
+    ensures { ItemRead s.now kinds.old kinds.new c depth swapped result }
 {
     let at = c.at;
     let start = c.count;
@@ -94,7 +93,7 @@ fn bracket(s: &[u8], kinds: &mut [u8], c: Cursor, depth: usize, swapped: bool) -
 // A letter, and a count or none.
 fn letter(s: &[u8], kinds: &mut [u8], c: Cursor, swapped: bool) -> Read
     requires { Room s.now kinds.old c × AtLetter s.now c }
-    ensures { (depth : ℕ) → ItemRead (lent s) (lent kinds) (left kinds) c depth swapped result }
+    ensures { (depth : ℕ) → ItemRead s.now kinds.old kinds.new c depth swapped result }
 {
     let at = c.at;
     let n = c.count;
@@ -123,7 +122,7 @@ fn kind_of(b: u8, swapped: bool) -> u8
 // A whole text. Where it is good its objects are the kinds' front.
 pub fn read_text(t: &[u8], kinds: &mut [u8]) -> Read
     requires { most_objects ≤ length kinds.old }
-    ensures { TextRead (lent t) (left kinds) result }
+    ensures { TextRead t.now kinds.new result }
 {
     match sequence(t, kinds, Cursor { at: 0, count: 0 }, 0, false) {
         Read::Refused(number, place) => Read::Refused(number, place),

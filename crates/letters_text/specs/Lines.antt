@@ -53,14 +53,14 @@ pub record Columns : Type 0 where
   pub hits : List ℕ
   pub intervals : List ℕ
 
--- the columns that are made of five slices, by how one of them is read
-abbrev pub columns_of : {S : Type 0} → (S → List ℕ) → S → S → S → S → S → Columns
-columns_of read kinds streaks patterns hits intervals = record {
-  kinds = read kinds;
-  streaks = read streaks;
-  patterns = read patterns;
-  hits = read hits;
-  intervals = read intervals;
+-- the columns that are made of five lists
+abbrev pub columns_of : List ℕ → List ℕ → List ℕ → List ℕ → List ℕ → Columns
+columns_of kinds streaks patterns hits intervals = record {
+  kinds = kinds;
+  streaks = streaks;
+  patterns = patterns;
+  hits = hits;
+  intervals = intervals;
 }
 
 unfoldable pub object_at : Columns → ℕ → Object

@@ -1,6 +1,6 @@
 // The letters program's work on lent slices, all but the encoding: what the text read is, and the text to print.
+#![tactic(auto)]
 ghost use Rattle.std.specs.Prelude.{◌≡◌, [], ◌∷◌, ◌+◌, ◌≤◌, ◌<◌, length};
-ghost use Rattle.lent.specs.Slice.{lent, left};
 ghost use Rattle.lent.specs.Over.{over};
 ghost use Rattle.letters_text.specs.Letters.{trimmed, is_letter, kind_of, letter_of, kinds_of, first_bad, ReadText};
 ghost use Rattle.letters_text.specs.Decimal.{digit_at, decimal};
@@ -28,7 +28,7 @@ pub struct Object {
 
 // The text's length without one line feed at its end.
 fn trimmed_length(s: &[u8]) -> usize
-    ensures { Front (lent s) (trimmed (lent s)) result }
+    ensures { Front s.now (trimmed s.now) result }
 {
     let n = s.len();
     if n == 0 {
@@ -72,7 +72,7 @@ fn letter_of(kind: u8) -> u8
 
 // The place of the first byte that is no letter, or the length.
 fn first_bad(t: &[u8]) -> usize
-    ensures { result ≡ first_bad (lent t) }
+    ensures { result ≡ first_bad t.now }
 {
     let mut place = 0;
     while place < t.len() {
@@ -88,7 +88,7 @@ fn first_bad(t: &[u8]) -> usize
 
 fn fill_kinds(t: &[u8], kinds: &mut [u8])
     requires { length t.now ≤ length kinds.old }
-    ensures { left kinds ≡ over (kinds_of (lent t)) (lent kinds) }
+    ensures { kinds.new ≡ over (kinds_of t.now) kinds.old }
 {
     let mut i = 0;
     while i < t.len() {
@@ -100,7 +100,7 @@ fn fill_kinds(t: &[u8], kinds: &mut [u8])
 
 fn read_text(t: &[u8], kinds: &mut [u8]) -> Reading
     requires { 1024 ≤ length kinds.old }
-    ensures { ReadText (lent t) (lent kinds) (left kinds) result }
+    ensures { ReadText t.now kinds.old kinds.new result }
 {
     let n = t.len();
     if 1024 < n {
@@ -117,7 +117,7 @@ fn read_text(t: &[u8], kinds: &mut [u8]) -> Reading
 // What was read: the kinds are filled where it is letters, else left as they are.
 pub fn read_letters(s: &[u8], kinds: &mut [u8]) -> Reading
     requires { 1024 ≤ length kinds.old }
-    ensures { ReadText (trimmed (lent s)) (lent kinds) (left kinds) result }
+    ensures { ReadText (trimmed s.now) kinds.old kinds.new result }
 {
     let n = trimmed_length(s);
     read_text(&s[..n], kinds)
@@ -126,7 +126,7 @@ pub fn read_letters(s: &[u8], kinds: &mut [u8]) -> Reading
 // Each `put_` function writes a text from place `at` on and returns the place after it.
 fn put_byte(out: &mut [u8], at: usize, b: u8) -> usize
     requires { at < length out.old }
-    ensures { Wrote (b ∷ []) at (lent out) (left out) result }
+    ensures { Wrote (b ∷ []) at out.old out.new result }
 {
     out[at] = b;
     at + 1
@@ -134,7 +134,7 @@ fn put_byte(out: &mut [u8], at: usize, b: u8) -> usize
 
 fn put_word(out: &mut [u8], at: usize, word: &[u8]) -> usize
     requires { at + length word.now ≤ length out.old }
-    ensures { Wrote (lent word) at (lent out) (left out) result }
+    ensures { Wrote word.now at out.old out.new result }
 {
     let n = word.len();
     let mut i = 0;
@@ -148,7 +148,7 @@ fn put_word(out: &mut [u8], at: usize, word: &[u8]) -> usize
 // The digit at the place worth `worth`, where n reaches it.
 fn put_digit(out: &mut [u8], at: usize, n: usize, worth: usize) -> usize
     requires { (0 < worth) × (at + length (digit_at n worth) ≤ length out.old) }
-    ensures { Wrote (digit_at n worth) at (lent out) (left out) result }
+    ensures { Wrote (digit_at n worth) at out.old out.new result }
 {
     if n < worth {
         return at;
@@ -159,7 +159,7 @@ fn put_digit(out: &mut [u8], at: usize, n: usize, worth: usize) -> usize
 // In decimal.
 fn put_number(out: &mut [u8], at: usize, n: usize) -> usize
     requires { at + length (decimal n) ≤ length out.old }
-    ensures { Wrote (decimal n) at (lent out) (left out) result }
+    ensures { Wrote (decimal n) at out.old out.new result }
 {
     let a = put_digit(out, at, n, 1000);
     let b = put_digit(out, a, n, 100);
@@ -170,7 +170,7 @@ fn put_number(out: &mut [u8], at: usize, n: usize) -> usize
 // The head of the line that o opens.
 fn put_head(out: &mut [u8], at: usize, o: Object) -> usize
     requires { at + length (line_head o) ≤ length out.old }
-    ensures { Wrote (line_head o) at (lent out) (left out) result }
+    ensures { Wrote (line_head o) at out.old out.new result }
 {
     let to = put_number(out, at, o.interval as usize);
     put_byte(out, to, b' ')
@@ -179,7 +179,7 @@ fn put_head(out: &mut [u8], at: usize, o: Object) -> usize
 // What stands between the letters of two neighbours.
 fn put_parting(out: &mut [u8], at: usize, p: Object, o: Object) -> usize
     requires { at + length (parting p o) ≤ length out.old }
-    ensures { Wrote (parting p o) at (lent out) (left out) result }
+    ensures { Wrote (parting p o) at out.old out.new result }
 {
     if o.hit != p.hit {
         let to = put_byte(out, at, b'\n');
@@ -197,7 +197,7 @@ fn put_parting(out: &mut [u8], at: usize, p: Object, o: Object) -> usize
 // The first object's letter, with the head of its line.
 fn put_first(out: &mut [u8], o: Object) -> usize
     requires { length (first_letter o) ≤ length out.old }
-    ensures { Wrote (first_letter o) 0 (lent out) (left out) result }
+    ensures { Wrote (first_letter o) 0 out.old out.new result }
 {
     let to = put_head(out, 0, o);
     put_byte(out, to, letter_of(o.kind))
@@ -206,7 +206,7 @@ fn put_first(out: &mut [u8], o: Object) -> usize
 // The letter of o, with what parts it from p's.
 fn put_next(out: &mut [u8], at: usize, p: Object, o: Object) -> usize
     requires { at + length (next_letter p o) ≤ length out.old }
-    ensures { Wrote (next_letter p o) at (lent out) (left out) result }
+    ensures { Wrote (next_letter p o) at out.old out.new result }
 {
     let to = put_parting(out, at, p, o);
     put_byte(out, to, letter_of(o.kind))
@@ -221,8 +221,8 @@ fn object_at(
     i: usize,
 ) -> Object
     requires { (i < length kinds.now)
-        × OneLength (columns_of (λ x. x.now) kinds streak pattern hit interval) }
-    ensures { result ≡ object_at (columns_of lent kinds streak pattern hit interval) i }
+        × OneLength (columns_of kinds.now streak.now pattern.now hit.now interval.now) }
+    ensures { result ≡ object_at (columns_of kinds.now streak.now pattern.now hit.now interval.now) i }
 {
     Object {
         kind: kinds[i],
@@ -242,8 +242,9 @@ pub fn write_lines(
     interval: &[u8],
     out: &mut [u8],
 ) -> usize
-    requires { LinesFit (columns_of (λ x. x.now) kinds streak pattern hit interval) (length out.old) }
-    ensures { Written (lines (columns_of lent kinds streak pattern hit interval)) (lent out) (left out) result }
+    requires { LinesFit (columns_of kinds.now streak.now pattern.now hit.now interval.now) (length out.old) }
+    ensures { Written (lines (columns_of kinds.now streak.now pattern.now hit.now interval.now)) out.old out.new
+        result }
 {
     let n = kinds.len();
     if n == 0 {
@@ -264,7 +265,7 @@ pub fn write_lines(
 // `bad P`, where P is the place of the first byte that is no letter.
 pub fn write_bad(place: usize, out: &mut [u8]) -> usize
     requires { (place < 10000) × (9 ≤ length out.old) }
-    ensures { Written (bad_line place) (lent out) (left out) result }
+    ensures { Written (bad_line place) out.old out.new result }
 {
     let to = put_word(out, 0, b"bad ");
     let end = put_number(out, to, place);
@@ -274,7 +275,7 @@ pub fn write_bad(place: usize, out: &mut [u8]) -> usize
 // `long`, for a text of over 1,024 bytes.
 pub fn write_long(out: &mut [u8]) -> usize
     requires { 5 ≤ length out.old }
-    ensures { Written long_line (lent out) (left out) result }
+    ensures { Written long_line out.old out.new result }
 {
     put_word(out, 0, b"long\n")
 }

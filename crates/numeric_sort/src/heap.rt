@@ -1,6 +1,5 @@
 // Heap sort by the total order: in place, in m log m steps.
 ghost use Rattle.std.specs.Prelude.{◌≡◌};
-ghost use Rattle.lent.specs.Slice.{lent, left};
 ghost use Rattle.numeric_sort.specs.Ordered.{ordered, AllFinite};
 ghost use Rattle.numeric_sort.specs.passes.Heap.{swapped, Two, Parent, LaterChild, Sinkable, Sunk, Heaped};
 
@@ -8,7 +7,7 @@ use numeric::order::total_order;
 
 pub fn swap(values: &mut [f64], i: usize, j: usize)
     requires { Two values.old i j }
-    ensures { left values ≡ swapped i j (lent values) }
+    ensures { values.new ≡ swapped i j values.old }
 {
     let x = values[i];
     values[i] = values[j];
@@ -18,7 +17,7 @@ pub fn swap(values: &mut [f64], i: usize, j: usize)
 // Of the two children of a place, the one that is not before the other; the first, where there is one only.
 fn later_child(values: &[f64], at: usize, end: usize) -> usize
     requires { Parent values.now at end }
-    ensures { LaterChild (lent values) at end result }
+    ensures { LaterChild values.now at end result }
 {
     let left = 2 * at + 1;
     if left + 1 < end {
@@ -32,7 +31,7 @@ fn later_child(values: &[f64], at: usize, end: usize) -> usize
 // Lets the value at `root` sink below every later value of the heap in the first `end` places.
 fn sink(values: &mut [f64], root: usize, end: usize)
     requires { Sinkable values.old root end }
-    ensures { Sunk (lent values) (left values) root end }
+    ensures { Sunk values.old values.new root end }
 {
     let mut at = root;
     while 2 * at + 1 < end {
@@ -48,7 +47,7 @@ fn sink(values: &mut [f64], root: usize, end: usize)
 // Makes all a heap: no value is before one of its children.
 fn heapify(values: &mut [f64])
     requires { AllFinite values.old }
-    ensures { Heaped (lent values) (left values) }
+    ensures { Heaped values.old values.new }
 {
     let n = values.len();
     let mut root = n / 2;
@@ -61,7 +60,7 @@ fn heapify(values: &mut [f64])
 // Puts the values in total order.
 pub fn heap_sort(values: &mut [f64])
     requires { AllFinite values.old }
-    ensures { left values ≡ ordered (lent values) }
+    ensures { values.new ≡ ordered values.old }
 {
     heapify(values);
     let mut end = values.len();

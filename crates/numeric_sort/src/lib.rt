@@ -1,6 +1,6 @@
 // Sorting by the total order, in linear time where the values rise or fall already.
+#![tactic(auto)]
 ghost use Rattle.std.specs.Prelude.{◌≡◌, length};
-ghost use Rattle.lent.specs.Slice.{lent, left};
 ghost use Rattle.numeric_sort.specs.passes.Heap.{Shuffled};
 ghost use Rattle.numeric_sort.specs.Ordered.{ordered, AllFinite};
 ghost use Rattle.numeric_sort.specs.passes.Sort.{rising, falling};
@@ -12,7 +12,7 @@ pub mod heap;
 
 // Whether each value stands at or before the next one.
 fn is_rising(values: &[f64]) -> bool
-    ensures { result ≡ rising (lent values) }
+    ensures { result ≡ rising values.now }
 {
     let mut i = 0;
     while i + 1 < values.len() {
@@ -26,7 +26,7 @@ fn is_rising(values: &[f64]) -> bool
 
 // Whether each value stands behind the next one. Of other values the first pairs mostly tell.
 fn is_falling(values: &[f64]) -> bool
-    ensures { result ≡ falling (lent values) }
+    ensures { result ≡ falling values.now }
 {
     let mut i = 0;
     while i + 1 < values.len() {
@@ -40,7 +40,7 @@ fn is_falling(values: &[f64]) -> bool
 
 // Turns the values round, by exchanges.
 fn reverse(values: &mut [f64])
-    ensures { Shuffled (length (lent values)) (lent values) (left values) }
+    ensures { Shuffled (length values.old) values.old values.new }
 {
     let n = values.len();
     let mut i = 0;
@@ -52,7 +52,7 @@ fn reverse(values: &mut [f64])
 
 // Turns falling values round: they rise then.
 fn turn_if_falling(values: &mut [f64])
-    ensures { Shuffled (length (lent values)) (lent values) (left values) }
+    ensures { Shuffled (length values.old) values.old values.new }
 {
     if is_falling(values) {
         reverse(values);
@@ -62,7 +62,7 @@ fn turn_if_falling(values: &mut [f64])
 // Puts the values in total order.
 pub fn sort(values: &mut [f64])
     requires { AllFinite values.old }
-    ensures { left values ≡ ordered (lent values) }
+    ensures { values.new ≡ ordered values.old }
 {
     turn_if_falling(values);
     if is_rising(values) {

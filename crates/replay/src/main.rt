@@ -2,6 +2,7 @@
 // data/build, data/encode, data/colour and data/rhythm, compares all that it hands back, and prints how many cases
 // there are and how many differ.
 // What is counted `replay` promises. Of what is printed no promise can speak: tests/replay sees that it is the count.
+#![tactic(auto)]
 ghost use Rattle.replay_read.specs.Read.{FileRead};
 
 use libc::STDOUT_FILENO;

@@ -1,6 +1,6 @@
 // The stored cases of all calls: what follows a head in a file, and whether a case holds, whichever call it is of.
+#![tactic(auto)]
 ghost use Rattle.std.specs.Prelude.{◌≡◌, ◌≤◌};
-ghost use Rattle.lent.specs.Slice.{lent};
 ghost use Rattle.vectors.specs.Held.{Tells};
 ghost use Rattle.replay_cases.specs.Cases.{follows_in, ChartHolds, PartHolds};
 
@@ -38,7 +38,7 @@ pub fn follows(call: u8, h: Head) -> Next
 // Whether a case with a chart of its own, or with what one is built of, holds, in slices with so many places to spare.
 pub fn chart_holds(h: Head, body: &[u8], spare: usize) -> bool
     requires { spare ≤ 7 }
-    ensures { Tells result (ChartHolds h (lent body) spare) }
+    ensures { Tells result (ChartHolds h body.now spare) }
 {
     if h.call == BUILD {
         return cases_build::holds(h, body, spare);
@@ -55,7 +55,7 @@ pub fn chart_holds(h: Head, body: &[u8], spare: usize) -> bool
 // Whether a case on the chart of another one holds.
 pub fn part_holds(chart: Head, body: &[u8], h: Head, part: &[u8], spare: usize) -> bool
     requires { spare ≤ 7 }
-    ensures { Tells result (PartHolds chart (lent body) h (lent part) spare) }
+    ensures { Tells result (PartHolds chart body.now h part.now spare) }
 {
     if h.call == STRETCH {
         return cases_colour::stretch_holds(chart, body, h, part, spare);

@@ -2,8 +2,8 @@
 // What a file holds no promise can say, so each promise is over the bytes that were read, which stand in lent slices:
 // what is counted is what the definitions say of these bytes. Nor can it say that there were bytes to read: `End`, and
 // `Broken`, which counts as a difference, are allowed at any time. How many cases were read, the program prints.
+#![tactic(auto)]
 ghost use Rattle.std.specs.Prelude.{◌≤◌};
-ghost use Rattle.lent.specs.Slice.{lent, left};
 ghost use Rattle.replay_read.specs.Read.{ChartRead, PartRead, CaseRead, FileRead};
 
 use replay_cases::count::{Replay, Replayed};
@@ -13,7 +13,7 @@ use vectors::case::Head;
 // Reads the body of a case with a chart of its own, and replays it.
 fn chart_case(fd: i32, spare: usize, h: Head, body: &mut [u8]) -> Replayed
     requires { spare ≤ 7 }
-    ensures { ChartRead h spare (left body) result }
+    ensures { ChartRead h spare body.new result }
 {
     let size = h.size;
     if body.len() < size {
@@ -29,7 +29,7 @@ fn chart_case(fd: i32, spare: usize, h: Head, body: &mut [u8]) -> Replayed
 // Reads a case on the chart whose body is at hand, and replays it.
 fn part_case(fd: i32, spare: usize, chart: Head, body: &[u8], h: Head, part: &mut [u8]) -> Replayed
     requires { spare ≤ 7 }
-    ensures { PartRead chart (lent body) h spare (left part) result }
+    ensures { PartRead chart body.now h spare part.new result }
 {
     let size = h.size;
     let whole = chart.size;
@@ -55,7 +55,7 @@ fn next_case(
     body: &mut [u8],
     part: &mut [u8],
 ) -> Replayed
-    ensures { CaseRead call r (left head) (lent body) (left body) (left part) result }
+    ensures { CaseRead call r head.new body.old body.new part.new result }
 {
     let got = io::read_full(fd, head);
     if got == 0 {

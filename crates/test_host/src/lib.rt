@@ -1,8 +1,8 @@
 // `numeric`, `group_by_interval` and the normaliser under C names, for tests alone.
+#![tactic(auto)]
 ghost use Rattle.std.specs.Prelude.{◌≡◌};
 ghost use Rattle.std.specs.Float.Ieee as Ieee;
 ghost use Rattle.std.specs.Float.{binary64};
-ghost use Rattle.lent.specs.Slice.{lent, left};
 ghost use Rattle.numeric.specs.Near.{is_near};
 ghost use Rattle.numeric.specs.TotalOrder.{total_order};
 ghost use Rattle.numeric.specs.RoundTiesEven.{round_ties_even};
@@ -71,7 +71,7 @@ pub extern "C" fn grouping_group_by_interval(
     group: &mut [u16],
 ) -> usize
     requires { ValuesRoom values.now group.old }
-    ensures { GroupedByInterval margin (lent values) (lent group) (left group) result }
+    ensures { GroupedByInterval margin values.now group.old group.new result }
 {
     grouping_interval::group_by_interval(values, margin, group)
 }
@@ -79,7 +79,7 @@ pub extern "C" fn grouping_group_by_interval(
 #[unsafe(no_mangle)]
 pub extern "C" fn grouping_normal_of(deltas: &mut [f64], margin: f64, x: f64) -> f64
     requires { AllFinite deltas.old }
-    ensures { NormalOf margin (lent deltas) (left deltas) x result }
+    ensures { NormalOf margin deltas.old deltas.new x result }
 {
     grouping_normalizer::normal_of(deltas, margin, x)
 }

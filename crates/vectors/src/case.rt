@@ -2,7 +2,6 @@
 ghost use Rattle.std.specs.Prelude.{◌≡◌, ◌+◌, ◌*◌, ◌^◌, ◌<◌, ◌≤◌, get_or};
 ghost use Rattle.std.specs.Float.Ieee as Ieee;
 ghost use Rattle.std.specs.Float.{binary64};
-ghost use Rattle.lent.specs.Slice.{lent};
 ghost use Rattle.grouping_chart.specs.Chart.{largest};
 ghost use Rattle.vectors.specs.Case.{pair, pair_at, column_size, number_at, quad_at, word_at, head_of};
 
@@ -17,7 +16,7 @@ pub struct Head {
 
 // The byte at a place, 0 past the end.
 pub fn byte_at(s: &[u8], at: usize) -> u8
-    ensures { result ≡ get_or (lent s) at 0 }
+    ensures { result ≡ get_or s.now at 0 }
 {
     if at < s.len() { s[at] } else { 0 }
 }
@@ -32,7 +31,7 @@ fn number(low: u8, high: u8) -> u16
 // The number of two bytes at a place.
 pub fn pair_at(s: &[u8], at: usize) -> u16
     requires { at < 2 ^ 32 }
-    ensures { result ≡ pair_at (lent s) at }
+    ensures { result ≡ pair_at s.now at }
 {
     number(byte_at(s, at), byte_at(s, at + 1))
 }
@@ -40,7 +39,7 @@ pub fn pair_at(s: &[u8], at: usize) -> u16
 // The number of four bytes at a place.
 pub fn quad_at(s: &[u8], at: usize) -> u64
     requires { at + 4 < 2 ^ 32 }
-    ensures { (result ≡ quad_at (lent s) at) × (result < 2 ^ 32) }
+    ensures { (result ≡ quad_at s.now at) × (result < 2 ^ 32) }
 {
     pair_at(s, at) as u64 + 65536 * (pair_at(s, at + 2) as u64)
 }
@@ -48,13 +47,13 @@ pub fn quad_at(s: &[u8], at: usize) -> u64
 // The number of eight bytes at a place.
 pub fn word_at(s: &[u8], at: usize) -> u64
     requires { at + 8 < 2 ^ 32 }
-    ensures { result ≡ word_at (lent s) at }
+    ensures { result ≡ word_at s.now at }
 {
     quad_at(s, at) + 4294967296 * quad_at(s, at + 4)
 }
 
 pub fn read_head(s: &[u8]) -> Head
-    ensures { result ≡ head_of (lent s) }
+    ensures { result ≡ head_of s.now }
 {
     Head {
         call: byte_at(s, 0),
@@ -75,7 +74,7 @@ pub fn column_size(n: usize, width: u8) -> usize
 // Number i of a column that begins at a place.
 pub fn number_at(s: &[u8], at: usize, width: u8, i: usize) -> u16
     requires { at + 2 * i < 2 ^ 32 }
-    ensures { result ≡ number_at (lent s) at width i }
+    ensures { result ≡ number_at s.now at width i }
 {
     if width == 1 {
         return byte_at(s, at + i) as u16;

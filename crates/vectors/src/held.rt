@@ -3,7 +3,6 @@
 ghost use Rattle.std.specs.Prelude.{◌≡◌, ◌&&◌, map, ◌+◌, ◌*◌, ◌^◌, ◌<◌, replicate};
 ghost use Rattle.std.specs.Float.Ieee as Ieee;
 ghost use Rattle.std.specs.Float.{binary64};
-ghost use Rattle.lent.specs.Slice.{lent};
 ghost use Rattle.lent.specs.Over.{part};
 ghost use Rattle.vectors.specs.Case.{number_at, column, column_word, words};
 ghost use Rattle.vectors.specs.Held.{Tells, FrontHeld};
@@ -22,7 +21,7 @@ pub fn both(a: bool, b: bool) -> bool
 // What place i is to hold: number i of the column, or past n the sentinel.
 fn number_expected(s: &[u8], at: usize, width: u8, n: usize, sentinel: u16, i: usize) -> u16
     requires { at + 2 * n < 2 ^ 32 }
-    ensures { result ≡ expected n (number_at (lent s) at width) sentinel i }
+    ensures { result ≡ expected n (number_at s.now at width) sentinel i }
 {
     if i < n {
         case::number_at(s, at, width, i)
@@ -34,7 +33,7 @@ fn number_expected(s: &[u8], at: usize, width: u8, n: usize, sentinel: u16, i: u
 // Whether `got` holds the n numbers of the column that begins at a place, and then the sentinel.
 pub fn column_held(s: &[u8], at: usize, width: u8, n: usize, sentinel: u16, got: &[u16]) -> bool
     requires { at + 2 * n < 2 ^ 32 }
-    ensures { Tells result (FrontHeld (column (lent s) at width n) sentinel (lent got)) }
+    ensures { Tells result (FrontHeld (column s.now at width n) sentinel got.now) }
 {
     if got.len() < n {
         return false;
@@ -52,7 +51,7 @@ pub fn column_held(s: &[u8], at: usize, width: u8, n: usize, sentinel: u16, got:
 // Whether `got` holds n zeros, and then the sentinel.
 pub fn zeros_held(n: usize, sentinel: u16, got: &[u16]) -> bool
     requires { 2 * n < 2 ^ 32 }
-    ensures { Tells result (FrontHeld (replicate n 0) sentinel (lent got)) }
+    ensures { Tells result (FrontHeld (replicate n 0) sentinel got.now) }
 {
     column_held(b"", 0, 1, n, sentinel, got)
 }
@@ -60,7 +59,7 @@ pub fn zeros_held(n: usize, sentinel: u16, got: &[u16]) -> bool
 // Whether `got` holds the n bytes from a place on, and then the sentinel.
 pub fn bytes_held(s: &[u8], at: usize, n: usize, sentinel: u8, got: &[u8]) -> bool
     requires { BytesThere at n s.now got.now }
-    ensures { Tells result (FrontHeld (part at n (lent s)) sentinel (lent got)) }
+    ensures { Tells result (FrontHeld (part at n s.now) sentinel got.now) }
 {
     let room = got.len();
     if room < n {
@@ -73,7 +72,7 @@ pub fn bytes_held(s: &[u8], at: usize, n: usize, sentinel: u8, got: &[u8]) -> bo
 
 fn bits_expected(s: &[u8], at: usize, n: usize, sentinel: f64, i: usize) -> u64
     requires { at + 8 * n < 2 ^ 32 }
-    ensures { result ≡ expected n (column_word (lent s) at) (Ieee.to_bits binary64 sentinel) i }
+    ensures { result ≡ expected n (column_word s.now at) (Ieee.to_bits binary64 sentinel) i }
 {
     if i < n {
         case::word_at(s, at + 8 * i)
@@ -85,8 +84,8 @@ fn bits_expected(s: &[u8], at: usize, n: usize, sentinel: f64, i: usize) -> u64
 // Whether `got` holds the n floats from a place on, and then the sentinel, by their bits.
 pub fn floats_held(s: &[u8], at: usize, n: usize, sentinel: f64, got: &[f64]) -> bool
     requires { at + 8 * n < 2 ^ 32 }
-    ensures { Tells result (FrontHeld (words (lent s) at n) (Ieee.to_bits binary64 sentinel)
-        (map (Ieee.to_bits binary64) (lent got))) }
+    ensures { Tells result (FrontHeld (words s.now at n) (Ieee.to_bits binary64 sentinel)
+        (map (Ieee.to_bits binary64) got.now)) }
 {
     let room = got.len();
     if room < n {
@@ -106,7 +105,7 @@ pub fn floats_held(s: &[u8], at: usize, n: usize, sentinel: f64, got: &[f64]) ->
 pub fn zero_floats_held(n: usize, sentinel: f64, got: &[f64]) -> bool
     requires { 8 * n < 2 ^ 32 }
     ensures { Tells result (FrontHeld (replicate n 0) (Ieee.to_bits binary64 sentinel)
-        (map (Ieee.to_bits binary64) (lent got))) }
+        (map (Ieee.to_bits binary64) got.now)) }
 {
     floats_held(b"", 0, n, sentinel, got)
 }

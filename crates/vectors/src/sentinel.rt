@@ -1,6 +1,5 @@
 // What slices are lent with, and whether a call left in them what it must.
 ghost use Rattle.std.specs.Prelude.{◌≤◌, ◌<◌, ◌+◌, ◌*◌, ◌^◌};
-ghost use Rattle.lent.specs.Slice.{lent};
 ghost use Rattle.grouping_chart.specs.Chart.{largest};
 ghost use Rattle.vectors.specs.Held.{Tells};
 ghost use Rattle.vectors.specs.Sentinel.{ColumnsHeld, Cleared};
@@ -36,7 +35,7 @@ pub fn columns_held(
     b: &[u16],
 ) -> bool
     requires { at + size + 2 * n < 2 ^ 32 }
-    ensures { Tells result (ColumnsHeld (lent s) at size width n (lent a) (lent b)) }
+    ensures { Tells result (ColumnsHeld s.now at size width n a.now b.now) }
 {
     let first = held::column_held(s, at, width, n, NUMBER_SENTINEL, a);
     let second = held::column_held(s, at + size, width, n, NUMBER_SENTINEL, b);
@@ -46,7 +45,7 @@ pub fn columns_held(
 // Whether a call on n objects left 8n zeros and n times +0.0, and every place past them as it was lent.
 pub fn work_cleared(n: usize, work: &[u16], scratch: &[f64]) -> bool
     requires { n ≤ largest }
-    ensures { Tells result (Cleared n (lent work) (lent scratch)) }
+    ensures { Tells result (Cleared n work.now scratch.now) }
 {
     let numbers = held::zeros_held(8 * n, NUMBER_SENTINEL, work);
     let floats = held::zero_floats_held(n, FLOAT_SENTINEL, scratch);

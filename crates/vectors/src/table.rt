@@ -1,6 +1,5 @@
 // A column of entry numbers, each of a float in a table: reading these floats into a slice.
 ghost use Rattle.std.specs.Prelude.{◌≡◌, ◌^◌, ◌<◌};
-ghost use Rattle.lent.specs.Slice.{lent, left};
 ghost use Rattle.lent.specs.Over.{over};
 ghost use Rattle.vectors.specs.Table.{entry_number, entry_at, entries};
 ghost use Rattle.vectors.specs.passes.Room.{EntryThere, EntriesRoom};
@@ -10,7 +9,7 @@ use crate::case;
 // Which float of the table is meant at i: the one that number i of the column names, or the next where the width is 0.
 fn entry_number(s: &[u8], column: usize, width: u8, i: usize) -> usize
     requires { (column < 2 ^ 31) × (i < 65536) }
-    ensures { (result ≡ entry_number (lent s) column width i) × (result < 65536) }
+    ensures { (result ≡ entry_number s.now column width i) × (result < 65536) }
 {
     if width == 0 {
         return i;
@@ -21,7 +20,7 @@ fn entry_number(s: &[u8], column: usize, width: u8, i: usize) -> usize
 // The float that is meant at i.
 fn entry_at(s: &[u8], table: usize, column: usize, width: u8, i: usize) -> f64
     requires { EntryThere table column i }
-    ensures { result ≡ entry_at (lent s) table column width i }
+    ensures { result ≡ entry_at s.now table column width i }
 {
     case::float_of(case::word_at(s, table + 8 * entry_number(s, column, width, i)))
 }
@@ -30,7 +29,7 @@ fn entry_at(s: &[u8], table: usize, column: usize, width: u8, i: usize) -> f64
 // where the column's numbers have no bytes, the first n.
 pub fn read(s: &[u8], table: usize, column: usize, width: u8, n: usize, out: &mut [f64])
     requires { EntriesRoom table column n out.old }
-    ensures { left out ≡ over (entries (lent s) table column width n) (lent out) }
+    ensures { out.new ≡ over (entries s.now table column width n) out.old }
 {
     let mut i = 0;
     while i < n {

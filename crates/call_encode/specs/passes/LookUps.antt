@@ -46,9 +46,9 @@ by_pattern a n k work pattern = gathered (part a k.patterns work) (take n patter
 pub record KindsRoom (n limit : ℕ) (m : Memory) : Type 0 where
   pub few : n ≤ largest
   pub streak : n ≤ length m.streak
-  pub streak_place_at : n ≤ length m.streak_place_at
+  pub streak_place : n ≤ length m.streak_place
   pub pattern : n ≤ length m.pattern
-  pub pattern_place_at : n ≤ length m.pattern_place_at
+  pub pattern_place : n ≤ length m.pattern_place
   pub hit : n ≤ length m.hit
   pub interval : n ≤ length m.interval
   pub work : 8 * n ≤ length m.work

@@ -59,8 +59,8 @@ returns c =
     let a = after-numbers.numbers-at.ensures in
     same_standing (record {
       interval = interval_is start.requires a;
-      pattern_place_at = pattern-place_is start.requires a;
-      streak_place_at = streak-place_is start.requires a;
+      pattern_place = pattern-place_is start.requires a;
+      streak_place = streak-place_is start.requires a;
       streak = start_first _ _ c.if1.true;
       pattern = start_first _ _ c.if1.true;
       hit = start_first _ _ c.if1.true;
@@ -76,8 +76,8 @@ returns-2 c =
     let b = c.before.before.before.numbers-at2.ensures in
     same_standing (record {
       interval = interval_is start.requires a;
-      pattern_place_at = pattern-place_is start.requires a;
-      streak_place_at = streak-place_is start.requires a;
+      pattern_place = pattern-place_is start.requires a;
+      streak_place = streak-place_is start.requires a;
       streak = change_first _ _ _ _ later.if1.false a.streaks b.streaks;
       pattern = change_first _ _ _ _ later.if1.false a.patterns b.patterns;
       hit = change_first _ _ _ _ later.if1.false a.hits b.hits;

@@ -10,7 +10,7 @@ use Rattle.letters_text.proofs.write_lines.Tie as tie
 
 abbrev invariant-loop : tie.invariant-loop
 invariant-loop kinds streak pattern hit interval out₀ n last₀ to₀ i₀ out last to i =
-    LinesWalk (columns_of (λ (xs : List ℕ). xs) kinds streak pattern hit interval) last₀ to₀ out₀ out last to i
+    LinesWalk (columns_of kinds streak pattern hit interval) last₀ to₀ out₀ out last to i
 
 abbrev decreases-loop : tie.decreases-loop
 decreases-loop kinds streak pattern hit interval out₀ n last₀ to₀ i₀ out last to i = length kinds - i
