@@ -7,7 +7,7 @@ use Rattle.lent.proofs.fill.clear.Statement.{statement}
 use Rattle.lent.proofs.fill.clear.Tie as tie
 
 returns : tie.Need-returns
-returns c = c.before.before.store-all.ensures ∙ put_front _ _
+returns c = c.before.before.store_all.ensures ∙ put_front _ _
 
 pub clear_spec : {M : Type 1} → statement M
 clear_spec = tie.close (tie.spec (λ c κs. omega arith) (λ c. search rules) returns)
