@@ -7,29 +7,29 @@ use borrow.Author.Rules.{rules}
 use Rattle.grouping_marks.proofs.group_numbers.Statement.{statement}
 use Rattle.grouping_marks.proofs.group_numbers.Tie as tie
 
-abbrev invariant-loop : tie.invariant-loop
+abbrev invariant-loop : tie.invariant-loop-i
 invariant-loop w₀ from m to count₀ i₀ w count i = Numbers from m to w₀ w count i
 
-abbrev decreases-loop : tie.decreases-loop
+abbrev decreases-loop : tie.decreases-loop-i
 decreases-loop w₀ from m to count₀ i₀ w count i = m - i
 
-returns : tie.Need-returns invariant-loop decreases-loop
-returns c = numbers_none _ _ _ _ c.before.before.requires c.if1.true
+returns : tie.Need-returns-then-m-eq0 invariant-loop decreases-loop
+returns c = numbers_none _ _ _ _ c.before.before.requires c.if-m-eq0.true
 
-loop-holds : tie.Need-loop-init invariant-loop decreases-loop
-loop-holds c = numbers-start _ _ _ _ c.before.before.requires c.if1.false
+loop-holds : tie.Need-loop-i-init invariant-loop decreases-loop
+loop-holds c = numbers-start _ _ _ _ c.before.before.requires c.if-m-eq0.false
 
-loop-again : tie.Need-loop-preserved invariant-loop decreases-loop
-loop-again c = numbers_turn c.before.before.before.loop.invariant _ c.before.before.loop-test.true c.opens.ensures.0 c.opens.ensures.1
+loop-again : tie.Need-loop-i-preserved invariant-loop decreases-loop
+loop-again c = numbers_turn c.before.before.before.loop-i.invariant _ c.before.before.loop-i-test.true c.opens-count.ensures.0 c.opens-count.ensures.1
 
-same_length : tie.Need-same-length invariant-loop decreases-loop
-same_length c = simp length-set c.before.loop.invariant.long
+same_length : tie.Need-shape_of-w invariant-loop decreases-loop
+same_length c = simp length-set c.before.loop-i.invariant.long
 
-returns-2 : tie.Need-returns-2 invariant-loop decreases-loop
-returns-2 c = numbers-done c.before.loop.invariant c.loop-test.false
+returns-2 : tie.Need-returns invariant-loop decreases-loop
+returns-2 c = numbers-done c.before.loop-i.invariant c.loop-i-test.false
 
-pub group-numbers-spec : {M : Type 1} → statement M
-group-numbers-spec =
+pub group_numbers_spec : {M : Type 1} → statement M
+group_numbers_spec =
     tie.close
     (tie.spec
     invariant-loop

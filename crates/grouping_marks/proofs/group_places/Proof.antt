@@ -11,37 +11,37 @@ use borrow.Author.Rules.{rules}
 use Rattle.grouping_marks.proofs.group_places.Statement.{statement}
 use Rattle.grouping_marks.proofs.group_places.Tie as tie
 
-abbrev invariant-loop : tie.invariant-loop
+abbrev invariant-loop : tie.invariant-loop-i
 invariant-loop w₀ from m to p₀ i₀ w p i = Walk (λ p m. place_by_mark p m + 1) place_by_mark 0 (part from m w₀) m to w₀ w p i × (p ≤ i)
 
-abbrev decreases-loop : tie.decreases-loop
+abbrev decreases-loop : tie.decreases-loop-i
 decreases-loop w₀ from m to p₀ i₀ w p i = m - i
 
-loop-holds : tie.Need-loop-init invariant-loop decreases-loop
+loop-holds : tie.Need-loop-i-init invariant-loop decreases-loop
 loop-holds c = (start-part _ _ 0 _ _ _ _ c.before.requires, omega arith)
 
-add-p : tie.Need-overflow-add-p invariant-loop decreases-loop
+add-p : tie.Need-overflow_add-p invariant-loop decreases-loop
 add-p c =
     let l = c.before.before.before in
-    omega (arith, place_le l.loop.p (get_or l.loop.w (l.before.before.args.from + l.loop.i) 0))
+    omega (arith, place_le l.loop-i.p (get_or l.loop-i.w (l.before.before.args.from + l.loop-i.i) 0))
 
-loop-again : tie.Need-loop-preserved invariant-loop decreases-loop
+loop-again : tie.Need-loop-i-preserved invariant-loop decreases-loop
 loop-again c =
     let l = c.before.before.before in
-    let place = c.place-by-mark.ensures in (
-      turn_part l.loop.invariant.0 l.before.before.requires c.before.before.loop-test.true place (ap (λ (n : ℕ). n + 1) place),
-      omega (arith, place_le l.loop.p (get_or l.loop.w (l.before.before.args.from + l.loop.i) 0)),
+    let place = c.place_by_mark-p.ensures in (
+      turn_part l.loop-i.invariant.0 l.before.before.requires c.before.before.loop-i-test.true place (ap (λ (n : ℕ). n + 1) place),
+      omega (arith, place_le l.loop-i.p (get_or l.loop-i.w (l.before.before.args.from + l.loop-i.i) 0)),
     )
 
-same_length : tie.Need-same-length invariant-loop decreases-loop
-same_length c = c.before.loop.invariant.0.fill.long
+same_length : tie.Need-shape_of-w invariant-loop decreases-loop
+same_length c = c.before.loop-i.invariant.0.fill.long
 
 returns : tie.Need-returns invariant-loop decreases-loop
 unfolding group_places
-returns c = ended c.before.loop.invariant.0 c.loop-test.false
+returns c = ended c.before.loop-i.invariant.0 c.loop-i-test.false
 
-pub group-places-spec : {M : Type 1} → statement M
-group-places-spec =
+pub group_places_spec : {M : Type 1} → statement M
+group_places_spec =
     tie.close
     (tie.spec
     invariant-loop

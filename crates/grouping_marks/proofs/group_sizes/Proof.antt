@@ -9,37 +9,37 @@ use borrow.Author.Rules.{rules}
 use Rattle.grouping_marks.proofs.group_sizes.Statement.{statement}
 use Rattle.grouping_marks.proofs.group_sizes.Tie as tie
 
-abbrev invariant-loop : tie.invariant-loop
+abbrev invariant-loop : tie.invariant-loop-i
 invariant-loop w₀ from m to size₀ j₀ i₀ w size j i = Sizing from m to w₀ w size j i
 
-abbrev decreases-loop : tie.decreases-loop
+abbrev decreases-loop : tie.decreases-loop-i
 decreases-loop w₀ from m to size₀ j₀ i₀ w size j i = m - i
 
-returns : tie.Need-returns invariant-loop decreases-loop
-returns c = sizing_none _ _ _ _ c.before.before.requires c.if1.true
+returns : tie.Need-returns-then-m-eq0 invariant-loop decreases-loop
+returns c = sizing_none _ _ _ _ c.before.before.requires c.if-m-eq0.true
 
-loop-holds : tie.Need-loop-init invariant-loop decreases-loop
-loop-holds c = sizing_start _ _ _ _ c.before.before.requires c.if1.false
+loop-holds : tie.Need-loop-i-init invariant-loop decreases-loop
+loop-holds c = sizing_start _ _ _ _ c.before.before.requires c.if-m-eq0.false
 
-slice-read-mark : tie.Need-slice-read-mark invariant-loop decreases-loop
+slice-read-mark : tie.Need-bounds-w-from invariant-loop decreases-loop
 slice-read-mark c = simp length-set (omega arith)
 
-add-size : tie.Need-overflow-add-size invariant-loop decreases-loop
-add-size c = let b : c.place-by-mark.result ≤ c.before.before.before.loop.size = rw c.place-by-mark.ensures (place_le _ _) in omega arith
+add-size : tie.Need-overflow_add-size invariant-loop decreases-loop
+add-size c = let b : c.place_by_mark-size.result ≤ c.before.before.before.loop-i.size = rw c.place_by_mark-size.ensures (place_le _ _) in omega arith
 
-loop-again : tie.Need-loop-preserved invariant-loop decreases-loop
+loop-again : tie.Need-loop-i-preserved invariant-loop decreases-loop
 loop-again c =
     let in-loop = c.before.before.before in
-    sizing_turn in-loop.before.loop.invariant _ _ in-loop.loop-test.true c.before.place-by-mark.ensures c.opens.ensures.0
+    sizing_turn in-loop.before.loop-i.invariant _ _ in-loop.loop-i-test.true c.before.place_by_mark-size.ensures c.opens.ensures.0
 
-same_length : tie.Need-same-length invariant-loop decreases-loop
-same_length c = simp length-set c.before.loop.invariant.long
+same_length : tie.Need-shape_of-w invariant-loop decreases-loop
+same_length c = simp length-set c.before.loop-i.invariant.long
 
-returns-2 : tie.Need-returns-2 invariant-loop decreases-loop
-returns-2 c = sizing_done c.before.loop.invariant c.loop-test.false
+returns-2 : tie.Need-returns invariant-loop decreases-loop
+returns-2 c = sizing_done c.before.loop-i.invariant c.loop-i-test.false
 
-pub group-sizes-spec : {M : Type 1} → statement M
-group-sizes-spec =
+pub group_sizes_spec : {M : Type 1} → statement M
+group_sizes_spec =
     tie.close
     (tie.spec
     invariant-loop

@@ -9,8 +9,8 @@ returns c =
     let s = c.before.before.before.before.before.before in
     alike_read _ _ _ _ _ _ _ s.requires.1.0 s.requires.1.1
 
-pub alike-at-spec : {M : Type 1} → statement M
-alike-at-spec =
+pub alike_at_spec : {M : Type 1} → statement M
+alike_at_spec =
     tie.close
     (tie.spec
     (λ c. omega arith)

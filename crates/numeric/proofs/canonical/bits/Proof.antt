@@ -17,11 +17,11 @@ nan-bits : to_bits binary64 nan ≡ 0x7FF8_0000_0000_0000
 unfolding to_bits
 nan-bits = refl
 
-returns : tie.Need-returns
-returns c = sym (ap (to_bits binary64) (differs_from_itself c.before.args.x (subst T (sym c.if1.true) tt)) ∙ nan-bits)
+returns : tie.Need-returns-then-x
+returns c = sym (ap (to_bits binary64) (differs_from_itself c.before.args.x (subst T (sym c.if-x.true) tt)) ∙ nan-bits)
 
-float-to-bits-result : tie.Need-float-to-bits-result
-float-to-bits-result c = no_nan c.before.args.x c.if1.false
+float-to-bits-result : tie.Need-float_to_bits-result
+float-to-bits-result c = no_nan c.before.args.x c.if-x.false
 
-pub bits-spec : {M : Type 1} → statement M
-bits-spec = tie.close (tie.spec float-to-bits-result returns (λ c. refl))
+pub bits_spec : {M : Type 1} → statement M
+bits_spec = tie.close (tie.spec float-to-bits-result returns (λ c. refl))

@@ -7,9 +7,9 @@ use lib.Ieee.Compare.{differs_from_itself}
 use Rattle.numeric.proofs.canonical.canonical.Statement.{statement}
 use Rattle.numeric.proofs.canonical.canonical.Tie as tie
 
-returns : tie.Need-returns
+returns : tie.Need-returns-then-x
 unfolding of_bits div neg
-returns c = sym (differs_from_itself _ (subst T (sym c.if1.true) tt))
+returns c = sym (differs_from_itself _ (subst T (sym c.if-x.true) tt))
 
-pub canonical-spec : {M : Type 1} → statement M
-canonical-spec = tie.close (tie.spec returns (λ c. search rules))
+pub canonical_spec : {M : Type 1} → statement M
+canonical_spec = tie.close (tie.spec returns (λ c. search rules))

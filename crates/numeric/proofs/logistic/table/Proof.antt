@@ -8,5 +8,5 @@ returns : tie.Need-returns
 unfolding logistic_table table_bits
 returns c = refl
 
-pub table-spec : {M : Type 1} → statement M
-table-spec = tie.close (tie.spec returns)
+pub table_spec : {M : Type 1} → statement M
+table_spec = tie.close (tie.spec returns)

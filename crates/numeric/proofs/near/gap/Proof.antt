@@ -4,13 +4,13 @@ use Rattle.numeric.specs.passes.Gap.{gap_of}
 use Rattle.numeric.proofs.near.gap.Statement.{statement}
 use Rattle.numeric.proofs.near.gap.Tie as tie
 
-returns : tie.Need-returns
+returns : tie.Need-returns-then-d
 unfolding of_bits gap_of
-returns c = rw c.if1.true
+returns c = rw c.if-d.true
 
-returns-2 : tie.Need-returns-2
+returns-2 : tie.Need-returns-else-d
 unfolding of_bits gap_of
-returns-2 c = rw c.if1.false
+returns-2 c = rw c.if-d.false
 
-pub gap-spec : {M : Type 1} → statement M
-gap-spec = tie.close (tie.spec returns returns-2)
+pub gap_spec : {M : Type 1} → statement M
+gap_spec = tie.close (tie.spec returns returns-2)

@@ -3,5 +3,5 @@ use Rattle.numeric.proofs.range.Laws.{within-both}
 use Rattle.numeric.proofs.range.is_within.Statement.{statement}
 use Rattle.numeric.proofs.range.is_within.Tie as tie
 
-pub is-within-spec : {M : Type 1} → statement M
-is-within-spec = tie.close (tie.spec (λ c. within-both _ _ _))
+pub is_within_spec : {M : Type 1} → statement M
+is_within_spec = tie.close (tie.spec (λ c. within-both _ _ _))

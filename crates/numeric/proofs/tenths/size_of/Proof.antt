@@ -11,19 +11,19 @@ near : (c : tie.Start) → SizeBelow c.args.x
 near c = range_within c.args.x c.requires
 
 held : (c : tie.Start) → T (fits binary64 c.args.x)
-held c = subst T (sym c.well-formed.0.1) tt
+held c = subst T (sym c.well_formed.0.1) tt
 
-float-to-bits-bits : tie.Need-float-to-bits-bits
+float-to-bits-bits : tie.Need-float_to_bits-bits
 float-to-bits-bits c = no_nan c.args.x (near c)
 
-returns : tie.Need-returns
-returns c = scaled_low c.before.args.x (held c.before) (near c.before) c.if1.true
+returns : tie.Need-returns-then-field-eq0
+returns c = scaled_low c.before.args.x (held c.before) (near c.before) c.if-field-eq0.true
 
-sub-t7 : tie.Need-overflow-sub-t7
-sub-t7 c = exp_room c.before.args.x (held c.before) (near c.before) c.if1.false
+sub-t7 : tie.Need-overflow_sub-result
+sub-t7 c = exp_room c.before.args.x (held c.before) (near c.before) c.if-field-eq0.false
 
-returns-2 : tie.Need-returns-2
-returns-2 c = scaled_high c.before.args.x (held c.before) (near c.before) c.if1.false
+returns-2 : tie.Need-returns
+returns-2 c = scaled_high c.before.args.x (held c.before) (near c.before) c.if-field-eq0.false
 
-pub size-of-spec : {M : Type 1} → statement M
-size-of-spec = tie.close (tie.spec float-to-bits-bits returns (λ c. search rules) sub-t7 returns-2)
+pub size_of_spec : {M : Type 1} → statement M
+size_of_spec = tie.close (tie.spec float-to-bits-bits returns (λ c. search rules) sub-t7 returns-2)

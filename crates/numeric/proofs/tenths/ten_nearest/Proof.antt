@@ -37,39 +37,39 @@ module _ (d s : ℕ) (few : d < 2 ^ 53) (low : s ≤ 57) where
     small = omega (arith, whole_lt d s few);
   }
 
-returns : tie.Need-returns
-returns c = record { equal = sym (nothing_left c.before.args.digits c.before.args.shift c.before.requires c.if1.true); small = lit< tt }
+returns : tie.Need-returns-then-shift-gt57
+returns c = record { equal = sym (nothing_left c.before.args.digits c.before.args.shift c.before.requires c.if-shift-gt57.true); small = lit< tt }
 
-sub-rest : tie.Need-overflow-sub-rest
+sub-rest : tie.Need-overflow_sub-rest
 sub-rest c = back_le c.before.args.digits c.before.args.shift c.before.requires
 
-returns-2 : tie.Need-returns-2
+returns-2 : tie.Need-returns-then-rest-unit
 returns-2 c =
     let start = c.before.before in
-    down start.args.digits start.args.shift start.requires c.before.if1.false c.if2.true
+    down start.args.digits start.args.shift start.requires c.before.if-shift-gt57.false c.if-rest-unit.true
 
-add-result : tie.Need-overflow-add-result
+add-result : tie.Need-overflow_add-result
 add-result c =
     let start = c.before.before.before in
     record { fits = omega (arith, whole_lt start.args.digits start.args.shift start.requires) }
 
-returns-3 : tie.Need-returns-3
+returns-3 : tie.Need-returns-then-rest-unit-2
 returns-3 c =
     let start = c.before.before.before in
-    half start.args.digits start.args.shift start.requires c.before.before.if1.false c.if3.true
+    half start.args.digits start.args.shift start.requires c.before.before.if-shift-gt57.false c.if-rest-unit-2.true
 
-add-result-2 : tie.Need-overflow-add-result-2
+add-result-2 : tie.Need-overflow_add-result-2
 add-result-2 c =
     let start = c.before.before.before in
     record { fits = omega (arith, whole_lt start.args.digits start.args.shift start.requires) }
 
-returns-4 : tie.Need-returns-4
+returns-4 : tie.Need-returns
 returns-4 c =
     let start = c.before.before.before in
-    up start.args.digits start.args.shift start.requires c.before.before.if1.false c.before.if2.false c.if3.false
+    up start.args.digits start.args.shift start.requires c.before.before.if-shift-gt57.false c.before.if-rest-unit.false c.if-rest-unit-2.false
 
-pub ten-nearest-spec : {M : Type 1} → statement M
-ten-nearest-spec =
+pub ten_nearest_spec : {M : Type 1} → statement M
+ten_nearest_spec =
     tie.close
     (tie.spec returns (λ c. search rules) (λ c. search rules) (λ c. search rules) sub-rest (λ c. search rules) (λ c. search rules) returns-2
     (λ c. search rules) add-result returns-3 add-result-2 returns-4)

@@ -17,30 +17,30 @@ use Rattle.numeric.proofs.tenths.tenths.Tie as tie
 room : (q : ℕ) → q < 2 ^ 58 → q < 2 ^ 63
 room q h = omega arith
 
-sub-result : tie.Need-overflow-sub-result
-sub-result c = minus_fits c.before.ten-nearest.result (room c.before.ten-nearest.result c.before.ten-nearest.ensures.small)
+sub-result : tie.Need-overflow_sub-result
+sub-result c = minus_fits c.before.ten_nearest-t.result (room c.before.ten_nearest-t.result c.before.ten_nearest-t.ensures.small)
 
-returns : tie.Need-returns
+returns : tie.Need-returns-then-x
 unfolding of_bits
 returns c =
     let called = c.before in
     let size = called.before in
     let x = size.before.args.x in
-    let q = called.ten-nearest.result in
-    minus_is q (room q called.ten-nearest.ensures.small)
-    ∙ rw called.ten-nearest.ensures.equal
-    (below_zero size.type_size.result.digits size.type_size.result.shift x (range_within x size.before.requires) size.type_size.ensures c.if1.true)
+    let q = called.ten_nearest-t.result in
+    minus_is q (room q called.ten_nearest-t.ensures.small)
+    ∙ rw called.ten_nearest-t.ensures.equal
+    (below_zero size.size_of-s.result.digits size.size_of-s.result.shift x (range_within x size.before.requires) size.size_of-s.ensures c.if-x.true)
 
-returns-2 : tie.Need-returns-2
+returns-2 : tie.Need-returns
 unfolding of_bits
 returns-2 c =
     let called = c.before in
     let size = called.before in
     let x = size.before.args.x in
-    let q = called.ten-nearest.result in
-    to_z_pos w64 q (room q called.ten-nearest.ensures.small)
-    ∙ ap pos called.ten-nearest.ensures.equal
-    ∙ from_zero size.type_size.result.digits size.type_size.result.shift x (range_within x size.before.requires) size.type_size.ensures c.if1.false
+    let q = called.ten_nearest-t.result in
+    to_z_pos w64 q (room q called.ten_nearest-t.ensures.small)
+    ∙ ap pos called.ten_nearest-t.ensures.equal
+    ∙ from_zero size.size_of-s.result.digits size.size_of-s.result.shift x (range_within x size.before.requires) size.size_of-s.ensures c.if-x.false
 
-pub tenths-spec : {M : Type 1} → statement M
-tenths-spec = tie.close (tie.spec (λ c κs. search rules) (λ c κs. search rules) (λ c. search rules) sub-result returns returns-2)
+pub tenths_spec : {M : Type 1} → statement M
+tenths_spec = tie.close (tie.spec (λ c κs. search rules) (λ c κs. search rules) (λ c. search rules) sub-result returns returns-2)
