@@ -4,39 +4,38 @@ use native.Mathlib.Omega.{arith}
 use mathlib.Core.Path.{refl, sym, ◌∙◌}
 use lib.ListN.{length}
 use borrow.Author.Rules.{rules}
-use borrow.Author.Tests.{not-true, not-false}
 use Rattle.numeric.specs.TotalOrder.{total_order}
 use Rattle.numeric_sort.specs.passes.Sort.{rising}
 use Rattle.numeric_sort.proofs.RunLaws.{Testing, testing_fails, testing_turn, testing_end}
 use Rattle.numeric_sort.proofs.is_rising.Statement.{statement}
 use Rattle.numeric_sort.proofs.is_rising.Tie as tie
 
-abbrev invariant-loop : tie.invariant-loop
+abbrev invariant-loop : tie.invariant-loop-i
 invariant-loop values i₀ i = Testing total_order values i
 
-abbrev decreases-loop : tie.decreases-loop
+abbrev decreases-loop : tie.decreases-loop-i
 decreases-loop values i₀ i = length values - i
 
-loop-holds : tie.Need-loop-init invariant-loop decreases-loop
+loop-holds : tie.Need-loop-i-init invariant-loop decreases-loop
 loop-holds c = record { upto = omega arith; same = refl }
 
-returns : tie.Need-returns invariant-loop decreases-loop
+returns : tie.Need-returns-then-not-total_order invariant-loop decreases-loop
 unfolding rising
 returns c =
     let l = c.before.before.before.before in
-    testing_fails l.before.loop.invariant l.loop-test.true (sym c.before.total-order.ensures ∙ not-true _ c.if1.true)
+    testing_fails l.before.loop-i.invariant l.loop-i-test.true (sym c.before.total_order.ensures ∙ c.if-not-total_order.true)
 
-loop-again : tie.Need-loop-preserved invariant-loop decreases-loop
+loop-again : tie.Need-loop-i-preserved invariant-loop decreases-loop
 loop-again c =
     let l = c.before.before.before.before in
-    testing_turn l.before.loop.invariant l.loop-test.true (sym c.before.total-order.ensures ∙ not-false _ c.if1.false)
+    testing_turn l.before.loop-i.invariant l.loop-i-test.true (sym c.before.total_order.ensures ∙ c.if-not-total_order.false)
 
-returns-2 : tie.Need-returns-2 invariant-loop decreases-loop
+returns-2 : tie.Need-returns invariant-loop decreases-loop
 unfolding rising
-returns-2 c = testing_end c.before.loop.invariant c.loop-test.false
+returns-2 c = testing_end c.before.loop-i.invariant c.loop-i-test.false
 
-pub is-rising-spec : {M : Type 1} → statement M
-is-rising-spec =
+pub is_rising_spec : {M : Type 1} → statement M
+is_rising_spec =
     tie.close
     (tie.spec
     invariant-loop

@@ -7,22 +7,22 @@ use Rattle.numeric_sort.proofs.RunLaws.{Turning, turning_two, turning_turn, turn
 use Rattle.numeric_sort.proofs.reverse.Statement.{statement}
 use Rattle.numeric_sort.proofs.reverse.Tie as tie
 
-abbrev invariant-loop : tie.invariant-loop
+abbrev invariant-loop : tie.invariant-loop-i
 invariant-loop values₀ n i₀ values i = Turning values₀ values n i
 
-abbrev decreases-loop : tie.decreases-loop
+abbrev decreases-loop : tie.decreases-loop-i
 decreases-loop values₀ n i₀ values i = n - i
 
 swap-requires : tie.Need-swap-requires invariant-loop decreases-loop
-swap-requires c κs = turning_two c.before.before.loop.invariant c.before.loop-test.true
+swap-requires c κs = turning_two c.before.before.loop-i.invariant c.before.loop-i-test.true
 
-loop-again : tie.Need-loop-preserved invariant-loop decreases-loop
+loop-again : tie.Need-loop-i-preserved invariant-loop decreases-loop
 loop-again c =
     let l = c.before.before.before.before in
-    turning_turn l.before.loop.invariant l.loop-test.true _ c.before.before.swap.ensures
+    turning_turn l.before.loop-i.invariant l.loop-i-test.true _ c.before.before.swap.ensures
 
-pub reverse-spec : {M : Type 1} → statement M
-reverse-spec =
+pub reverse_spec : {M : Type 1} → statement M
+reverse_spec =
     tie.close
     (tie.spec
     invariant-loop
@@ -34,5 +34,5 @@ reverse-spec =
     (λ c. omega arith)
     (λ c. omega arith)
     loop-again
-    (λ c. turning_long c.before.loop.invariant)
-    (λ c. turning_end c.before.loop.invariant))
+    (λ c. turning_long c.before.loop-i.invariant)
+    (λ c. turning_end c.before.loop-i.invariant))

@@ -4,9 +4,9 @@ use borrow.Author.Rules.{rules}
 use Rattle.numeric_sort.proofs.turn_if_falling.Statement.{statement}
 use Rattle.numeric_sort.proofs.turn_if_falling.Tie as tie
 
-returns-2 : tie.Need-returns-2
+returns-2 : tie.Need-returns-else-is_falling
 returns-2 c = same
 
-pub turn-if-falling-spec : {M : Type 1} → statement M
-turn-if-falling-spec =
+pub turn_if_falling_spec : {M : Type 1} → statement M
+turn_if_falling_spec =
     tie.close (tie.spec (λ c κs. search rules) (λ c κs. search rules) (λ c. search rules) (λ c. search rules) (λ c. search rules) returns-2)

@@ -10,11 +10,11 @@ use Rattle.grouping_chart.proofs.good.all_good.Tie as tie
 returns : tie.Need-returns
 unfolding all_good time_good ratio_good of_bits neg
 returns c = λ t.
-    c.before.before.before.kinds-good.ensures t
-    && (c.before.before.all-within.ensures t && (c.before.all-within2.ensures t && c.all-within3.ensures t))
+    c.before.before.before.kinds_good-kinds.ensures t
+    && (c.before.before.all_within-starts.ensures t && (c.before.all_within-deltas.ensures t && c.all_within-ratios.ensures t))
 
-pub all-good-spec : {M : Type 1} → statement M
-all-good-spec =
+pub all_good_spec : {M : Type 1} → statement M
+all_good_spec =
     tie.close
     (tie.spec
     (λ c κs. search rules)

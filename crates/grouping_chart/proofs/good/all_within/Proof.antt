@@ -7,23 +7,23 @@ use native.Mathlib.Omega.{arith}
 use Rattle.grouping_chart.proofs.good.all_within.Statement.{statement}
 use Rattle.grouping_chart.proofs.good.all_within.Tie as tie
 
-abbrev invariant-loop : tie.invariant-loop
+abbrev invariant-loop : tie.invariant-loop-i
 invariant-loop lo hi values good₀ i₀ good i = Tested (within lo hi) values good i
 
-abbrev decreases-loop : tie.decreases-loop
+abbrev decreases-loop : tie.decreases-loop-i
 decreases-loop lo hi values good₀ i₀ good i = length values - i
 
-loop-holds : tie.Need-loop-init invariant-loop decreases-loop
+loop-holds : tie.Need-loop-i-init invariant-loop decreases-loop
 loop-holds c = tested_none _ _
 
-loop-again : tie.Need-loop-preserved invariant-loop decreases-loop
-loop-again c = tested_next _ c.before.before.before.loop.invariant (omega arith) c.is_Within.ensures
+loop-again : tie.Need-loop-i-preserved invariant-loop decreases-loop
+loop-again c = tested_next _ c.before.before.before.loop-i.invariant (omega arith) c.is_within-good.ensures
 
 returns : tie.Need-returns invariant-loop decreases-loop
-returns c = tested_all c.before.loop.invariant (omega arith)
+returns c = tested_all c.before.loop-i.invariant (omega arith)
 
-pub all-within-spec : {M : Type 1} → statement M
-all-within-spec =
+pub all_within_spec : {M : Type 1} → statement M
+all_within_spec =
     tie.close
     (tie.spec
     invariant-loop

@@ -5,11 +5,11 @@ use borrow.Author.Tests.{le-leb, lt-leb}
 use Rattle.grouping_chart.proofs.good.kind_good.Statement.{statement}
 use Rattle.grouping_chart.proofs.good.kind_good.Tie as tie
 
-returns : tie.Need-returns
+returns : tie.Need-returns-in-0
 returns c = sym (le-leb c.before.args.kind 2 (omega arith))
 
-returns-2 : tie.Need-returns-2
+returns-2 : tie.Need-returns-in_default
 returns-2 c = sym (lt-leb c.before.args.kind 2 (omega arith))
 
-pub kind-good-spec : {M : Type 1} → statement M
-kind-good-spec = tie.close (tie.spec returns returns-2)
+pub kind_good_spec : {M : Type 1} → statement M
+kind_good_spec = tie.close (tie.spec returns returns-2)

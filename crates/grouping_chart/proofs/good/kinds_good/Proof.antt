@@ -7,23 +7,23 @@ use native.Mathlib.Omega.{arith}
 use Rattle.grouping_chart.proofs.good.kinds_good.Statement.{statement}
 use Rattle.grouping_chart.proofs.good.kinds_good.Tie as tie
 
-abbrev invariant-loop : tie.invariant-loop
+abbrev invariant-loop : tie.invariant-loop-i
 invariant-loop kind good₀ i₀ good i = Tested kind_good kind good i
 
-abbrev decreases-loop : tie.decreases-loop
+abbrev decreases-loop : tie.decreases-loop-i
 decreases-loop kind good₀ i₀ good i = length kind - i
 
-loop-holds : tie.Need-loop-init invariant-loop decreases-loop
+loop-holds : tie.Need-loop-i-init invariant-loop decreases-loop
 loop-holds c = tested_none _ _
 
-loop-again : tie.Need-loop-preserved invariant-loop decreases-loop
-loop-again c = tested_next 0 c.before.before.before.loop.invariant (omega arith) c.kind-good.ensures
+loop-again : tie.Need-loop-i-preserved invariant-loop decreases-loop
+loop-again c = tested_next 0 c.before.before.before.loop-i.invariant (omega arith) c.kind_good-good.ensures
 
 returns : tie.Need-returns invariant-loop decreases-loop
-returns c = tested_all c.before.loop.invariant (omega arith)
+returns c = tested_all c.before.loop-i.invariant (omega arith)
 
-pub kinds-good-spec : {M : Type 1} → statement M
-kinds-good-spec =
+pub kinds_good_spec : {M : Type 1} → statement M
+kinds_good_spec =
     tie.close
     (tie.spec
     invariant-loop

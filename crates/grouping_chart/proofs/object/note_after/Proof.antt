@@ -4,11 +4,11 @@ use native.Mathlib.Omega.{arith}
 use Rattle.grouping_chart.proofs.object.note_after.Statement.{statement}
 use Rattle.grouping_chart.proofs.object.note_after.Tie as tie
 
-returns : tie.Need-returns
-returns c = rw (sym c.before.is-note.ensures ∙ c.if1.true)
+returns : tie.Need-returns-then-is_note
+returns c = rw (sym c.before.is_note.ensures ∙ c.if-is_note.true)
 
-returns-2 : tie.Need-returns-2
-returns-2 c = rw (sym c.before.is-note.ensures ∙ c.if1.false)
+returns-2 : tie.Need-returns-else-is_note
+returns-2 c = rw (sym c.before.is_note.ensures ∙ c.if-is_note.false)
 
-pub note-after-spec : {M : Type 1} → statement M
-note-after-spec = tie.close (tie.spec (λ c κs. tt) (λ c. omega arith) returns returns-2)
+pub note_after_spec : {M : Type 1} → statement M
+note_after_spec = tie.close (tie.spec (λ c κs. tt) (λ c. omega arith) returns returns-2)

@@ -5,9 +5,9 @@ use borrow.Author.Rules.{rules}
 use Rattle.grouping_chart.proofs.refusal.check_objects.Statement.{statement}
 use Rattle.grouping_chart.proofs.refusal.check_objects.Tie as tie
 
-returns : tie.Need-returns
-returns c = all_good_accepted _ _ _ _ c.before.before.before.before.before.before.requires (sym c.before.all-good.ensures ∙ c.if1.true)
+returns : tie.Need-returns-then-all_good
+returns c = all_good_accepted _ _ _ _ c.before.before.before.before.before.before.requires (sym c.before.all_good.ensures ∙ c.if-all_good.true)
 
-pub check-objects-spec : {M : Type 1} → statement M
-check-objects-spec =
+pub check_objects_spec : {M : Type 1} → statement M
+check_objects_spec =
     tie.close (tie.spec (λ c κs. search rules) returns (λ c κs. search rules) (λ c. search rules))

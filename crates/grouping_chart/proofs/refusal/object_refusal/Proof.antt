@@ -5,11 +5,11 @@ use Rattle.grouping_chart.proofs.RefusalLaws.{refusal_kind, refusal_4}
 use Rattle.grouping_chart.proofs.refusal.object_refusal.Statement.{statement}
 use Rattle.grouping_chart.proofs.refusal.object_refusal.Tie as tie
 
-returns : tie.Need-returns
-returns c = c.times-refusal.ensures ∙ refusal_kind _ _ _ c.before.before.args.kind (omega arith)
+returns : tie.Need-returns-in-0
+returns c = c.times_refusal.ensures ∙ refusal_kind _ _ _ c.before.before.args.kind (omega arith)
 
-returns-2 : tie.Need-returns-2
+returns-2 : tie.Need-returns-in_default
 returns-2 c = refusal_4 _ _ _ c.before.args.kind (omega arith)
 
-pub object-refusal-spec : {M : Type 1} → statement M
-object-refusal-spec = tie.close (tie.spec (λ c κs. tt) returns returns-2)
+pub object_refusal_spec : {M : Type 1} → statement M
+object_refusal_spec = tie.close (tie.spec (λ c κs. tt) returns returns-2)

@@ -7,7 +7,7 @@ use Rattle.grouping_chart.proofs.refusal.ratio_good.Tie as tie
 
 returns : tie.Need-returns
 unfolding ratio_good of_bits
-returns c = c.is_Within.ensures
+returns c = c.is_within.ensures
 
-pub ratio-good-spec : {M : Type 1} → statement M
-ratio-good-spec = tie.close (tie.spec (λ c κs. search rules) returns)
+pub ratio_good_spec : {M : Type 1} → statement M
+ratio_good_spec = tie.close (tie.spec (λ c κs. search rules) returns)

@@ -7,7 +7,7 @@ use Rattle.grouping_chart.proofs.refusal.time_good.Tie as tie
 
 returns : tie.Need-returns
 unfolding time_good of_bits neg
-returns c = c.is_Within.ensures
+returns c = c.is_within.ensures
 
-pub time-good-spec : {M : Type 1} → statement M
-time-good-spec = tie.close (tie.spec (λ c κs. search rules) returns)
+pub time_good_spec : {M : Type 1} → statement M
+time_good_spec = tie.close (tie.spec (λ c κs. search rules) returns)

@@ -9,5 +9,5 @@ returns : tie.Need-returns
 unfolding of_bits
 returns c = refl
 
-pub base-spec : {M : Type 1} → statement M
-base-spec = tie.close (tie.spec (λ c. search rules) returns)
+pub base_spec : {M : Type 1} → statement M
+base_spec = tie.close (tie.spec (λ c. search rules) returns)

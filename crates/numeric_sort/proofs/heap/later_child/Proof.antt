@@ -6,23 +6,23 @@ use borrow.Author.Rules.{rules}
 use Rattle.numeric_sort.proofs.heap.later_child.Statement.{statement}
 use Rattle.numeric_sort.proofs.heap.later_child.Tie as tie
 
-returns : tie.Need-returns
+returns : tie.Need-returns-then-total_order
 returns c =
     let k = c.before.before.before.before.before in
-    let n = slice_numbers k.before.requires.finite k.shared-slice-known.given in
-    later_right n k.before.requires c.before.before.before.before.if1.true (sym c.before.total-order.ensures ∙ c.if2.true)
+    let n = slice_numbers k.before.requires.finite k.shared_slice_known-1.given in
+    later_right n k.before.requires c.before.before.before.before.if-left-end.true (sym c.before.total_order.ensures ∙ c.if-total_order.true)
 
-returns-2 : tie.Need-returns-2
+returns-2 : tie.Need-returns-else-total_order
 returns-2 c =
     let k = c.before.before.before.before.before in
-    let n = slice_numbers k.before.requires.finite k.shared-slice-known.given in
-    later_left n k.before.requires c.before.before.before.before.if1.true (sym c.before.total-order.ensures ∙ c.if2.false)
+    let n = slice_numbers k.before.requires.finite k.shared_slice_known-1.given in
+    later_left n k.before.requires c.before.before.before.before.if-left-end.true (sym c.before.total_order.ensures ∙ c.if-total_order.false)
 
-returns-3 : tie.Need-returns-3
-returns-3 c = later_only (slice_numbers c.before.before.requires.finite c.before.shared-slice-known.given) c.before.before.requires c.if1.false
+returns-3 : tie.Need-returns-else-left-end
+returns-3 c = later_only (slice_numbers c.before.before.requires.finite c.before.shared_slice_known-1.given) c.before.before.requires c.if-left-end.false
 
-pub later-child-spec : {M : Type 1} → statement M
-later-child-spec =
+pub later_child_spec : {M : Type 1} → statement M
+later_child_spec =
     tie.close
     (tie.spec
     (λ c. search rules)
