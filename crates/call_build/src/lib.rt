@@ -15,7 +15,7 @@ pub mod ratio;
 pub mod verdict;
 
 // How many objects are built, or the first refusal that applies and its place.
-#[derive(Drop)]
+#[derive(Clone, Copy)]
 pub enum Building {
     Done(usize),
     Refused(u8, ObjectIndex),

@@ -8,7 +8,7 @@ ghost use Rattle.call_build.specs.passes.Candidate.{candidate_of};
 use numeric::near;
 
 // A ratio and how far it is from the quotient.
-#[derive(Drop)]
+#[derive(Clone, Copy)]
 pub struct Candidate {
     pub ratio: f64,
     pub gap: f64,

@@ -17,14 +17,14 @@ use lent::fill;
 pub mod stretches;
 
 // The values are filled, or the first refusal that applies and its place.
-#[derive(Drop)]
+#[derive(Clone, Copy)]
 pub enum Colouring {
     Done,
     Refused(u8, ObjectIndex),
 }
 
 // The mean and its tenths, or the first refusal that applies and its place.
-#[derive(Drop)]
+#[derive(Clone, Copy)]
 pub enum Stretching {
     Done(f64, i64),
     Refused(u8, ObjectIndex),

@@ -18,7 +18,7 @@ use grouping_preprocessor::Levels;
 use lent::fill;
 
 // The number of hit patterns, or the first refusal that applies and its place.
-#[derive(Drop)]
+#[derive(Clone, Copy)]
 pub enum Encoding {
     Done(usize),
     Refused(u8, ObjectIndex),

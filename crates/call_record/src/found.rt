@@ -13,7 +13,7 @@ use grouping_same_rhythm::patterns::{Pattern, pattern_at};
 
 // The notes of a group: its first object, how many they are, the own intervals there, its last start minus its first;
 // and how many groups there are.
-#[derive(Drop)]
+#[derive(Clone, Copy)]
 pub struct LocatedGroup {
     pub first: ObjectIndex,
     pub notes: usize,
@@ -23,7 +23,7 @@ pub struct LocatedGroup {
 }
 
 // The group's notes, its interval and its pattern.
-#[derive(Drop)]
+#[derive(Clone, Copy)]
 pub struct FoundGroup {
     pub located: LocatedGroup,
     pub interval: f64,

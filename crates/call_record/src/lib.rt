@@ -24,7 +24,7 @@ pub mod found;
 // A rhythm group: its first note's object, how many notes it has, its own interval and the ratio to that before, its
 // interval, the penalty for a repeated interval, its pattern group, and the ratio of that one's interval to the one
 // before.
-#[derive(Drop)]
+#[derive(Clone, Copy)]
 pub struct GroupRecord {
     pub first: ObjectIndex,
     pub notes: usize,
@@ -37,7 +37,7 @@ pub struct GroupRecord {
 }
 
 // The record, or the first refusal that applies and its place.
-#[derive(Drop)]
+#[derive(Clone, Copy)]
 pub enum Recording {
     Done(GroupRecord),
     Refused(u8, ObjectIndex),

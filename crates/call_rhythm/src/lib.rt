@@ -20,7 +20,7 @@ pub mod spread;
 pub mod tables;
 
 // How many groups and pattern groups there are, or the first refusal that applies and its place.
-#[derive(Drop)]
+#[derive(Clone, Copy)]
 pub enum Grouping {
     Done(usize, usize),
     Refused(u8, ObjectIndex),

@@ -14,7 +14,7 @@ use grouping_marks::{group_firsts, group_numbers};
 use grouping_same_rhythm::groups::fill_intervals;
 
 // How many notes, rhythm groups and pattern groups there are.
-#[derive(Drop)]
+#[derive(Clone, Copy)]
 pub struct GroupCounts {
     pub notes: usize,
     pub groups: usize,

@@ -19,7 +19,7 @@ use vectors::sentinel::{FLOAT_SENTINEL, MOST_OBJECTS, MOST_PLACES, MOST_WORK, NU
 use vectors::{case, held, sentinel};
 
 // What is stored of a stretch: its two ends, the bits of its mean, and the tenths, whose sign is in their highest bit.
-#[derive(Drop)]
+#[derive(Clone, Copy)]
 pub struct StoredStretch {
     pub a: usize,
     pub b: usize,
@@ -28,7 +28,7 @@ pub struct StoredStretch {
 }
 
 // The call that a case is of.
-#[derive(Drop)]
+#[derive(Clone, Copy)]
 enum Asked {
     Colour,
     Stretched(StoredStretch),

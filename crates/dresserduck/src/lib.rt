@@ -24,7 +24,7 @@ use numeric::canonical::bits;
 
 // dresserduck_built in the header.
 #[repr(C)]
-#[derive(Drop)]
+#[derive(Clone, Copy)]
 pub struct Built {
     pub refusal: u64,
     pub place: u64,
@@ -71,7 +71,7 @@ pub extern "C" fn dresserduck_build(
 
 // dresserduck_encoded in the header.
 #[repr(C)]
-#[derive(Drop)]
+#[derive(Clone, Copy)]
 pub struct Encoded {
     pub refusal: u64,
     pub place: u64,
@@ -139,7 +139,7 @@ pub extern "C" fn dresserduck_encode(
 
 // dresserduck_coloured in the header.
 #[repr(C)]
-#[derive(Drop)]
+#[derive(Clone, Copy)]
 pub struct Coloured {
     pub refusal: u64,
     pub place: u64,
@@ -183,7 +183,7 @@ pub extern "C" fn dresserduck_colour(
 
 // dresserduck_stretched in the header.
 #[repr(C)]
-#[derive(Drop)]
+#[derive(Clone, Copy)]
 pub struct Stretched {
     pub refusal: u64,
     pub place: u64,
@@ -235,7 +235,7 @@ pub extern "C" fn dresserduck_stretch(
 
 // dresserduck_grouped in the header.
 #[repr(C)]
-#[derive(Drop)]
+#[derive(Clone, Copy)]
 pub struct Grouped {
     pub refusal: u64,
     pub place: u64,
@@ -286,7 +286,7 @@ pub extern "C" fn dresserduck_rhythm(
 
 // dresserduck_recorded in the header. A float leaves as its bits.
 #[repr(C)]
-#[derive(Drop)]
+#[derive(Clone, Copy)]
 pub struct Recorded {
     pub refusal: u64,
     pub place: u64,

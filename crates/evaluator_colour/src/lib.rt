@@ -11,7 +11,7 @@ use numeric::near::near;
 
 // How an object stands in its groups: its hit pattern's interval, its alternating pattern's place in that, its
 // streak's place in the alternating pattern, and of which of the three it is the first object.
-#[derive(Drop)]
+#[derive(Clone, Copy)]
 pub struct Standing {
     pub interval: usize,
     pub pattern_place: usize,

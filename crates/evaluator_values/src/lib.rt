@@ -11,7 +11,7 @@ use grouping_chart::object::ObjectIndex;
 use grouping_preprocessor::Levels;
 
 // An object's group number on each level.
-#[derive(Drop)]
+#[derive(Clone, Copy)]
 pub struct Numbers {
     pub streak: usize,
     pub pattern: usize,

@@ -3,11 +3,11 @@ ghost use Rattle.std.specs.Prelude.{◌≡◌, cond, ◌+◌, ◌^◌, ◌<◌};
 ghost use Rattle.grouping_chart.specs.Object.{is_note};
 
 // How many objects stand before one.
-#[derive(Drop)]
+#[derive(Clone, Copy)]
 pub struct ObjectIndex(pub usize);
 
 // How many notes stand before an object; where it is an object's own number, a NonHit's is 0.
-#[derive(Drop)]
+#[derive(Clone, Copy)]
 pub struct NoteIndex(pub usize);
 
 // Center and Rim are notes.

@@ -9,7 +9,7 @@ use crate::object::ObjectIndex;
 use numeric::range;
 
 // Whether a call is accepted; else the first refusal that applies and its place.
-#[derive(Drop)]
+#[derive(Clone, Copy)]
 pub enum Verdict {
     Accepted,
     Refused(u8, ObjectIndex),

@@ -6,7 +6,7 @@ ghost use Rattle.grouping_chart.specs.Settings.{base_settings};
 pub const SEARCH_LIMIT: u16 = 16;
 
 // The margin in milliseconds, the search limit, the penalty threshold and the ratio tolerance.
-#[derive(Drop)]
+#[derive(Clone, Copy)]
 pub struct Settings {
     pub margin: f64,
     pub limit: u64,

@@ -36,7 +36,7 @@ pub fn list_notes(kind: &[u8], delta: &[f64], objects: &mut [u16], values: &mut 
 
 // The groups of the notes seen so far. While `pending`, it is not known yet whether the last note, of delta `next`, is
 // taken by the group that took `last`.
-#[derive(Drop)]
+#[derive(Clone, Copy)]
 pub struct Counting {
     pub notes: usize,
     pub groups: usize,

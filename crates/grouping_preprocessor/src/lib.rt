@@ -7,7 +7,7 @@ ghost use Rattle.grouping_preprocessor.specs.passes.Steps.{HitsFound, Encodes};
 use grouping_colour::{alternating_mono_pattern, mono_streak};
 
 // How many streaks, alternating patterns and hit patterns there are, and the search limit of the intervals.
-#[derive(Drop)]
+#[derive(Clone, Copy)]
 pub struct Levels {
     pub streaks: usize,
     pub patterns: usize,

@@ -9,7 +9,7 @@ use numeric::near::near;
 use numeric::round::round_ties_even;
 
 // How far apart the notes of a group are, in milliseconds; of a single note nothing can be said.
-#[derive(Drop)]
+#[derive(Clone, Copy)]
 pub enum Own {
     Absent,
     Millis(f64),

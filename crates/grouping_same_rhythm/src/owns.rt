@@ -7,7 +7,7 @@ use crate::own::Own;
 use grouping_interval::walk::next_end;
 
 // Own intervals of a group and the three before it, absent where there is no group.
-#[derive(Drop)]
+#[derive(Clone, Copy)]
 pub struct Recent {
     pub newest: Own,
     pub second: Own,
@@ -16,7 +16,7 @@ pub struct Recent {
 }
 
 // A group that was reached: the own intervals there, and its notes, from `at` to `end`.
-#[derive(Drop)]
+#[derive(Clone, Copy)]
 pub struct Reached {
     pub owns: Recent,
     pub at: usize,

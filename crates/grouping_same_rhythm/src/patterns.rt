@@ -6,7 +6,7 @@ ghost use Rattle.grouping_same_rhythm.specs.SamePatterns.{pattern_interval, patt
 use grouping_interval::walk::next_end;
 
 // A group's pattern: its number, and its interval set against that of the pattern before.
-#[derive(Drop)]
+#[derive(Clone, Copy)]
 pub struct Pattern {
     pub number: usize,
     pub ratio: f64,

@@ -9,21 +9,21 @@ ghost use Rattle.letters_count.specs.passes.Counts.{Room, CountRead, digit_at, c
 pub const MOST_OBJECTS: usize = 1024;
 
 // A place in the text, and how many objects were read before it.
-#[derive(Drop)]
+#[derive(Clone, Copy)]
 pub struct Cursor {
     pub at: usize,
     pub count: usize,
 }
 
 // What a reader answers: the place after what it read, or the first refusal and its place.
-#[derive(Drop)]
+#[derive(Clone, Copy)]
 pub enum Read {
     Done(Cursor),
     Refused(u64, usize),
 }
 
 // A count: none, so many times with the place of its last digit, or the place of a byte that can't be there.
-#[derive(Drop)]
+#[derive(Clone, Copy)]
 pub enum Times {
     Once,
     Many(usize, usize),

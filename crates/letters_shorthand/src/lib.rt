@@ -13,7 +13,7 @@ mod reader;
 const MOST_BYTES: usize = 4096;
 
 // What an input is: over 4,096 bytes, a text refused by a number at a place, or so many objects.
-#[derive(Drop)]
+#[derive(Clone, Copy)]
 pub enum Reading {
     Long,
     Refused(u64, usize),

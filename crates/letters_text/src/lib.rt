@@ -9,7 +9,7 @@ ghost use Rattle.letters_text.specs.Lines.{lines, bad_line, long_line, Written};
 ghost use Rattle.letters_text.specs.passes.Memory.{Front, Wrote, OneLength, LinesFit};
 
 // What a text is: over 1,024 bytes, a byte that is no letter at a place, or so many letters.
-#[derive(Drop)]
+#[derive(Clone, Copy)]
 pub enum Reading {
     Long,
     Bad(usize),
@@ -17,7 +17,7 @@ pub enum Reading {
 }
 
 // An object's kind, the numbers of its groups, and its hit pattern's interval.
-#[derive(Drop)]
+#[derive(Clone, Copy)]
 pub struct Object {
     pub kind: u8,
     pub streak: u16,

@@ -4,7 +4,7 @@ ghost use Rattle.numeric.specs.Tenths.{tenths_of, InTenthsRange};
 ghost use Rattle.numeric.specs.passes.Tenths.{ScaledOf, TenNearest};
 
 // The size of a float: digits / 2^shift.
-#[derive(Drop)]
+#[derive(Clone, Copy)]
 pub struct Scaled {
     pub digits: u64,
     pub shift: u64,

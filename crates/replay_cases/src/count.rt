@@ -8,7 +8,7 @@ use vectors::case::Head;
 
 // How many cases may follow, the objects of the charts, a tally of the cases with a chart and of those on one, and the
 // head of the last chart.
-#[derive(Drop)]
+#[derive(Clone, Copy)]
 pub struct Replay {
     pub left: u64,
     pub objects: u64,
@@ -18,7 +18,7 @@ pub struct Replay {
 }
 
 // What became of a case: whether it held, and for one with a chart its head.
-#[derive(Drop)]
+#[derive(Clone, Copy)]
 pub enum Replayed {
     Chart(Head, bool),
     Part(bool),

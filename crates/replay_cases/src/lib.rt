@@ -12,7 +12,7 @@ pub mod count;
 pub mod tally;
 
 // What follows a head: the body of a case with a chart, a part of the case before it, or nothing that belongs there.
-#[derive(Drop)]
+#[derive(Clone, Copy)]
 pub enum Next {
     Body,
     Part,

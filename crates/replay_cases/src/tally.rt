@@ -3,7 +3,7 @@ ghost use Rattle.std.specs.Prelude.{◌≡◌};
 ghost use Rattle.replay_cases.specs.Tally.{no_cases, first_differing, one_more};
 
 // How many cases were replayed, how many differ, and the number of the first of those.
-#[derive(Drop)]
+#[derive(Clone, Copy)]
 pub struct Tally {
     pub cases: u64,
     pub differ: u64,

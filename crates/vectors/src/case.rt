@@ -6,7 +6,7 @@ ghost use Rattle.grouping_chart.specs.Chart.{largest};
 ghost use Rattle.vectors.specs.Case.{pair, pair_at, column_size, number_at, quad_at, word_at, head_of};
 
 // Which call, how many bytes a number of its columns has, how many objects, and how many bytes the body.
-#[derive(Drop)]
+#[derive(Clone, Copy)]
 pub struct Head {
     pub call: u8,
     pub width: u8,

@@ -4,8 +4,8 @@ use borrow.Author.Rules.{rules}
 use Rattle.grouping_chart.specs.declared.refusal.Verdict.{Verdict}
 use Rattle.grouping_chart.proofs.OutcomeLaws.{answered-refused}
 use Rattle.grouping_chart.proofs.RoomLaws.{short_joined}
-use Rattle.call_build.specs.Build.{Raw, raw_held}
-use Rattle.call_build.specs.Call.{Memory, held, judged, build_outcome}
+use Rattle.call_build.specs.Build.{Raw, raw}
+use Rattle.call_build.specs.Call.{Memory, memory, judged, build_outcome}
 use Rattle.call_build.specs.declared.Building.TheVariants as answer
 use Rattle.call_build.proofs.CallLaws.{judged-told, build_room, build-done}
 use Rattle.call_build.proofs.build.Statement.{statement}
@@ -13,10 +13,10 @@ use Rattle.call_build.proofs.build.Tie as tie
 
 -- the raw objects and the memory as lent
 abbrev rawOf : tie.Start → Raw
-rawOf c = raw_held c.args.kind c.args.time
+rawOf c = raw c.args.kind.now c.args.time.now
 
 abbrev memoryOf : tie.Start → Memory
-memoryOf c = held c.args.built-kind c.args.start c.args.delta c.args.ratio
+memoryOf c = memory c.args.built-kind.now c.args.start.now c.args.delta.now c.args.ratio.now
 
 -- ---- once the call is judged
 abbrev start : tie.After-judge → tie.Start

@@ -4,8 +4,8 @@ use mathlib.Core.List.{List}
 use Prim.Native.Nat.{ℕ}
 use native.Mathlib.Omega.{arith}
 use Rattle.lent.specs.Over.{over}
-use Rattle.call_build.specs.Build.{Raw, raw_held}
-use Rattle.call_build.specs.Call.{Memory, held}
+use Rattle.call_build.specs.Build.{Raw, raw}
+use Rattle.call_build.specs.Call.{Memory, memory}
 use Rattle.call_build.proofs.ChartLaws.{lent-kinds}
 use Rattle.call_build.proofs.CallLaws.{deltas_left, chart-filled}
 use borrow.Author.Rules.{rules}
@@ -17,10 +17,10 @@ abbrev start : tie.After-fill-deltas → tie.Start
 start c = c.before.before.before.before.before.before.before.before.before.before.before.before.before.before.before.before.before
 
 abbrev rawOf : tie.Start → Raw
-rawOf c = raw_held c.args.kind c.args.time
+rawOf c = raw c.args.kind.now c.args.time.now
 
 abbrev memoryOf : tie.Start → Memory
-memoryOf c = held c.args.built-kind c.args.start c.args.delta c.args.ratio
+memoryOf c = memory c.args.built-kind.now c.args.start.now c.args.delta.now c.args.ratio.now
 
 slice-aggregate-fill-ratios : tie.Need-slice-aggregate-fill-ratios
 slice-aggregate-fill-ratios c =

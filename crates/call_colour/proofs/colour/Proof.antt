@@ -1,13 +1,13 @@
 -- `colour` meets its contract: the verdict of the definition is the one that the tests gave, and each case leaves its outcome.
 use mathlib.Core.Path.{◌≡◌}
-use Rattle.grouping_chart.specs.Chart.{Chart, size, chart_held}
+use Rattle.grouping_chart.specs.Chart.{Chart, size, chart}
 use Rattle.grouping_chart.specs.declared.refusal.Verdict.{Verdict}
 use Rattle.grouping_chart.specs.declared.refusal.Verdict.TheVariants.{Accepted}
 use Rattle.grouping_chart.proofs.BaseLaws.{is_permitted}
 use Rattle.grouping_chart.proofs.OutcomeLaws.{verdict-judged, answered-refused}
 use Rattle.grouping_chart.proofs.RoomLaws.{short_joined}
 use Rattle.call_colour.specs.declared.Colouring.TheVariants as answer
-use Rattle.call_colour.specs.Call.{Memory, held, answer_lengths, judged, colour_outcome}
+use Rattle.call_colour.specs.Call.{Memory, memory, answer_lengths, judged, colour_outcome}
 use Rattle.call_colour.proofs.CallLaws.{chart_room, colour-done}
 use borrow.Author.Rules.{rules}
 use Rattle.call_colour.proofs.colour.Statement.{statement}
@@ -15,10 +15,10 @@ use Rattle.call_colour.proofs.colour.Tie as tie
 
 -- the chart and the memory as lent
 abbrev chartOf : tie.Start → Chart
-chartOf c = chart_held c.args.kind c.args.start c.args.delta c.args.ratio
+chartOf c = chart c.args.kind.now c.args.start.now c.args.delta.now c.args.ratio.now
 
 abbrev memoryOf : tie.Start → Memory
-memoryOf c = held c.args.value c.args.work c.args.scratch
+memoryOf c = memory c.args.value.now c.args.work.now c.args.scratch.now
 
 -- ---- once the call is judged
 abbrev start : tie.After-judge → tie.Start

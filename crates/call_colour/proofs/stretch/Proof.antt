@@ -3,7 +3,7 @@
 use mathlib.Core.Path.{◌≡◌, refl, sym, ap, ◌∙◌}
 use mir.Facts.{to_z-of_z}
 use Rattle.numeric.specs.Tenths.{tenths_of}
-use Rattle.grouping_chart.specs.Chart.{Chart, size, chart_held}
+use Rattle.grouping_chart.specs.Chart.{Chart, size, chart}
 use Rattle.grouping_chart.specs.Settings.{Settings}
 use Rattle.grouping_chart.specs.declared.refusal.Verdict.{Verdict}
 use Rattle.grouping_chart.specs.declared.refusal.Verdict.TheVariants.{Accepted}
@@ -12,7 +12,7 @@ use Rattle.grouping_chart.proofs.OutcomeLaws.{verdict-judged, both-accepted, ans
 use Rattle.grouping_chart.proofs.RoomLaws.{short_joined}
 use Rattle.call_colour.specs.declared.Stretching.TheVariants as answer
 use Rattle.call_colour.specs.Stretch.{stretch_verdict, chart_tenths}
-use Rattle.call_colour.specs.Call.{Memory, held, answer_lengths, judged, stretch_outcome}
+use Rattle.call_colour.specs.Call.{Memory, memory, answer_lengths, judged, stretch_outcome}
 use Rattle.call_colour.proofs.CallLaws.{chart_room, stretch-done}
 use Rattle.call_colour.proofs.StretchLaws.{stretch_room, mean_is, mean_in_range}
 use borrow.Author.Rules.{rules}
@@ -21,10 +21,10 @@ use Rattle.call_colour.proofs.stretch.Tie as tie
 
 -- the chart and the memory as lent
 abbrev chartOf : tie.Start → Chart
-chartOf c = chart_held c.args.kind c.args.start c.args.delta c.args.ratio
+chartOf c = chart c.args.kind.now c.args.start.now c.args.delta.now c.args.ratio.now
 
 abbrev memoryOf : tie.Start → Memory
-memoryOf c = held c.args.value c.args.work c.args.scratch
+memoryOf c = memory c.args.value.now c.args.work.now c.args.scratch.now
 
 -- the definition's verdict
 abbrev verdict_of : tie.Start → Verdict

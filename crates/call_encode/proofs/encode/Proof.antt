@@ -1,7 +1,7 @@
 -- The verdict of the definition is the one that the tests gave, and each case leaves its outcome.
 use mathlib.Core.Path.{◌≡◌, ap, ◌∙◌}
 use native.Mathlib.Omega.{arith}
-use Rattle.grouping_chart.specs.Chart.{Chart, size, chart_held}
+use Rattle.grouping_chart.specs.Chart.{Chart, size, chart}
 use Rattle.grouping_chart.specs.Settings.{Settings}
 use Rattle.grouping_chart.specs.declared.refusal.Verdict.{Verdict}
 use Rattle.grouping_chart.specs.declared.refusal.Verdict.TheVariants.{Accepted}
@@ -9,7 +9,7 @@ use Rattle.grouping_chart.proofs.BaseLaws.{is_permitted}
 use Rattle.grouping_chart.proofs.OutcomeLaws.{verdict-judged, answered-refused}
 use Rattle.grouping_chart.proofs.RoomLaws.{short_joined}
 use Rattle.call_encode.specs.declared.Encoding.TheVariants as answer
-use Rattle.call_encode.specs.Call.{Memory, held, answer_lengths, judged, encode_outcome}
+use Rattle.call_encode.specs.Call.{Memory, memory, answer_lengths, judged, encode_outcome}
 use Rattle.call_encode.proofs.CallLaws.{done-outcome, kinds_room, scratch_room, filled_is}
 use borrow.Author.Rules.{rules}
 use Rattle.call_encode.proofs.encode.Statement.{statement}
@@ -29,12 +29,12 @@ given c = c.before.before.before.before.before.before.before.before.before.befor
 -- ---- the chart and the memory as lent, and the verdict on them
 
 abbrev chartOf : tie.Start → Chart
-chartOf c = chart_held c.args.kind c.args.start c.args.delta c.args.ratio
+chartOf c = chart c.args.kind.now c.args.start.now c.args.delta.now c.args.ratio.now
 
 abbrev memoryOf : tie.Start → Memory
 memoryOf c =
     let a = c.args in
-    held a.streak a.streak-place a.pattern a.pattern-place a.hit a.interval a.work a.scratch
+    memory a.streak.now a.streak-place.now a.pattern.now a.pattern-place.now a.hit.now a.interval.now a.work.now a.scratch.now
 
 verdict-told : (c : tie.After-judge) {v : Verdict} → c.judge.result ≡ v → judged (chartOf (start c)) (memoryOf (start c)) ≡ v
 verdict-told c =

@@ -1,6 +1,6 @@
 -- `record` meets its contract: the verdict of the definition is the one that the tests gave, and each case leaves its outcome.
 use mathlib.Core.Path.{◌≡◌, ap, ◌∙◌}
-use Rattle.grouping_chart.specs.Chart.{Chart, size, chart_held}
+use Rattle.grouping_chart.specs.Chart.{Chart, size, chart}
 use Rattle.grouping_chart.specs.Settings.{Settings, base_settings}
 use Rattle.grouping_chart.specs.Outcome.{Outcome}
 use Rattle.grouping_chart.specs.declared.refusal.Verdict.{Verdict}
@@ -8,7 +8,7 @@ use Rattle.grouping_chart.specs.declared.refusal.Verdict.TheVariants.{Accepted}
 use Rattle.grouping_chart.proofs.OutcomeLaws.{verdict-judged}
 use Rattle.grouping_chart.proofs.RoomLaws.{none_asked}
 use Rattle.call_record.specs.declared.Recording.{Recording}
-use Rattle.call_record.specs.Call.{Memory, held, answer_lengths, judged, record_outcome}
+use Rattle.call_record.specs.Call.{Memory, memory, answer_lengths, judged, record_outcome}
 use Rattle.call_record.proofs.CallLaws.{lengths_same, outcome-refused, number_refused, group_room, outcome-done}
 use borrow.Author.Rules.{rules}
 use Rattle.call_record.proofs.record.Statement.{statement}
@@ -16,10 +16,10 @@ use Rattle.call_record.proofs.record.Tie as tie
 
 -- the chart and the memory as lent
 abbrev chartOf : tie.Start → Chart
-chartOf c = chart_held c.args.kind c.args.start c.args.delta c.args.ratio
+chartOf c = chart c.args.kind.now c.args.start.now c.args.delta.now c.args.ratio.now
 
 abbrev memoryOf : tie.Start → Memory
-memoryOf c = held c.args.work c.args.scratch
+memoryOf c = memory c.args.work.now c.args.scratch.now
 
 -- ---- once the call is judged
 abbrev start : tie.After-judge → tie.Start

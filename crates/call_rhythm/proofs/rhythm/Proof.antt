@@ -1,12 +1,12 @@
 -- The verdict of the definition is the one that the tests gave, and each case leaves its outcome.
 use mathlib.Core.Path.{◌≡◌}
-use Rattle.grouping_chart.specs.Chart.{Chart, size, chart_held}
+use Rattle.grouping_chart.specs.Chart.{Chart, size, chart}
 use Rattle.grouping_chart.specs.declared.refusal.Verdict.{Verdict}
 use Rattle.grouping_chart.specs.declared.refusal.Verdict.TheVariants.{Accepted}
 use Rattle.grouping_chart.proofs.OutcomeLaws.{verdict-judged, answered-refused}
 use Rattle.grouping_chart.proofs.RoomLaws.{short_joined}
 use Rattle.call_rhythm.specs.declared.Grouping.TheVariants as answer
-use Rattle.call_rhythm.specs.Call.{Memory, held, answer_lengths, judged, rhythm_outcome}
+use Rattle.call_rhythm.specs.Call.{Memory, memory, answer_lengths, judged, rhythm_outcome}
 use Rattle.call_rhythm.proofs.CallLaws.{rhythm_room, rhythm-done}
 use borrow.Author.Rules.{rules}
 use Rattle.call_rhythm.proofs.rhythm.Statement.{statement}
@@ -14,10 +14,10 @@ use Rattle.call_rhythm.proofs.rhythm.Tie as tie
 
 -- the chart and the memory as lent
 abbrev chartOf : tie.Start → Chart
-chartOf c = chart_held c.args.kind c.args.start c.args.delta c.args.ratio
+chartOf c = chart c.args.kind.now c.args.start.now c.args.delta.now c.args.ratio.now
 
 abbrev memoryOf : tie.Start → Memory
-memoryOf c = held c.args.group c.args.pattern c.args.work c.args.scratch
+memoryOf c = memory c.args.group.now c.args.pattern.now c.args.work.now c.args.scratch.now
 
 -- ---- once the call is judged
 abbrev start : tie.After-judge → tie.Start

@@ -8,5 +8,5 @@ returns : tie.Need-returns
 unfolding alt_value
 returns c = rw c.logistic.ensures
 
-pub alt-value-spec : {M : Type 1} → statement M
-alt-value-spec = tie.close (tie.spec (λ c κs. search rules) returns)
+pub alt_value_spec : {M : Type 1} → statement M
+alt_value_spec = tie.close (tie.spec (λ c κs. search rules) returns)

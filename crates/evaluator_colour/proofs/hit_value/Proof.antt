@@ -9,5 +9,5 @@ returns : tie.Need-returns
 unfolding hit_value of_bits
 returns c = rw c.logistic.ensures
 
-pub hit-value-spec : {M : Type 1} → statement M
-hit-value-spec = tie.close (tie.spec (λ c κs. search rules) returns)
+pub hit_value_spec : {M : Type 1} → statement M
+hit_value_spec = tie.close (tie.spec (λ c κs. search rules) returns)

@@ -9,5 +9,5 @@ returns : tie.Need-returns
 unfolding mono_value of_bits
 returns c = rw c.logistic.ensures
 
-pub mono-value-spec : {M : Type 1} → statement M
-mono-value-spec = tie.close (tie.spec (λ c κs. search rules) returns)
+pub mono_value_spec : {M : Type 1} → statement M
+mono_value_spec = tie.close (tie.spec (λ c κs. search rules) returns)

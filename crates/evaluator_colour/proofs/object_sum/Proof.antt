@@ -18,12 +18,12 @@ returns : tie.Need-returns
 unfolding of_bits
 returns c =
     let at-hit = c.before.before.before.before.before in
-    summed at-hit.before.before.args.o at-hit.hit-value.ensures
-    c.before.before.before.before.alt-value.ensures c.before.before.before.mono-value.ensures
-    c.before.before.add-if.ensures c.before.add-if2.ensures c.add-if3.ensures
+    summed at-hit.before.before.args.o at-hit.hit_value-hit.ensures
+    c.before.before.before.before.alt_value-alt.ensures c.before.before.before.mono_value-mono.ensures
+    c.before.before.add_if.ensures c.before.add_if-2.ensures c.add_if-3.ensures
 
-pub object-sum-spec : {M : Type 1} → statement M
-object-sum-spec =
+pub object_sum_spec : {M : Type 1} → statement M
+object_sum_spec =
     tie.close
     (tie.spec
     (λ c κs. search rules)

@@ -26,7 +26,7 @@ returns-2 c =
     let at-near = c.before.before.before in
     let at-loop = at-near.before.before.before.before in
     let more = at-near.before.before.before.loop-test.true in
-    let far = sym at-near.near.ensures ∙ not-true _ c.before.before.if2.true in
+    let far = sym at-near.near.ensures ∙ c.before.before.if2.true in
     sym (end_turn _ _ at-loop.loop.i true more far (sym c.before.rise.ensures ∙ c.if3.true)) ∙ at-loop.loop.invariant.same
 
 returns-3 : tie.Need-returns-3 invariant-loop decreases-loop
@@ -34,7 +34,7 @@ returns-3 c =
     let at-near = c.before.before.before in
     let at-loop = at-near.before.before.before.before in
     let more = at-near.before.before.before.loop-test.true in
-    let far = sym at-near.near.ensures ∙ not-true _ c.before.before.if2.true in
+    let far = sym at-near.near.ensures ∙ c.before.before.if2.true in
     sym (end_turn _ _ at-loop.loop.i false more far (sym c.before.rise.ensures ∙ c.if3.false)) ∙ at-loop.loop.invariant.same
 
 loop-again : tie.Need-loop-preserved invariant-loop decreases-loop
@@ -46,7 +46,7 @@ loop-again c =
       here = omega arith;
       upto = omega arith;
       all = at-loop.loop.invariant.all;
-      same = sym (end-near _ _ at-loop.loop.i more (sym at-near.near.ensures ∙ not-false _ c.if2.false)) ∙ at-loop.loop.invariant.same;
+      same = sym (end-near _ _ at-loop.loop.i more (sym at-near.near.ensures ∙ c.if2.false)) ∙ at-loop.loop.invariant.same;
     }
 
 returns-4 : tie.Need-returns-4 invariant-loop decreases-loop

@@ -21,12 +21,12 @@ loop-holds c = running-start _ _ _ c.before.requires
 returns : tie.Need-returns invariant-loop decreases-loop
 returns c =
     let l = c.before.before.before.before in
-    running_stop l.before.loop.invariant l.loop-test.true (sym c.before.near.ensures ∙ not-true _ c.if1.true)
+    running_stop l.before.loop.invariant l.loop-test.true (sym c.before.near.ensures ∙ c.if1.true)
 
 loop-again : tie.Need-loop-preserved invariant-loop decreases-loop
 loop-again c =
     let l = c.before.before.before.before in
-    running_turn l.before.loop.invariant l.loop-test.true (sym c.before.near.ensures ∙ not-false _ c.if1.false)
+    running_turn l.before.loop.invariant l.loop-test.true (sym c.before.near.ensures ∙ c.if1.false)
 
 returns-2 : tie.Need-returns-2 invariant-loop decreases-loop
 returns-2 c = running-end c.before.loop.invariant c.loop-test.false

@@ -4,7 +4,7 @@ use native.Mathlib.Omega.{arith}
 use borrow.Author.Rules.{rules}
 use Rattle.grouping_chart.specs.Refusal.{kind_good}
 use Rattle.grouping_chart.specs.passes.Good.{all}
-use Rattle.call_build.specs.Build.{raw_held}
+use Rattle.call_build.specs.Build.{raw}
 use Rattle.call_build.proofs.ChartLaws.{lent-kinds, good_built}
 use Rattle.call_build.proofs.verdict.check_objects.Statement.{statement}
 use Rattle.call_build.proofs.verdict.check_objects.Tie as tie
@@ -15,7 +15,7 @@ returns c =
     let s = d.before in
     let k = s.before in
     let a = k.before.before.before.before in
-    good_built _ (raw_held a.args.kind a.args.time) a.requires.size
+    good_built _ (raw a.args.kind.now a.args.time.now) a.requires.size
     (k.kinds-good.ensures ∙ ap (all kind_good) (lent-kinds a.args.kind.now _ a.requires.size)) s.starts-good.ensures
     d.deltas-good.ensures c.if1.true
 

@@ -7,7 +7,7 @@ use lib.Ieee.{nan, of_bits}
 use Rattle.grouping_chart.specs.Chart.{Chart, size}
 use Rattle.grouping_chart.specs.Refusal.{object_refusal, first_refused, objects_verdict}
 use Rattle.grouping_chart.proofs.RefusalLaws.{first_here, first_later, first_none}
-use Rattle.call_build.specs.Build.{Raw, raw_held, built_chart}
+use Rattle.call_build.specs.Build.{Raw, raw, built_chart}
 use Rattle.call_build.proofs.ChartLaws.{built-size, built-lengths, number_found}
 use Rattle.call_build.proofs.verdict.first_refused.Statement.{statement}
 use Rattle.call_build.proofs.verdict.first_refused.Tie as tie
@@ -34,7 +34,7 @@ abbrev start : tie.At-loop invariant-loop decreases-loop → tie.Start invariant
 start c = c.before.before.before
 
 abbrev rawOf : tie.Start invariant-loop decreases-loop → Raw
-rawOf c = raw_held c.args.kind c.args.time
+rawOf c = raw c.args.kind.now c.args.time.now
 
 abbrev chartOf : tie.Start invariant-loop decreases-loop → Chart
 chartOf c = built_chart c.args.rate (rawOf c)
