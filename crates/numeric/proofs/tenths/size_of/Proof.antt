@@ -17,13 +17,13 @@ float-to-bits-bits : tie.Need-float_to_bits-bits
 float-to-bits-bits c = no_nan c.args.x (near c)
 
 returns : tie.Need-returns-then-field-eq0
-returns c = scaled_low c.before.args.x (memory c.before.now) (near c.before) c.if-field-eq0.true
+returns c = scaled_low c.before.args.x (held c.before) (near c.before) c.if-field-eq0.true
 
 sub-t7 : tie.Need-overflow_sub-result
-sub-t7 c = exp_room c.before.args.x (memory c.before.now) (near c.before) c.if-field-eq0.false
+sub-t7 c = exp_room c.before.args.x (held c.before) (near c.before) c.if-field-eq0.false
 
 returns-2 : tie.Need-returns
-returns-2 c = scaled_high c.before.args.x (memory c.before.now) (near c.before) c.if-field-eq0.false
+returns-2 c = scaled_high c.before.args.x (held c.before) (near c.before) c.if-field-eq0.false
 
 pub size_of_spec : {M : Type 1} → statement M
 size_of_spec = tie.close (tie.spec float-to-bits-bits returns (λ c. search rules) sub-t7 returns-2)
