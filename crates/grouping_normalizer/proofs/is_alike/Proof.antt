@@ -5,11 +5,11 @@ use borrow.Author.Rules.{rules}
 use Rattle.grouping_normalizer.proofs.is_alike.Statement.{statement}
 use Rattle.grouping_normalizer.proofs.is_alike.Tie as tie
 
-returns : tie.Need-returns
-returns c = alike-on _ _ _ (sym c.before.before.total-order.ensures ∙ c.before.if1.true) c.total-order2.ensures
+returns : tie.Need-returns-then-total_order
+returns c = alike-on _ _ _ (sym c.before.before.total_order.ensures ∙ c.before.if-total_order.true) c.total_order-then-total_order.ensures
 
-returns-2 : tie.Need-returns-2
-returns-2 c = alike_off _ _ (sym c.before.total-order.ensures ∙ c.if1.false)
+returns-2 : tie.Need-returns
+returns-2 c = alike_off _ _ (sym c.before.total_order.ensures ∙ c.if-total_order.false)
 
-pub is-alike-spec : {M : Type 1} → statement M
-is-alike-spec = tie.close (tie.spec (λ c κs. search rules) (λ c κs. search rules) returns returns-2)
+pub is_alike_spec : {M : Type 1} → statement M
+is_alike_spec = tie.close (tie.spec (λ c κs. search rules) (λ c κs. search rules) returns returns-2)

@@ -5,15 +5,15 @@ use borrow.Author.Rules.{rules}
 use Rattle.grouping_normalizer.proofs.middle_value.Statement.{statement}
 use Rattle.grouping_normalizer.proofs.middle_value.Tie as tie
 
-returns : tie.Need-returns
-returns c = middle_odd _ c.before.if1.true
+returns : tie.Need-returns-then-set-eq1
+returns c = middle_odd _ c.before.if-set-eq1.true
 
-returns-2 : tie.Need-returns-2
+returns-2 : tie.Need-returns
 unfolding of_bits
-returns-2 c = middle-even _ c.before.before.if1.false
+returns-2 c = middle-even _ c.before.before.if-set-eq1.false
 
-pub middle-value-spec : {M : Type 1} → statement M
-middle-value-spec =
+pub middle_value_spec : {M : Type 1} → statement M
+middle_value_spec =
     tie.close
     (tie.spec
     (λ c. search rules)

@@ -7,19 +7,19 @@ use native.Mathlib.Omega.{arith}
 use Rattle.grouping_colour.proofs.alternating_mono_pattern.is_coupled.Statement.{statement}
 use Rattle.grouping_colour.proofs.alternating_mono_pattern.is_coupled.Tie as tie
 
-returns : tie.Need-returns
+returns : tie.Need-returns-then-m-i-le2
 returns c = coupled-end _ _ _ _ _ _ c.before.before.requires.0 (omega arith)
 
-returns-2 : tie.Need-returns-2
+returns-2 : tie.Need-returns-then-alike_at
 returns-2 c =
-    coupled-inside _ _ _ _ _ _ c.before.before.before.before.requires.0 (omega arith) true (sym c.if2.true ∙ c.before.Alike-at.ensures)
+    coupled-inside _ _ _ _ _ _ c.before.before.before.before.requires.0 (omega arith) true (sym c.if-alike_at.true ∙ c.before.alike_at.ensures)
 
-returns-3 : tie.Need-returns-3
+returns-3 : tie.Need-returns-else-alike_at
 returns-3 c =
-    coupled-inside _ _ _ _ _ _ c.before.before.before.before.requires.0 (omega arith) false (sym c.if2.false ∙ c.before.Alike-at.ensures)
+    coupled-inside _ _ _ _ _ _ c.before.before.before.before.requires.0 (omega arith) false (sym c.if-alike_at.false ∙ c.before.alike_at.ensures)
 
-pub is-coupled-spec : {M : Type 1} → statement M
-is-coupled-spec =
+pub is_coupled_spec : {M : Type 1} → statement M
+is_coupled_spec =
     tie.close
     (tie.spec
     (λ c. omega arith)

@@ -4,11 +4,11 @@ use borrow.Author.Rules.{rules}
 use Rattle.grouping_colour.proofs.mono_streak.last_after.Statement.{statement}
 use Rattle.grouping_colour.proofs.mono_streak.last_after.Tie as tie
 
-returns : tie.Need-returns
-returns c = rw (sym c.before.is-note.ensures ∙ c.if1.true)
+returns : tie.Need-returns-then-is_note
+returns c = rw (sym c.before.is_note.ensures ∙ c.if-is_note.true)
 
-returns-2 : tie.Need-returns-2
-returns-2 c = rw (sym c.before.is-note.ensures ∙ c.if1.false)
+returns-2 : tie.Need-returns-else-is_note
+returns-2 c = rw (sym c.before.is_note.ensures ∙ c.if-is_note.false)
 
-pub last-after-spec : {M : Type 1} → statement M
-last-after-spec = tie.close (tie.spec (λ c κs. search rules) returns returns-2)
+pub last_after_spec : {M : Type 1} → statement M
+last_after_spec = tie.close (tie.spec (λ c κs. search rules) returns returns-2)

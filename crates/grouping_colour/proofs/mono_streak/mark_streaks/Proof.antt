@@ -10,32 +10,32 @@ use borrow.Author.Rules.{rules}
 use Rattle.grouping_colour.proofs.mono_streak.mark_streaks.Statement.{statement}
 use Rattle.grouping_colour.proofs.mono_streak.mark_streaks.Tie as tie
 
-abbrev invariant-loop : tie.invariant-loop
+abbrev invariant-loop : tie.invariant-loop-at
 invariant-loop kind w₀ to at₀ next₀ last₀ w at next last =
     Walk seen_next opens_seen seen₀ kind (length kind) to w₀ w (record { notes = next.0; last = last }) at.0 × (next.0 < at.0 + 1)
 
-abbrev decreases-loop : tie.decreases-loop
+abbrev decreases-loop : tie.decreases-loop-at
 decreases-loop kind w₀ to at₀ next₀ last₀ w at next last = length kind - at.0
 
-loop-holds : tie.Need-loop-init invariant-loop decreases-loop
+loop-holds : tie.Need-loop-at-init invariant-loop decreases-loop
 loop-holds c = (start seen_next opens_seen seen₀ _ _ _ _ refl c.before.before.requires, omega arith)
 
-loop-again : tie.Need-loop-preserved invariant-loop decreases-loop
+loop-again : tie.Need-loop-at-preserved invariant-loop decreases-loop
 loop-again c =
     let indexed = c.before.before.before in
-    let l = indexed.before.before.before.before.loop.invariant in
-    let opens = seen_opens _ _ _ _ _ indexed.note-index.ensures c.before.before.opens-streak.ensures in
-    let moves = seen_moves _ _ _ _ _ c.before.note-after.ensures c.last-after.ensures in
-    (turn 0 l.0 (omega arith) opens moves, seen_few _ _ _ _ c.before.note-after.ensures l.1)
+    let l = indexed.before.before.before.before.loop-at.invariant in
+    let opens = seen_opens _ _ _ _ _ indexed.note_index-note.ensures c.before.before.opens_streak.ensures in
+    let moves = seen_moves _ _ _ _ _ c.before.note_after-next.ensures c.last_after-last.ensures in
+    (turn 0 l.0 (omega arith) opens moves, seen_few _ _ _ _ c.before.note_after-next.ensures l.1)
 
-same_length : tie.Need-same-length invariant-loop decreases-loop
-same_length c = c.before.before.loop.invariant.0.fill.long
+same_length : tie.Need-shape_of-w invariant-loop decreases-loop
+same_length c = c.before.before.loop-at.invariant.0.fill.long
 
 returns : tie.Need-returns invariant-loop decreases-loop
-returns c = marks_stored _ _ _ _ (ended c.before.before.loop.invariant.0 c.if1.false)
+returns c = marks_stored _ _ _ _ (ended c.before.before.loop-at.invariant.0 c.loop-at-test.false)
 
-pub mark-streaks-spec : {M : Type 1} → statement M
-mark-streaks-spec =
+pub mark_streaks_spec : {M : Type 1} → statement M
+mark_streaks_spec =
     tie.close
     (tie.spec
     invariant-loop
