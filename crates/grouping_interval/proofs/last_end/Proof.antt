@@ -6,23 +6,23 @@ use borrow.Author.Rules.{rules}
 use Rattle.grouping_interval.proofs.last_end.Statement.{statement}
 use Rattle.grouping_interval.proofs.last_end.Tie as tie
 
-returns : tie.Need-returns
-returns c = sym (end_none _ _ _ c.if1.true)
+returns : tie.Need-returns-then-n-i
+returns c = sym (end_none _ _ _ c.if-n-i.true)
 
-returns-2 : tie.Need-returns-2
+returns-2 : tie.Need-returns-then-last_taken
 returns-2 c =
     let at = c.before in
     let at-if1 = at.before.before.before in
-    sym (end_last _ _ _ true at-if1.if1.false at-if1.before.before.requires.1 (sym at.last_taken.ensures ∙ c.if2.true))
+    sym (end_last _ _ _ true at-if1.if-n-i.false at-if1.before.before.requires.1 (sym at.last_taken.ensures ∙ c.if-last_taken.true))
 
-returns-3 : tie.Need-returns-3
+returns-3 : tie.Need-returns-else-last_taken
 returns-3 c =
     let at = c.before in
     let at-if1 = at.before.before.before in
-    sym (end_last _ _ _ false at-if1.if1.false at-if1.before.before.requires.1 (sym at.last_taken.ensures ∙ c.if2.false))
+    sym (end_last _ _ _ false at-if1.if-n-i.false at-if1.before.before.requires.1 (sym at.last_taken.ensures ∙ c.if-last_taken.false))
 
-pub last-end-spec : {M : Type 1} → statement M
-last-end-spec =
+pub last_end_spec : {M : Type 1} → statement M
+last_end_spec =
     tie.close
     (tie.spec
     returns

@@ -5,5 +5,5 @@ use Rattle.grouping_interval.proofs.last_taken.Tie as tie
 returns : tie.Need-returns
 returns c = rw c.near.ensures
 
-pub last-taken-spec : {M : Type 1} → statement M
-last-taken-spec = tie.close (tie.spec (λ c κs. tt) returns)
+pub last_taken_spec : {M : Type 1} → statement M
+last_taken_spec = tie.close (tie.spec (λ c κs. tt) returns)

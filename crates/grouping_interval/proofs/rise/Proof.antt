@@ -8,5 +8,5 @@ returns : tie.Need-returns
 unfolding is_rise
 returns c = refl
 
-pub rise-spec : {M : Type 1} → statement M
-rise-spec = tie.close (tie.spec returns)
+pub rise_spec : {M : Type 1} → statement M
+rise_spec = tie.close (tie.spec returns)

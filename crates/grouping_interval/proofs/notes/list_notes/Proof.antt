@@ -8,26 +8,26 @@ use Rattle.grouping_interval.proofs.ListLaws.{Listing, listing_start, listing_no
 use Rattle.grouping_interval.proofs.notes.list_notes.Statement.{statement}
 use Rattle.grouping_interval.proofs.notes.list_notes.Tie as tie
 
-abbrev invariant-loop : tie.invariant-loop
+abbrev invariant-loop : tie.invariant-loop-object
 invariant-loop kind delta objects₀ values₀ note₀ object₀ objects values note object = Listing kind delta objects₀ objects values₀ values note.0 object.0
 
-abbrev decreases-loop : tie.decreases-loop
+abbrev decreases-loop : tie.decreases-loop-object
 decreases-loop kind delta objects₀ values₀ note₀ object₀ objects values note object = length kind - object.0
 
-loop-again : tie.Need-loop-preserved invariant-loop decreases-loop
+loop-again : tie.Need-loop-object-preserved-then-is_note invariant-loop decreases-loop
 loop-again c =
     let at-note = c.before.before in
     let inside = at-note.before.before in
-    listing_note inside.before.before.loop.invariant inside.if1.true (sym at-note.is-note.ensures ∙ c.before.if2.true)
+    listing_note inside.before.before.loop-object.invariant inside.loop-object-test.true (sym at-note.is_note.ensures ∙ c.before.if-is_note.true)
 
-loop-again-2 : tie.Need-loop-preserved-2 invariant-loop decreases-loop
+loop-again-2 : tie.Need-loop-object-preserved invariant-loop decreases-loop
 loop-again-2 c =
     let at-note = c.before in
     let inside = at-note.before.before in
-    listing_pass inside.before.before.loop.invariant inside.if1.true (sym at-note.is-note.ensures ∙ c.if2.false)
+    listing_pass inside.before.before.loop-object.invariant inside.loop-object-test.true (sym at-note.is_note.ensures ∙ c.if-is_note.false)
 
-pub list-notes-spec : {M : Type 1} → statement M
-list-notes-spec =
+pub list_notes_spec : {M : Type 1} → statement M
+list_notes_spec =
     tie.close
     (tie.spec
     invariant-loop
@@ -49,6 +49,6 @@ list-notes-spec =
     (λ c. omega arith)
     (λ c. omega arith)
     loop-again-2
-    (λ c. c.before.before.loop.invariant.numbers.long)
-    (λ c. c.before.before.loop.invariant.floats.long)
-    (λ c. listing_end c.before.before.loop.invariant c.if1.false))
+    (λ c. c.before.before.loop-object.invariant.numbers.long)
+    (λ c. c.before.before.loop-object.invariant.floats.long)
+    (λ c. listing_end c.before.before.loop-object.invariant c.loop-object-test.false))
