@@ -16,30 +16,30 @@ use Rattle.call_build.proofs.fill_chart.Tie as tie
 abbrev start : tie.After-fill-deltas → tie.Start
 start c = c.before.before.before.before.before.before.before.before.before.before.before.before.before.before.before.before.before
 
-abbrev rawOf : tie.Start → Raw
-rawOf c = raw c.args.kind.now c.args.time.now
+abbrev raw_of : tie.Start → Raw
+raw_of c = raw c.args.kind.now c.args.time.now
 
-abbrev memoryOf : tie.Start → Memory
-memoryOf c = memory c.args.built-kind.now c.args.start.now c.args.delta.now c.args.ratio.now
+abbrev memory_of : tie.Start → Memory
+memory_of c = memory c.args.built-kind.now c.args.start.now c.args.delta.now c.args.ratio.now
 
 slice-aggregate-fill-ratios : tie.Need-slice-aggregate-fill-ratios
 slice-aggregate-fill-ratios c =
     let d = c.before.before.before in
     let s = start d in
-    sym (deltas_left _ (rawOf s) (memoryOf s) s.pre.raw.size s.pre.delta d.fill-deltas.ensures)
+    sym (deltas_left _ (raw_of s) (memory_of s) s.pre.raw.size s.pre.delta d.fill-deltas.ensures)
 
 fill-ratios-requires : tie.Need-fill-ratios-requires
 fill-ratios-requires c κs =
     let d = c.before.before.before.before in
     let s = start d in
-    rw (deltas_left _ (rawOf s) (memoryOf s) s.pre.raw.size s.pre.delta d.fill-deltas.ensures) s.pre.ratio
+    rw (deltas_left _ (raw_of s) (memory_of s) s.pre.raw.size s.pre.delta d.fill-deltas.ensures) s.pre.ratio
 
 returns : tie.Need-returns
 returns c =
     let d = c.before.before.before.before.before.before.before in
     let k = d.before.before.before.before.before.before.before.before in
     let s = start d in
-    chart-filled _ (rawOf s) (memoryOf s) s.pre.raw.size
+    chart-filled _ (raw_of s) (memory_of s) s.pre.raw.size
     (k.copy-bytes.ensures ∙ ap (λ (l : List ℕ). over l s.args.built-kind.now) (lent-kinds s.args.kind.now _ s.pre.raw.size))
     d.before.before.before.before.fill-starts.ensures d.fill-deltas.ensures c.before.before.fill-ratios.ensures
 

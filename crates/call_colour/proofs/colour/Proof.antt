@@ -14,43 +14,43 @@ use Rattle.call_colour.proofs.colour.Statement.{statement}
 use Rattle.call_colour.proofs.colour.Tie as tie
 
 -- the chart and the memory as lent
-abbrev chartOf : tie.Start → Chart
-chartOf c = chart c.args.kind.now c.args.start.now c.args.delta.now c.args.ratio.now
+abbrev chart_of : tie.Start → Chart
+chart_of c = chart c.args.kind.now c.args.start.now c.args.delta.now c.args.ratio.now
 
-abbrev memoryOf : tie.Start → Memory
-memoryOf c = memory c.args.value.now c.args.work.now c.args.scratch.now
+abbrev memory_of : tie.Start → Memory
+memory_of c = memory c.args.value.now c.args.work.now c.args.scratch.now
 
 -- ---- once the call is judged
 abbrev start : tie.After-judge → tie.Start
 start c = c.before.before.before.before.before.before.before.before
 
-verdict-told : (c : tie.After-judge) {v : Verdict} → c.judge.result ≡ v → judged (chartOf (start c)) (memoryOf (start c)) ≡ v
+verdict-told : (c : tie.After-judge) {v : Verdict} → c.judge.result ≡ v → judged (chart_of (start c)) (memory_of (start c)) ≡ v
 verdict-told c =
     let s = start c in
-    verdict-judged (chartOf s) (answer_lengths (memoryOf s)) _ _ (short_joined (size (chartOf s)) _ _) c.judge.ensures
+    verdict-judged (chart_of s) (answer_lengths (memory_of s)) _ _ (short_joined (size (chart_of s)) _ _) c.judge.ensures
 
 -- ---- once it is accepted
-accepted : (c : tie.After-enum-told) → judged (chartOf (start c.before.before)) (memoryOf (start c.before.before)) ≡ Accepted
+accepted : (c : tie.After-enum-told) → judged (chart_of (start c.before.before)) (memory_of (start c.before.before)) ≡ Accepted
 accepted c = verdict-told c.before.before c.enum_told.given.1
 
 fill-chart-requires : tie.Need-fill-chart-requires
 fill-chart-requires c κs =
     let b = c.before.before.before in
     let s = start b.before.before.before in
-    chart_room b.base.result (chartOf s) (memoryOf s) (is_permitted b.base.ensures) (accepted b.before)
+    chart_room b.base.result (chart_of s) (memory_of s) (is_permitted b.base.ensures) (accepted b.before)
 
 returns : tie.Need-returns
 unfolding colour_outcome
 returns c =
     let k = c.before.before.before in
-    answered-refused _ answer.Refused (memoryOf (start k)) (verdict-told k c.before.number.given.1)
+    answered-refused _ answer.Refused (memory_of (start k)) (verdict-told k c.before.number.given.1)
 
 returns-2 : tie.Need-returns-2
 returns-2 c =
     let f = c.before.before.before.before.before.before in
     let b = f.before.before.before.before in
     let s = start b.before.before.before in
-    rw b.base.ensures at (colour-done b.base.result (chartOf s) (memoryOf s) _ (accepted b.before) f.fill-chart.ensures)
+    rw b.base.ensures at (colour-done b.base.result (chart_of s) (memory_of s) _ (accepted b.before) f.fill-chart.ensures)
 
 pub colour-spec : {M : Type 1} → statement M
 colour-spec =

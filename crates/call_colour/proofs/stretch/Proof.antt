@@ -20,15 +20,15 @@ use Rattle.call_colour.proofs.stretch.Statement.{statement}
 use Rattle.call_colour.proofs.stretch.Tie as tie
 
 -- the chart and the memory as lent
-abbrev chartOf : tie.Start → Chart
-chartOf c = chart c.args.kind.now c.args.start.now c.args.delta.now c.args.ratio.now
+abbrev chart_of : tie.Start → Chart
+chart_of c = chart c.args.kind.now c.args.start.now c.args.delta.now c.args.ratio.now
 
-abbrev memoryOf : tie.Start → Memory
-memoryOf c = memory c.args.value.now c.args.work.now c.args.scratch.now
+abbrev memory_of : tie.Start → Memory
+memory_of c = memory c.args.value.now c.args.work.now c.args.scratch.now
 
 -- the definition's verdict
 abbrev verdict_of : tie.Start → Verdict
-verdict_of c = stretch_verdict (judged (chartOf c) (memoryOf c)) c.args.kind.now c.args.a c.args.b
+verdict_of c = stretch_verdict (judged (chart_of c) (memory_of c)) c.args.kind.now c.args.a c.args.b
 
 -- ---- once the call and the stretch are judged
 abbrev start : tie.After-stretch-verdict → tie.Start
@@ -37,7 +37,7 @@ start c = c.before.before.before.before.before.before.before.before.before
 verdict-told : (c : tie.After-stretch-verdict) {v : Verdict} → c.stretch-verdict.result ≡ v → verdict_of (start c) ≡ v
 verdict-told c e =
     let s = start c in
-    let j = verdict-judged (chartOf s) (answer_lengths (memoryOf s)) _ _ (short_joined (size (chartOf s)) _ _) c.before.judge.ensures refl in
+    let j = verdict-judged (chart_of s) (answer_lengths (memory_of s)) _ _ (short_joined (size (chart_of s)) _ _) c.before.judge.ensures refl in
     rw j (sym c.stretch-verdict.ensures ∙ e)
 
 -- ---- once they are accepted
@@ -51,7 +51,7 @@ fill-chart-requires : tie.Need-fill-chart-requires
 fill-chart-requires c κs =
     let b = c.before.before.before in
     let s = entered b in
-    chart_room b.base.result (chartOf s) (memoryOf s) (is_permitted b.base.ensures) (both-accepted _ _ (accepted b.before)).chart
+    chart_room b.base.result (chart_of s) (memory_of s) (is_permitted b.base.ensures) (both-accepted _ _ (accepted b.before)).chart
 
 -- ---- once the values are filled
 abbrev based : tie.After-fill-chart → tie.After-base
@@ -62,7 +62,7 @@ mean-requires c κs =
     let f = c.before.before.before.before.before.before.before in
     let b = based f in
     let s = entered b in
-    stretch_room b.base.result (is_permitted b.base.ensures) (chartOf s) (memoryOf s) _ _ (both-accepted _ _ (accepted b.before)) _
+    stretch_room b.base.result (is_permitted b.base.ensures) (chart_of s) (memory_of s) _ _ (both-accepted _ _ (accepted b.before)) _
     f.fill-chart.ensures
 
 tenths-requires : tie.Need-tenths-requires
@@ -70,14 +70,14 @@ tenths-requires c κs =
     let f = c.before.before.before.before.before.before.before.before in
     let b = based f in
     let s = entered b in
-    mean_in_range b.base.result (is_permitted b.base.ensures) (chartOf s) (memoryOf s) _ _ (both-accepted _ _ (accepted b.before)) _
+    mean_in_range b.base.result (is_permitted b.base.ensures) (chart_of s) (memory_of s) _ _ (both-accepted _ _ (accepted b.before)) _
     f.fill-chart.ensures _ c.mean.ensures
 
 returns : tie.Need-returns
 unfolding stretch_outcome
 returns c =
     let k = c.before.before.before in
-    answered-refused _ answer.Refused (memoryOf (start k)) (verdict-told k c.before.number.given.1)
+    answered-refused _ answer.Refused (memory_of (start k)) (verdict-told k c.before.number.given.1)
 
 returns-2 : tie.Need-returns-2
 unfolding chart_tenths
@@ -86,11 +86,11 @@ returns-2 c =
     let b = based f in
     let s = entered b in
     let mean =
-    mean_is b.base.result (is_permitted b.base.ensures) (chartOf s) (memoryOf s) _ _ (both-accepted _ _ (accepted b.before)) _
+    mean_is b.base.result (is_permitted b.base.ensures) (chart_of s) (memory_of s) _ _ (both-accepted _ _ (accepted b.before)) _
     f.fill-chart.ensures _ c.before.mean.ensures in
     let tenths = to_z-of_z (record { sfits = c.tenths.type-inv }) ∙ c.tenths.ensures ∙ ap tenths_of mean in
-    stretch-done b.base.result (chartOf s) (memoryOf s) _ _ _ _ _ (accepted b.before) mean tenths f.fill-chart.ensures
-    ∙ ap (λ (set : Settings). stretch_outcome set (chartOf s) s.args.a s.args.b (memoryOf s)) b.base.ensures
+    stretch-done b.base.result (chart_of s) (memory_of s) _ _ _ _ _ (accepted b.before) mean tenths f.fill-chart.ensures
+    ∙ ap (λ (set : Settings). stretch_outcome set (chart_of s) s.args.a s.args.b (memory_of s)) b.base.ensures
 
 pub stretch-spec : {M : Type 1} → statement M
 stretch-spec =

@@ -28,20 +28,20 @@ given c = c.before.before.before.before.before.before.before.before.before.befor
 
 -- ---- the chart and the memory as lent, and the verdict on them
 
-abbrev chartOf : tie.Start → Chart
-chartOf c = chart c.args.kind.now c.args.start.now c.args.delta.now c.args.ratio.now
+abbrev chart_of : tie.Start → Chart
+chart_of c = chart c.args.kind.now c.args.start.now c.args.delta.now c.args.ratio.now
 
-abbrev memoryOf : tie.Start → Memory
-memoryOf c =
+abbrev memory_of : tie.Start → Memory
+memory_of c =
     let a = c.args in
     memory a.streak.now a.streak-place.now a.pattern.now a.pattern-place.now a.hit.now a.interval.now a.work.now a.scratch.now
 
-verdict-told : (c : tie.After-judge) {v : Verdict} → c.judge.result ≡ v → judged (chartOf (start c)) (memoryOf (start c)) ≡ v
+verdict-told : (c : tie.After-judge) {v : Verdict} → c.judge.result ≡ v → judged (chart_of (start c)) (memory_of (start c)) ≡ v
 verdict-told c =
     let s = start c in
-    verdict-judged (chartOf s) (answer_lengths (memoryOf s)) _ _ (short_joined (size (chartOf s)) _ _) c.judge.ensures
+    verdict-judged (chart_of s) (answer_lengths (memory_of s)) _ _ (short_joined (size (chart_of s)) _ _) c.judge.ensures
 
-accepted : (c : tie.After-enum-told) → judged (chartOf (start c.before.before)) (memoryOf (start c.before.before)) ≡ Accepted
+accepted : (c : tie.After-enum-told) → judged (chart_of (start c.before.before)) (memory_of (start c.before.before)) ≡ Accepted
 accepted c = verdict-told c.before.before c.enum_told.given.1
 
 -- ---- the needs
@@ -53,19 +53,19 @@ encode-kinds-requires : tie.Need-encode-kinds-requires
 encode-kinds-requires c κs =
     let b = c.before.before.before.before.before.before.before.before in
     let s = start b.before.before.before in
-    kinds_room b.base.result (chartOf s) (memoryOf s) (is_permitted b.base.ensures) (accepted b.before)
+    kinds_room b.base.result (chart_of s) (memory_of s) (is_permitted b.base.ensures) (accepted b.before)
 
 clear-floats-requires : tie.Need-clear-floats-requires
 clear-floats-requires c κs =
     let t = (based (given c)).before in
     let s = start t.before.before in
-    scratch_room (chartOf s) (memoryOf s) (accepted t)
+    scratch_room (chart_of s) (memory_of s) (accepted t)
 
 returns : tie.Need-returns
 unfolding encode_outcome
 returns c =
     let k = c.before.before.before in
-    answered-refused _ answer.Refused (memoryOf (start k)) (verdict-told k c.before.number.given.1)
+    answered-refused _ answer.Refused (memory_of (start k)) (verdict-told k c.before.number.given.1)
 
 returns-2 : tie.Need-returns-2
 returns-2 c =
@@ -73,9 +73,9 @@ returns-2 c =
     let b = based e in
     let set = b.base.result in
     let s = start b.before.before.before in
-    let f = filled_is set (chartOf s) (memoryOf s) e.encode-kinds.ensures.1 c.before.before.clear-floats.ensures in
-    done-outcome set (chartOf s) (memoryOf s) _ _ (accepted b.before) e.encode-kinds.ensures.0 f
-    ∙ ap (λ (x : Settings). encode_outcome x (chartOf s) (memoryOf s)) b.base.ensures
+    let f = filled_is set (chart_of s) (memory_of s) e.encode-kinds.ensures.1 c.before.before.clear-floats.ensures in
+    done-outcome set (chart_of s) (memory_of s) _ _ (accepted b.before) e.encode-kinds.ensures.0 f
+    ∙ ap (λ (x : Settings). encode_outcome x (chart_of s) (memory_of s)) b.base.ensures
 
 pub encode-spec : {M : Type 1} → statement M
 encode-spec =

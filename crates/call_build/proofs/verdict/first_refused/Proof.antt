@@ -33,30 +33,30 @@ head c = c.before.before.before.before.before.before
 abbrev start : tie.At-loop invariant-loop decreases-loop → tie.Start invariant-loop decreases-loop
 start c = c.before.before.before
 
-abbrev rawOf : tie.Start invariant-loop decreases-loop → Raw
-rawOf c = raw c.args.kind.now c.args.time.now
+abbrev raw_of : tie.Start invariant-loop decreases-loop → Raw
+raw_of c = raw c.args.kind.now c.args.time.now
 
-abbrev chartOf : tie.Start invariant-loop decreases-loop → Chart
-chartOf c = built_chart c.args.rate (rawOf c)
+abbrev chart_of : tie.Start invariant-loop decreases-loop → Chart
+chart_of c = built_chart c.args.rate (raw_of c)
 
 -- the number of the built object that was tested
 abbrev Found : tie.After-object-refusal invariant-loop decreases-loop → Type 0
-Found c = let i = (head c).loop.at.0 in let b = chartOf (start (head c)) in
+Found c = let i = (head c).loop.at.0 in let b = chart_of (start (head c)) in
     c.object-refusal.result ≡ object_refusal (get_or b.kinds i 0) (get_or b.starts i nan) (get_or b.deltas i nan) (get_or b.ratios i nan)
 
 found : (c : tie.After-object-refusal invariant-loop decreases-loop) → Found c
 unfolding of_bits
 found c =
-    number_found _ (rawOf (start (head c))) _ (omega arith) c.before.before.start-at.ensures c.before.delta-at.ensures c.object-refusal.ensures
+    number_found _ (raw_of (start (head c))) _ (omega arith) c.before.before.start-at.ensures c.before.delta-at.ensures c.object-refusal.ensures
 
-inside : (c : tie.After-object-refusal invariant-loop decreases-loop) → (head c).loop.at.0 < size (chartOf (start (head c)))
-inside c = omega (arith, built-size (start (head c)).args.rate (rawOf (start (head c))))
+inside : (c : tie.After-object-refusal invariant-loop decreases-loop) → (head c).loop.at.0 < size (chart_of (start (head c)))
+inside c = omega (arith, built-size (start (head c)).args.rate (raw_of (start (head c))))
 
 returns : tie.Need-returns invariant-loop decreases-loop
 returns c =
     let o = c.before in
     let t = head o in
-    first_here _ _ _ _ t.loop.at.0 nan (built-lengths _ (rawOf (start t))) _ (inside o) (found o) c.if2.true ∙ t.loop.inv.same
+    first_here _ _ _ _ t.loop.at.0 nan (built-lengths _ (raw_of (start t))) _ (inside o) (found o) c.if2.true ∙ t.loop.inv.same
 
 loop-again : tie.Need-loop-preserved invariant-loop decreases-loop
 loop-again c =
@@ -65,14 +65,14 @@ loop-again c =
     record {
       within = omega arith;
       same =
-          sym (first_later _ _ _ _ t.loop.at.0 nan (built-lengths _ (rawOf (start t))) _ (inside o) (found o) c.if2.false) ∙ t.loop.inv.same;
+          sym (first_later _ _ _ _ t.loop.at.0 nan (built-lengths _ (raw_of (start t))) _ (inside o) (found o) c.if2.false) ∙ t.loop.inv.same;
     }
 
 returns-2 : tie.Need-returns-2 invariant-loop decreases-loop
 returns-2 c =
     let t = c.before.before in
     let s = start t in
-    first_none _ _ _ _ t.loop.at.0 (omega (arith, built-size s.args.rate (rawOf s))) ∙ t.loop.invariant.same
+    first_none _ _ _ _ t.loop.at.0 (omega (arith, built-size s.args.rate (raw_of s))) ∙ t.loop.invariant.same
 
 pub first-refused-spec : {M : Type 1} → statement M
 first-refused-spec =
