@@ -10,9 +10,9 @@ returns c =
     let found = c.before.before in
     let patterned = found.before.before.before.before in
     let streaked = patterned.before.before.before.before in
-    encoded _ _ _ _ _ _ _ _ _ streaked.find-streaks.ensures patterned.find-patterns.ensures found.find-hits.ensures
+    encoded _ _ _ _ _ _ _ _ _ streaked.find_streaks-s.ensures patterned.find_patterns-p.ensures found.find_hits-h.ensures
 
-pub encode-levels-spec : {M : Type 1} → statement M
-encode-levels-spec =
+pub encode_levels_spec : {M : Type 1} → statement M
+encode_levels_spec =
     tie.close
     (tie.spec (λ c κs. search rules) (λ c κs. search rules) (λ c κs. search rules) (λ c. omega arith) returns)

@@ -6,23 +6,23 @@ use Rattle.grouping_preprocessor.proofs.find_hits.Statement.{statement}
 use Rattle.grouping_preprocessor.proofs.find_hits.Tie as tie
 
 -- from one call back to an earlier one: to the start, the marks, the sizes, and the second lengths
-abbrev start : tie.After-find-hit-marks → tie.Start
+abbrev start : tie.After-find_hit_marks → tie.Start
 start c = c.before.before.before
 
-abbrev marked : tie.After-group-sizes → tie.After-find-hit-marks
+abbrev marked : tie.After-group_sizes-h → tie.After-find_hit_marks
 marked c = c.before.before.before.before
 
-abbrev sized : tie.After-group-firsts2 → tie.After-group-sizes
+abbrev sized : tie.After-group_firsts-2 → tie.After-group_sizes-h
 sized c = c.before.before.before.before.before.before.before.before
 
-abbrev second : tie.After-group-numbers → tie.After-group-firsts2
+abbrev second : tie.After-group_numbers → tie.After-group_firsts-2
 second c = c.before.before.before.before.before.before.before.before
 
-repetition-intervals-requires : tie.Need-repetition-intervals-requires
+repetition-intervals-requires : tie.Need-repetition_intervals-requires
 repetition-intervals-requires c κs =
     let s = sized c.before.before.before in
     let asked = (start (marked s)).requires in
-    let few = groups-few _ _ _ _ s.group-sizes.ensures.0 (omega arith) in (
+    let few = groups-few _ _ _ _ s.group_sizes-h.ensures.0 (omega arith) in (
       record {
         first = apart_before (omega arith) (omega arith);
         second = apart_before (omega arith) (omega arith);
@@ -31,7 +31,7 @@ repetition-intervals-requires c κs =
       asked.1.1,
     )
 
-group-places-requires : tie.Need-group-places-requires
+group-places-requires : tie.Need-group_places-requires
 group-places-requires c κs =
     let r = (start (marked (sized (second c.before.before.before)))).requires in
     room_behind (omega (arith, r)) (omega (arith, r)) (omega (arith, r))
@@ -43,13 +43,13 @@ returns c =
     let f = second numbered in
     let s = sized f in
     let m = marked s in
-    let asked = (start m).pre in
-    hits_made _ _ _ _ _ _ _ _ _ _ _ _ _ _ asked.0 asked.1.0 m.find-hit-marks.ensures
-    s.group-sizes.ensures f.before.before.before.before.group-firsts.ensures f.group-firsts2.ensures
-    numbered.before.before.before.before.repetition-intervals.ensures numbered.group-numbers.ensures placed.group-places.ensures
+    let asked = (start m).requires in
+    hits_made _ _ _ _ _ _ _ _ _ _ _ _ _ _ asked.0 asked.1.0 m.find_hit_marks.ensures
+    s.group_sizes-h.ensures f.before.before.before.before.group_firsts.ensures f.group_firsts-2.ensures
+    numbered.before.before.before.before.repetition_intervals.ensures numbered.group_numbers.ensures placed.group_places.ensures
 
-pub find-hits-spec : {M : Type 1} → statement M
-find-hits-spec =
+pub find_hits_spec : {M : Type 1} → statement M
+find_hits_spec =
     tie.close
     (tie.spec
     (λ c. omega arith)

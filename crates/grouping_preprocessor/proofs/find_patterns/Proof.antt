@@ -14,12 +14,12 @@ returns c =
     let numbered = placed.before.before.before.before in
     let marked = numbered.before.before.before.before in
     let start = marked.before.before.before in
-    patterns_made _ _ _ _ _ _ _ _ _ _ start.requires.0 start.requires.1 marked.mark-patterns.ensures
-    numbered.group-numbers.ensures placed.group-places.ensures first.group-firsts.ensures typed.group-firsts2.ensures
-    sized.group-sizes.ensures
+    patterns_made _ _ _ _ _ _ _ _ _ _ start.requires.0 start.requires.1 marked.mark_patterns.ensures
+    numbered.group_numbers.ensures placed.group_places.ensures first.group_firsts.ensures typed.group_firsts-2.ensures
+    sized.group_sizes.ensures
 
-pub find-patterns-spec : {M : Type 1} → statement M
-find-patterns-spec =
+pub find_patterns_spec : {M : Type 1} → statement M
+find_patterns_spec =
     tie.close
     (tie.spec
     (λ c. omega arith)

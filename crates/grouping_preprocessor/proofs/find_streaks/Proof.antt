@@ -12,11 +12,11 @@ returns c =
     let numbered = typed.before.before.before.before in
     let marked = numbered.before.before.before.before in
     let start = marked.before.before.before.before in
-    streaks_made _ _ _ _ _ _ _ start.requires marked.mark-streaks.ensures numbered.group-numbers.ensures
-    typed.group-firsts-of.ensures sized.group-sizes.ensures
+    streaks_made _ _ _ _ _ _ _ start.requires marked.mark_streaks.ensures numbered.group_numbers.ensures
+    typed.group_firsts_of.ensures sized.group_sizes.ensures
 
-pub find-streaks-spec : {M : Type 1} → statement M
-find-streaks-spec =
+pub find_streaks_spec : {M : Type 1} → statement M
+find_streaks_spec =
     tie.close
     (tie.spec
     (λ c. omega arith)
