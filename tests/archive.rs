@@ -1,4 +1,4 @@
-// Links libtest_host.a, which `rt staticlib test_host` writes: for the build.rs of tests/numeric and tests/grouping.
+// Links libtest_host.a, which `rt lib` in crates/test_host writes: for the build.rs of tests/numeric and tests/grouping.
 
 use std::env;
 use std::path::{Path, PathBuf};
@@ -9,7 +9,7 @@ const LIBRARY: &str = "test_host";
 fn archive_folder() -> PathBuf {
     match env::var_os(FOLDER_VARIABLE) {
         Some(folder) => PathBuf::from(folder),
-        None => Path::new(env!("CARGO_MANIFEST_DIR")).join("../../target/staticlib"),
+        None => Path::new(env!("CARGO_MANIFEST_DIR")).join("../../crates/test_host/out"),
     }
 }
 
@@ -20,7 +20,7 @@ fn link() {
     println!("cargo:rerun-if-changed={}", archive.display());
     assert!(
         archive.is_file(),
-        "{} is missing: run `rt staticlib {LIBRARY}` at the repository's root first",
+        "{} is missing: run `rt lib` in crates/{LIBRARY} first",
         archive.display()
     );
     println!("cargo:rustc-link-search=native={}", folder.display());

@@ -1,6 +1,6 @@
 """The library, called from Python: opens the archive, lends the slices, and gives the answers as lists.
 
-The archive is the one that `rt staticlib dresserduck` writes, or that of the folder DRESSERDUCK_STATICLIB; gcc links it.
+The archive is the one that `rt lib` in crates/dresserduck writes, or that of the folder DRESSERDUCK_STATICLIB; gcc links it.
 include/dresserduck.h says what the calls answer.
 """
 import collections
@@ -57,10 +57,10 @@ ANSWERS = {
 
 def open_library():
     """The library, linked into a shared object, which may go once it is open."""
-    folder = os.environ.get("DRESSERDUCK_STATICLIB", os.path.join(ROOT, "target", "staticlib"))
+    folder = os.environ.get("DRESSERDUCK_STATICLIB", os.path.join(ROOT, "crates", "dresserduck", "out"))
     archive = os.path.join(folder, "libdresserduck.a")
     if not os.path.isfile(archive):
-        sys.exit(archive + " is missing: run `rt staticlib dresserduck` first")
+        sys.exit(archive + " is missing: run `rt lib` in crates/dresserduck first")
     with tempfile.TemporaryDirectory() as here:
         shared = os.path.join(here, "dresserduck.so")
         subprocess.run(["gcc", "-shared", "-Wl,--whole-archive", archive, "-Wl,--no-whole-archive", "-o", shared], check=True)

@@ -1,5 +1,5 @@
-//! Finds libdresserduck.a, or builds it: in the folder DRESSERDUCK_STATICLIB; else in the repository's target/staticlib;
-//! else by `rt staticlib dresserduck`.
+//! Finds libdresserduck.a, or builds it: in the folder DRESSERDUCK_STATICLIB; else in the repository's crates/dresserduck/out;
+//! else by `rt lib` in crates/dresserduck.
 
 use std::env;
 use std::path::{Path, PathBuf};
@@ -10,16 +10,13 @@ const ARCHIVE: &str = "libdresserduck.a";
 /// What `rt` builds for.
 const ARCHITECTURE: &str = "x86_64";
 
-fn build(root: &Path) {
-    let run = Command::new("rt")
-        .args(["staticlib", "dresserduck"])
-        .current_dir(root)
-        .status();
+fn build(krate: &Path) {
+    let run = Command::new("rt").arg("lib").current_dir(krate).status();
     match run {
         Ok(status) => assert!(
             status.success(),
-            "`rt staticlib dresserduck` failed in {}",
-            root.display()
+            "`rt lib` failed in {}",
+            krate.display()
         ),
         Err(error) => panic!(
             "{ARCHIVE} is missing, and `rt` of the Rattle kit could not be run to build it ({error}): \
@@ -29,10 +26,10 @@ fn build(root: &Path) {
 }
 
 fn found_or_built() -> PathBuf {
-    let root = Path::new(env!("CARGO_MANIFEST_DIR")).join("../..");
-    let folder = root.join("target/staticlib");
+    let krate = Path::new(env!("CARGO_MANIFEST_DIR")).join("../../crates/dresserduck");
+    let folder = krate.join("out");
     if !folder.join(ARCHIVE).is_file() {
-        build(&root);
+        build(&krate);
     }
     folder
 }
@@ -55,7 +52,7 @@ fn main() {
     let archive = folder.join(ARCHIVE);
     assert!(
         archive.is_file(),
-        "there is no {ARCHIVE} in {}: `rt staticlib dresserduck` writes it to target/staticlib, or {FOLDER_VARIABLE} names its folder",
+        "there is no {ARCHIVE} in {}: `rt lib` in crates/dresserduck writes it to the folder out there, or {FOLDER_VARIABLE} names its folder",
         folder.display()
     );
     println!("cargo:rerun-if-changed={}", archive.display());

@@ -3,9 +3,9 @@
 set -eu
 here=$(cd "$(dirname "$0")" && pwd)
 
-program=$(dirname "$(dirname "$here")")/target/bin/letters
+program=$(dirname "$(dirname "$here")")/crates/letters/out/letters
 if [ ! -x "$program" ]; then
-    echo "$program is missing: run \`rt check letters\` first" >&2
+    echo "$program is missing: run \`rt ci\`, or \`rt run\` in crates/letters, first" >&2
     exit 1
 fi
 

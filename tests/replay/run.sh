@@ -5,9 +5,9 @@ set -eu
 root=$(cd "$(dirname "$0")/../.." && pwd)
 stored="$root/crates/replay"
 
-program="$root/target/bin/replay"
+program="$stored/out/replay"
 if [ ! -x "$program" ]; then
-    echo "$program is missing: run \`rt check replay\` first" >&2
+    echo "$program is missing: run \`rt ci\`, or \`rt run\` in crates/replay, first" >&2
     exit 1
 fi
 
