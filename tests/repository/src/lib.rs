@@ -9,13 +9,19 @@ pub fn root() -> PathBuf {
     Path::new(env!("CARGO_MANIFEST_DIR")).join("../..")
 }
 
-/// The files of a folder and of the folders in it. Links are passed over: what they lead to is not the repository's, as the original
-/// that tests/original links.
+/// What rt makes of a crate, in the folder out/ beside its src/.
+fn is_made(path: &Path) -> bool {
+    let above = path.parent().and_then(Path::parent);
+    path.ends_with("out") && above.is_some_and(|folder| folder.ends_with("crates"))
+}
+
+/// The files of a folder and of the folders in it, but for what rt makes. Links are passed over: what they lead to is not the
+/// repository's, as the original that tests/original links.
 pub fn files_in(folder: &Path) -> Vec<PathBuf> {
     let entries = fs::read_dir(folder).into_iter().flatten().flatten();
     let paths = entries.map(|entry| entry.path());
     paths
-        .filter(|path| !path.is_symlink())
+        .filter(|path| !path.is_symlink() && !is_made(path))
         .flat_map(|path| match path.is_dir() {
             true => files_in(&path),
             false => vec![path],
@@ -66,7 +72,7 @@ pub enum Named {
 
 /// Words that may name something: no commands, no signs, and no `crate::..` or `crate/..` that stand for any.
 fn is_plain(text: &str) -> bool {
-    let plain = |c: char| c.is_alphanumeric() || "_-./:′".contains(c);
+    let plain = |c: char| c.is_alphanumeric() || "_-./:'".contains(c);
     let begins = text.starts_with(|c: char| c.is_alphanumeric());
     begins && text.chars().all(plain) && !text.starts_with("crate:") && !text.starts_with("crate/")
 }
@@ -110,7 +116,7 @@ pub fn named(line: &str) -> Vec<Named> {
 }
 
 fn is_inside(c: char) -> bool {
-    c.is_alphanumeric() || "_-′".contains(c)
+    c.is_alphanumeric() || "_-'".contains(c)
 }
 
 fn split(text: &str) -> impl Iterator<Item = &str> {

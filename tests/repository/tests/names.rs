@@ -38,7 +38,7 @@ const ORIGINAL: [&str; 14] = [
 ];
 
 /// Words of the kit, and of promises.
-const KIT: [&str; 6] = ["closest", "ensures", "old", "refl", "requires", "toBits"];
+const KIT: [&str; 6] = ["closest", "ensures", "old", "refl", "requires", "to_bits"];
 
 /// A variable, or kinds as letters.
 fn is_short_or_letters(name: &str) -> bool {
@@ -154,12 +154,12 @@ fn only_declarations_count() {
 
 #[test]
 fn what_is_not_there_is_told() {
-    let line = "`numeric/specs/Near.antt`: `isNear`, `isFar` (text); `numeric::near::near` (private), `numeric/must-fail/none`, `no/such.file`, `near`, `farther`";
+    let line = "`numeric/specs/Near.antt`: `is_near`, `is_far` (text); `numeric::near::near` (private), `numeric/must-fail/none`, `no/such.file`, `near`, `farther`";
     let tree = BTreeSet::from(["near".to_string()]);
     let words = named(line).into_iter();
     let faults: Vec<String> = words.filter_map(|word| fault(&tree, word)).collect();
     let expected = [
-        "numeric/specs/Near.antt declares no isFar",
+        "numeric/specs/Near.antt declares no is_far",
         "numeric::near::near is said to be private: true",
         "there is no numeric/must-fail/none.edit",
         "there is no no/such.file",
