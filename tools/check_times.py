@@ -1,5 +1,7 @@
 #!/usr/bin/env python3
-"""Makes the table of docs/CHECKS.md from what `rt ci` printed: seconds to prove each crate, and for its must-fail edits.
+"""Makes the table of docs/CHECKS.md from what an older kit's `rt ci` printed: seconds to prove each crate, and for its must-fail edits.
+
+That kit is rattle-kit-5b-plain logic 097e4c862dff5811; today's `rt ci` prints no times.
 
 usage: ./test.sh | tee log; tools/check_times.py < log > docs/CHECKS.md
 """
@@ -10,6 +12,8 @@ PROVED = re.compile(r"^rt: (\w+) proved \((\d+) s\)")
 REFUSED = re.compile(r"^rt: must-fail (\w+)/\w+: refused.* (\d+) s\)")
 
 HEAD = """# Check times
+
+Every time here is of an older kit, `rattle-kit-5b-plain logic 097e4c862dff5811`; today's `rt ci` prints no times.
 
 Made by `tools/check_times.py` from one run of the gate on two cores, two checks at a time. A must-fail edit checks its whole
 crate again, so a crate with several edits is kept small.

@@ -1,4 +1,5 @@
-//! Every name in the documents stands where they say, or somewhere if they don't, and docs/SCOPE.md has every must-fail edit.
+//! Every name in the documents stands where they say, or somewhere if they don't; docs/SCOPE.md has every must-fail edit, and README the
+//! kit that the tree is proved with.
 
 use std::collections::BTreeSet;
 use std::fs;
@@ -51,7 +52,8 @@ fn text_of(document: &str) -> String {
 
 /// What is made when it is needed, or lies beside the repository.
 fn is_elsewhere(path: &str) -> bool {
-    path.split('/').any(|part| part == "target" || part == "..")
+    path.split('/')
+        .any(|part| ["target", "out", ".."].contains(&part))
 }
 
 fn path_fault(path: &str) -> Option<String> {
@@ -134,6 +136,13 @@ fn the_scope_has_every_must_fail_edit() {
         !listed.is_empty() && missing.is_empty(),
         "not in docs/SCOPE.md: {missing:?}"
     );
+}
+
+#[test]
+fn the_readme_names_the_kit() {
+    let kit = text_of("KIT");
+    let line = kit.trim();
+    assert!(text_of("README.md").contains(line), "not in README: {line}");
 }
 
 #[test]
