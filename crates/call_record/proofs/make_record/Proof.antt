@@ -5,7 +5,7 @@ use Rattle.call_record.proofs.make_record.Statement.{statement}
 use Rattle.call_record.proofs.make_record.Tie as tie
 
 -- ---- once the group is found
-abbrev start : tie.After-find → tie.Start
+abbrev start : tie.After-find-found → tie.Start
 start c = c.before.before.before.before.before.before.before.before
 
 returns : tie.Need-returns
@@ -15,14 +15,14 @@ returns c =
     let w = f.before.before.before.before in
     let g = w.before.before.before.before.before.before in
     let a = (start g).args in
-    let e = g.find.ensures in (
-      recorded a.s a.kind.now a.start.now a.delta.now a.g a.window e.0 p.before.ratio.ensures c.before.canonical.ensures
-          p.repeated-interval-penalty.ensures c.canonical2.ensures,
-      cleared_is _ (start g).requires e.1.0 e.1.1.1 w.clear.ensures f.clear-floats.ensures,
+    let e = g.find-found.ensures in (
+      recorded a.s a.kind.now a.start.now a.delta.now a.g a.window e.0 p.before.ratio-ratio.ensures c.before.canonical.ensures
+          p.repeated_interval_penalty-penalty.ensures c.canonical-2.ensures,
+      cleared_is _ (start g).requires e.1.0 e.1.1.1 w.clear.ensures f.clear_floats.ensures,
     )
 
-pub make-record-spec : {M : Type 1} → statement M
-make-record-spec =
+pub make_record_spec : {M : Type 1} → statement M
+make_record_spec =
     tie.close
     (tie.spec
     (λ c κs. search rules)

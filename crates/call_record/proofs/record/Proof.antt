@@ -27,70 +27,58 @@ start c = c.before.before.before.before.before.before.before
 
 verdict-told : (c : tie.After-judge) {v : Verdict} → c.judge.result ≡ v → judged (chart_of (start c)) (memory_of (start c)) ≡ v
 verdict-told c =
-    let s = start c in
-    verdict-judged (chart_of s) (answer_lengths (memory_of s)) _ _ (none_asked (size (chart_of s))) c.judge.ensures
+    verdict-judged (chart_of c.before.before.before.before.before.before.before) (answer_lengths (memory_of c.before.before.before.before.before.before.before)) _ _ (none_asked (size (chart_of c.before.before.before.before.before.before.before))) c.judge.ensures
 
 -- ---- once it is accepted
-abbrev entered : tie.After-enum-told → tie.Start
-entered c = start c.before.before
+abbrev entered : tie.In-Accepted → tie.Start
+entered c = c.before.before.before.before.before.before.before.before.before
 
-accepted : (c : tie.After-enum-told) → judged (chart_of (entered c)) (memory_of (entered c)) ≡ Accepted
-accepted c = verdict-told c.before.before c.enum_told.given.1
+accepted : (c : tie.In-Accepted) → judged (chart_of (entered c)) (memory_of (entered c)) ≡ Accepted
+accepted c = verdict-told c.before.before c.enum_told-1.given.1
 
 -- ---- once the window and the group number are tested
-abbrev based : tie.After-record-refusal → tie.After-base
+abbrev based : tie.After-record_refusal-number → tie.After-base-s
 based c = c.before
 
-abbrev asked : tie.After-record-refusal → tie.Start
-asked c = entered (based c).before
+abbrev asked : tie.After-record_refusal-number → tie.Start
+asked c = c.before.before.before.before.before.before.before.before.before.before.before
 
-tested : (c : tie.After-record-refusal) → judged (chart_of (asked c)) (memory_of (asked c)) ≡ Accepted
-tested c = accepted (based c).before
+tested : (c : tie.After-record_refusal-number) → judged (chart_of (asked c)) (memory_of (asked c)) ≡ Accepted
+tested c = accepted (c.before.before)
 
 -- what is said under the settings that were made is said under the base's
 abbrev outcome_of : tie.Start → Settings → Outcome Recording Memory
 outcome_of s set = record_outcome set (chart_of s) s.args.g s.args.window (memory_of s)
 
-at_base : (c : tie.After-record-refusal) {o : Outcome Recording Memory} → o ≡ outcome_of (asked c) (based c).base.result → o ≡ outcome_of (asked c) base_settings
-at_base c e = e ∙ ap (outcome_of (asked c)) (based c).base.ensures
+at_base : (c : tie.After-record_refusal-number) {o : Outcome Recording Memory} → o ≡ outcome_of (asked c) (based c).base-s.result → o ≡ outcome_of (asked c) base_settings
+at_base c e = e ∙ ap (outcome_of (c.before.before.before.before.before.before.before.before.before.before.before)) c.before.base-s.ensures
 
-record-refusal-requires : tie.Need-record-refusal-requires
+record-refusal-requires : tie.Need-record_refusal-number-requires
 record-refusal-requires c κs =
-    let s = entered c.before in
-    lengths_same (chart_of s) (memory_of s) (accepted c.before)
+    lengths_same (chart_of c.before.before.before.before.before.before.before.before.before.before) (memory_of c.before.before.before.before.before.before.before.before.before.before) (accepted c.before)
 
-returns : tie.Need-returns
+returns : tie.Need-returns-then-number-ne0
 returns c =
-    let k = c.before in
-    let s = asked k in
-    at_base k
-    (number_refused (based k).base.result (chart_of s) (memory_of s) s.args.g s.args.window (tested k) k.record-refusal.ensures c.if1.true)
+    at_base c.before
+    (number_refused c.before.before.base-s.result (chart_of c.before.before.before.before.before.before.before.before.before.before.before.before) (memory_of c.before.before.before.before.before.before.before.before.before.before.before.before) c.before.before.before.before.before.before.before.before.before.before.before.before.args.g c.before.before.before.before.before.before.before.before.before.before.before.before.args.window (tested c.before) c.before.record_refusal-number.ensures c.if-number-ne0.true)
 
-make-record-requires : tie.Need-make-record-requires
+make-record-requires : tie.Need-make_record-requires
 make-record-requires c κs =
-    let k = c.before.before.before in
-    let s = asked k in
-    group_room (based k).base.result (chart_of s) (memory_of s) s.args.g s.args.window (tested k) k.record-refusal.ensures
-    c.before.before.if1.false
+    group_room c.before.before.before.before.base-s.result (chart_of c.before.before.before.before.before.before.before.before.before.before.before.before.before.before) (memory_of c.before.before.before.before.before.before.before.before.before.before.before.before.before.before) c.before.before.before.before.before.before.before.before.before.before.before.before.before.before.args.g c.before.before.before.before.before.before.before.before.before.before.before.before.before.before.args.window (tested c.before.before.before) c.before.before.before.record_refusal-number.ensures
+    c.before.before.if-number-ne0.false
 
-returns-2 : tie.Need-returns-2
+returns-2 : tie.Need-returns-in-Refused
 returns-2 c =
-    let k = c.before.before.before in
-    let s = start k in
-    outcome-refused base_settings (chart_of s) (memory_of s) s.args.g s.args.window (verdict-told k c.before.number.given.1)
+    outcome-refused base_settings (chart_of c.before.before.before.before.before.before.before.before.before.before) (memory_of c.before.before.before.before.before.before.before.before.before.before) c.before.before.before.before.before.before.before.before.before.before.args.g c.before.before.before.before.before.before.before.before.before.before.args.window (verdict-told c.before.before.before c.before.number-1.given.1)
 
-returns-3 : tie.Need-returns-3
+returns-3 : tie.Need-returns-else-number-ne0
 returns-3 c =
-    let m = c.before.before.before.before in
-    let t = m.before.before.before in
-    let k = t.before in
-    let s = asked k in
-    at_base k
-    (outcome-done (based k).base.result (chart_of s) (memory_of s) s.args.g s.args.window (tested k) k.record-refusal.ensures t.if1.false _ _
-    m.make-record.ensures.0 m.make-record.ensures.1)
+    at_base c.before.before.before.before.before.before.before.before
+    (outcome-done c.before.before.before.before.before.before.before.before.before.base-s.result (chart_of c.before.before.before.before.before.before.before.before.before.before.before.before.before.before.before.before.before.before.before) (memory_of c.before.before.before.before.before.before.before.before.before.before.before.before.before.before.before.before.before.before.before) c.before.before.before.before.before.before.before.before.before.before.before.before.before.before.before.before.before.before.before.args.g c.before.before.before.before.before.before.before.before.before.before.before.before.before.before.before.before.before.before.before.args.window (tested c.before.before.before.before.before.before.before.before) c.before.before.before.before.before.before.before.before.record_refusal-number.ensures c.before.before.before.before.before.before.before.if-number-ne0.false _ _
+    c.before.before.before.before.make_record.ensures.0 c.before.before.before.before.make_record.ensures.1)
 
-pub record-spec : {M : Type 1} → statement M
-record-spec =
+pub record_spec : {M : Type 1} → statement M
+record_spec =
     tie.close
     (tie.spec
     (λ c κs. search rules)

@@ -7,73 +7,66 @@ use Rattle.call_record.proofs.found.find.Statement.{statement}
 use Rattle.call_record.proofs.found.find.Tie as tie
 
 -- ---- once the notes are located
-abbrev start : tie.After-locate → tie.Start
+abbrev start : tie.After-locate-located → tie.Start
 start c = c.before.before.before.before.before.before.before.before
 
-located-is : (c : tie.After-locate) → LocatedIs (start c).args.margin (start c).args.kind.now (start c).args.start.now (start c).args.delta.now
-    (start c).args.g (start c).args.work.now c.locate.new.1.1.1.1.1.0 (start c).args.scratch.now
-    c.locate.new.1.1.1.1.1.1.0 c.locate.result
+located-is : (c : tie.After-locate-located) → LocatedIs (start c).args.margin (start c).args.kind.now (start c).args.start.now (start c).args.delta.now
+    (start c).args.g (start c).args.work.now c.locate-located.new.1.1.1.1.1.0 (start c).args.scratch.now
+    c.locate-located.new.1.1.1.1.1.1.0 c.locate-located.result
 located-is c =
-    let e = c.locate.ensures in
+    let e = c.locate-located.ensures in
     record {
-      room = (start c).requires;
+      room = c.before.before.before.before.before.before.before.before.requires;
       at = e.0;
       noted = e.1.0;
       settled = e.1.1.0;
       past = e.1.1.1;
-      same = c.locate.auto.1.1.1.1.1.1.0;
+      same = c.locate-located.auto.1.1.1.1.1.1.0;
     }
 
-add-fill-intervals : tie.Need-overflow-add-fill-intervals
+add-fill-intervals : tie.Need-overflow_add-n
 add-fill-intervals c = omega (arith, groups-small (located-is c.before.before.before.before))
 
-part-fill-intervals-end : tie.Need-slice-bounds-fill-intervals-end
+part-fill-intervals-end : tie.Need-slice_bounds-fill_intervals-end
 part-fill-intervals-end c =
-    let l = c.before.before.before.before.before in
-    region_inside (located-is l)
+    region_inside (located-is c.before.before.before.before)
 
-fill-intervals-requires : tie.Need-fill-intervals-requires
+fill-intervals-requires : tie.Need-fill_intervals-requires
 fill-intervals-requires c κs =
-    let l = c.before.before.before.before.before.before.before in
-    intervals_room (located-is l)
+    intervals_room (located-is c.before.before.before.before.before.before)
 
 -- ---- once the intervals are filled
-abbrev place : tie.After-fill-intervals → tie.After-locate
-place c = c.before.before.before.before.before.before.before.before
+abbrev place : tie.After-fill_intervals → tie.After-locate-located
+place c = c.before.before.before.before.before.before.before
 
-mul-interval : tie.Need-overflow-mul-interval
+mul-interval : tie.Need-offset_bounds-scratch-g
 mul-interval c =
-    let x = located-is (place c.before.before) in
+    let x = located-is (c.before.before.before.before.before.before.before.before.before) in
     omega (arith, group-below x, groups-small x)
 
-slice-read-interval : tie.Need-slice-read-interval
+slice-read-interval : tie.Need-bounds-scratch-g
 slice-read-interval c =
-    let f = c.before.before.before in
-    let x = located-is (place f) in
-    omega (arith, group-below x, intervals-inside x f.fill-intervals.ensures)
+    let x = located-is (c.before.before.before.before.before.before.before.before.before.before) in
+    omega (arith, group-below x, intervals-inside x c.before.before.before.fill_intervals.ensures)
 
-slice-reshare-prefix-pattern-at : tie.Need-slice-reshare-prefix-pattern-at
+slice-reshare-prefix-pattern-at : tie.Need-slice_bounds-pattern_at-end
 slice-reshare-prefix-pattern-at c =
-    let f = c.before.before.before in
-    intervals-inside (located-is (place f)) f.fill-intervals.ensures
+    intervals-inside (located-is (c.before.before.before.before.before.before.before.before.before.before)) c.before.before.before.fill_intervals.ensures
 
-slice-aggregate-pattern-at : tie.Need-slice-aggregate-pattern-at
+slice-aggregate-pattern-at : tie.Need-slice_bounds-pattern_at-end-2
 slice-aggregate-pattern-at c =
-    let f = c.before.before.before.before in
-    intervals-counted (located-is (place f)) f.fill-intervals.ensures
+    intervals-counted (located-is (c.before.before.before.before.before.before.before.before.before.before)) c.before.before.before.fill_intervals.ensures
 
-pattern-at-requires : tie.Need-pattern-at-requires
+pattern-at-requires : tie.Need-pattern_at-pattern-requires
 pattern-at-requires c κs =
-    let f = c.before.before.before.before in
-    let x = located-is (place f) in
-    omega (arith, group-below x, intervals-counted x f.fill-intervals.ensures)
+    let x = located-is (c.before.before.before.before.before.before.before.before.before.before) in
+    omega (arith, group-below x, intervals-counted x c.before.before.before.fill_intervals.ensures)
 
 returns : tie.Need-returns
 returns c =
-    let f = c.before.before.before.before.before in
-    let x = located-is (place f) in
-    let e = f.fill-intervals.ensures in
-    (found x e _ c.pattern-at.ensures, (x.noted, (scratch-found x e, past_found x e)))
+    let x = located-is (c.before.before.before.before.before.before.before.before.before.before.before) in
+    let e = c.before.before.before.before.fill_intervals.ensures in
+    (found x e _ c.pattern_at-pattern.ensures, (x.noted, (scratch-found x e, past_found x e)))
 
 pub find_spec : {M : Type 1} → statement M
 find_spec =

@@ -8,124 +8,103 @@ use Rattle.call_record.proofs.found.locate.Statement.{statement}
 use Rattle.call_record.proofs.found.locate.Tie as tie
 
 -- ---- once the notes are listed
-abbrev start : tie.After-list-notes → tie.Start
+abbrev start : tie.After-list_notes-m → tie.Start
 start c = c.before.before.before.before.before.before.before.before
 
 -- ---- once they are numbered
-abbrev notes : tie.After-number-notes → tie.After-list-notes
-notes c = c.before.before.before.before.before.before.before
+abbrev notes : tie.After-number_notes-groups → tie.After-list_notes-m
+notes c = c.before.before.before.before.before.before
 
 -- ---- once the group is reached
-abbrev numbered : tie.After-reach → tie.After-number-notes
+abbrev numbered : tie.After-reach-reached → tie.After-number_notes-groups
 numbered c = c.before.before.before.before
 
-abbrev reached : tie.After-owns → tie.After-reach
+abbrev reached : tie.After-owns-1 → tie.After-reach-reached
 reached c = c.before.before.before
 
-reading : (c : tie.After-reach) → Readable (start (notes (numbered c))).args.start.now (numbered c).number-notes.new.1.1.0 c.reach.result
+reading : (c : tie.After-reach-reached) → Readable (start (notes (numbered c))).args.start.now (numbered c).number_notes-groups.new.1.1.0 c.reach-reached.result
 reading c =
-    let f = numbered c in
-    let l = notes f in
-    let room = (start l).pre in
-    readable room l.list-notes.ensures (noted room.tables l.list-notes.ensures _ f.number-notes.ensures) c.reach.ensures
+    let room = c.before.before.before.before.before.before.before.before.before.before.before.before.before.before.before.before.before.before.requires in
+    readable room c.before.before.before.before.before.before.before.before.before.before.list_notes-m.ensures (noted room.tables c.before.before.before.before.before.before.before.before.before.before.list_notes-m.ensures _ c.before.before.before.before.number_notes-groups.ensures) c.reach-reached.ensures
 
-last : (c : tie.After-reach) → c.reach.result.end - 1 < c.reach.result.end
+last : (c : tie.After-reach-reached) → c.reach-reached.result.end - 1 < c.reach-reached.result.end
 last c = omega (arith, (reading c).from)
 
-slice-reshare-prefix-number-notes : tie.Need-slice-reshare-prefix-number-notes
+slice-reshare-prefix-number-notes : tie.Need-slice_bounds-number_notes-end
 slice-reshare-prefix-number-notes c =
-    let l = c.before.before.before.before in
-    notes-lent (start l).requires.tables l.list-notes.ensures
+    notes-lent c.before.before.before.before.before.before.before.before.before.before.before.before.requires.tables c.before.before.before.before.list_notes-m.ensures
 
-slice-aggregate-number-notes : tie.Need-slice-aggregate-number-notes
+slice-aggregate-number-notes : tie.Need-slice_bounds-number_notes-end-2
 slice-aggregate-number-notes c =
-    let l = c.before.before.before.before.before in
-    front_counted (start l).requires l.list-notes.ensures
+    front_counted c.before.before.before.before.before.before.before.before.before.before.before.before.requires c.before.before.before.before.list_notes-m.ensures
 
-number-notes-requires : tie.Need-number-notes-requires
+number-notes-requires : tie.Need-number_notes-groups-requires
 number-notes-requires c κs =
-    let l = c.before.before.before.before.before.before in
-    numbers_room (start l).requires.tables l.list-notes.ensures
+    numbers_room c.before.before.before.before.before.before.before.before.before.before.before.before.before.requires.tables c.before.before.before.before.before.list_notes-m.ensures
 
-slice-relend-prefix-reach : tie.Need-slice-relend-prefix-reach
+slice-relend-prefix-reach : tie.Need-slice_bounds-reach-end
 slice-relend-prefix-reach c =
-    let l = notes c.before.before in
-    notes-lent (start l).pre.tables l.list-notes.ensures
+    notes-lent c.before.before.before.before.before.before.before.before.before.before.before.before.before.before.before.before.requires.tables c.before.before.before.before.before.before.before.before.list_notes-m.ensures
 
-slice-aggregate-reach : tie.Need-slice-aggregate-reach
+slice-aggregate-reach : tie.Need-slice_bounds-reach-end-2
 slice-aggregate-reach c =
-    let l = notes c.before.before.before in
-    front_counted (start l).pre l.list-notes.ensures
+    front_counted c.before.before.before.before.before.before.before.before.before.before.before.before.before.before.before.before.before.requires c.before.before.before.before.before.before.before.before.before.list_notes-m.ensures
 
-reach-requires : tie.Need-reach-requires
+reach-requires : tie.Need-reach-reached-requires
 reach-requires c κs =
-    let l = notes c.before.before.before in
-    group_there (start l).pre l.list-notes.ensures
+    group_there c.before.before.before.before.before.before.before.before.before.before.before.before.before.before.before.before.before.requires c.before.before.before.before.before.before.before.before.before.list_notes-m.ensures
 
-mul-first : tie.Need-overflow-mul-first
+mul-first : tie.Need-offset_bounds-work-at
 mul-first c =
-    let r = c.before.before.before in
-    omega (arith, (reading r).from, (reading r).few)
+    omega (arith, (reading c.before.before.before).from, (reading c.before.before.before).few)
 
-slice-read-first : tie.Need-slice-read-first
+slice-read-first : tie.Need-bounds-work-at
 slice-read-first c =
-    let r = c.before.before.before.before in
-    (reading r).within _ (reading r).from
+    (reading c.before.before.before.before).within _ (reading c.before.before.before.before).from
 
-cast-first : tie.Need-overflow-cast-first
+cast-first : tie.Need-overflow_cast-first
 cast-first c =
-    let r = c.before.before.before.before in
-    omega (arith, (reading r).small _ (reading r).from)
+    omega (arith, (reading c.before.before.before.before).small _ (reading c.before.before.before.before).from)
 
-mul-last : tie.Need-overflow-mul-last
+mul-last : tie.Need-offset_bounds-work-end
 mul-last c =
-    let r = c.before.before.before.before in
-    omega (arith, (reading r).from, (reading r).few)
+    omega (arith, (reading c.before.before.before.before).from, (reading c.before.before.before.before).few)
 
-slice-read-last : tie.Need-slice-read-last
+slice-read-last : tie.Need-bounds-work-end
 slice-read-last c =
-    let r = c.before.before.before.before.before in
-    (reading r).within _ (last r)
+    (reading c.before.before.before.before.before).within _ (last c.before.before.before.before.before)
 
-cast-last : tie.Need-overflow-cast-last
+cast-last : tie.Need-overflow_cast-last
 cast-last c =
-    let r = c.before.before.before.before.before in
-    omega (arith, (reading r).small _ (last r))
+    omega (arith, (reading c.before.before.before.before.before).small _ (last c.before.before.before.before.before))
 
-mul-duration : tie.Need-overflow-mul-duration
+mul-duration : tie.Need-offset_bounds-start-last
 mul-duration c =
-    let r = c.before.before.before.before.before in
-    omega (arith, (reading r).small _ (last r))
+    omega (arith, (reading c.before.before.before.before.before).small _ (last c.before.before.before.before.before))
 
-shared-slice-read-duration : tie.Need-shared-slice-read-duration
+shared-slice-read-duration : tie.Need-bounds-start-last
 shared-slice-read-duration c =
-    let r = c.before.before.before.before.before.before in
-    (reading r).started _ (last r)
+    (reading c.before.before.before.before.before.before).started _ (last c.before.before.before.before.before.before)
 
-mul-duration-2 : tie.Need-overflow-mul-duration-2
+mul-duration-2 : tie.Need-offset_bounds-start-first
 mul-duration-2 c =
-    let r = c.before.before.before.before.before.before in
-    omega (arith, (reading r).small _ (reading r).from)
+    omega (arith, (reading c.before.before.before.before.before.before).small _ (reading c.before.before.before.before.before.before).from)
 
-shared-slice-read-duration-2 : tie.Need-shared-slice-read-duration-2
+shared-slice-read-duration-2 : tie.Need-bounds-start-first
 shared-slice-read-duration-2 c =
-    let r = reached c.before.before.before.before in
-    (reading r).started _ (reading r).from
+    (reading c.before.before.before.before.before.before.before).started _ (reading c.before.before.before.before.before.before.before).from
 
 returns : tie.Need-returns
 returns c =
-    let r = reached c.before.before.before.before in
-    let f = numbered r in
-    let l = notes f in
-    let room = (start l).pre in
-    let e = l.list-notes.ensures in
-    let x = noted room.tables e _ f.number-notes.ensures in (
-      located room e x r.reach.ensures,
-      (x.memory, (scratch_located room e x r.reach.ensures r.reach.kept.0, past_located room e x r.reach.ensures r.reach.kept.0)),
+    let room = c.before.before.before.before.before.before.before.before.before.before.before.before.before.before.before.before.before.before.before.before.before.before.before.before.before.requires in
+    let e = c.before.before.before.before.before.before.before.before.before.before.before.before.before.before.before.before.before.list_notes-m.ensures in
+    let x = noted room.tables e _ c.before.before.before.before.before.before.before.before.before.before.before.number_notes-groups.ensures in (
+      located room e x c.before.before.before.before.before.before.before.reach-reached.ensures,
+      (x.memory, (scratch_located room e x c.before.before.before.before.before.before.before.reach-reached.ensures c.before.before.before.before.before.before.before.reach-reached.kept.0, past_located room e x c.before.before.before.before.before.before.before.reach-reached.ensures c.before.before.before.before.before.before.before.reach-reached.kept.0)),
     )
 
-pub locate-spec : {M : Type 1} → statement M
-locate-spec =
+pub locate_spec : {M : Type 1} → statement M
+locate_spec =
     tie.close
     (tie.spec
     (λ c κs. search rules)
