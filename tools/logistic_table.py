@@ -60,7 +60,7 @@ def source(table):
 def spec(table):
     words = [f"0x{bits(value):016x} ∷" for value in table]
     rows = ["    " + " ".join(words[i : i + 4]) for i in range(0, STEPS, 4)]
-    return "\n".join(["tableBits =", *rows]) + " []"
+    return "\n".join(["table_bits =", *rows]) + " []"
 
 
 def main():
