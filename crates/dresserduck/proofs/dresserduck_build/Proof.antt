@@ -8,10 +8,10 @@ use Rattle.dresserduck.proofs.dresserduck_build.Tie as tie
 returns : tie.Need-returns
 returns c =
     let e = c.before.before.before.before.before.before.before.before.before in
-    for_host_lem built_of c.built_of.ensures e.build.ensures
+    for_host_lem built_of c.built_of.ensures e.build-answer.ensures
 
-pub dresserduck-build-spec : {M : Type 1} → statement M
-dresserduck-build-spec =
+pub dresserduck_build_spec : {M : Type 1} → statement M
+dresserduck_build_spec =
     tie.close
     (tie.spec
     (λ c κs. search rules)

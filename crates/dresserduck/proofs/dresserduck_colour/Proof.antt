@@ -8,9 +8,9 @@ use Rattle.dresserduck.proofs.dresserduck_colour.Tie as tie
 returns : tie.Need-returns
 returns c =
     let e = c.before.before.before.before.before.before.before in
-    for_host_lem coloured_of c.coloured-of.ensures e.colour.ensures
+    for_host_lem coloured_of c.coloured_of.ensures e.colour-answer.ensures
 
-pub dresserduck-colour-spec : {M : Type 1} → statement M
-dresserduck-colour-spec =
+pub dresserduck_colour_spec : {M : Type 1} → statement M
+dresserduck_colour_spec =
     tie.close
     (tie.spec (λ c κs. search rules) (λ c κs. search rules) (λ c. search rules) (λ c. search rules) (λ c. search rules) returns)

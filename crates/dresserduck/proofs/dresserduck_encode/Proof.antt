@@ -8,10 +8,10 @@ use Rattle.dresserduck.proofs.dresserduck_encode.Tie as tie
 returns : tie.Need-returns
 returns c =
     let e = c.before.before.before.before.before.before.before.before.before.before.before.before.before.before.before.before.before in
-    for_host_lem encoded_of c.encoded-of.ensures e.encode.ensures
+    for_host_lem encoded_of c.encoded_of.ensures e.encode-answer.ensures
 
-pub dresserduck-encode-spec : {M : Type 1} → statement M
-dresserduck-encode-spec =
+pub dresserduck_encode_spec : {M : Type 1} → statement M
+dresserduck_encode_spec =
     tie.close
     (tie.spec
     (λ c κs. search rules)

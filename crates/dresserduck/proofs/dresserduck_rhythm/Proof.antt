@@ -8,10 +8,10 @@ use Rattle.dresserduck.proofs.dresserduck_rhythm.Tie as tie
 returns : tie.Need-returns
 returns c =
     let e = c.before.before.before.before.before.before.before.before.before in
-    for_host_lem grouped_of c.grouped-of.ensures e.rhythm.ensures
+    for_host_lem grouped_of c.grouped_of.ensures e.rhythm-answer.ensures
 
-pub dresserduck-rhythm-spec : {M : Type 1} → statement M
-dresserduck-rhythm-spec =
+pub dresserduck_rhythm_spec : {M : Type 1} → statement M
+dresserduck_rhythm_spec =
     tie.close
     (tie.spec
     (λ c κs. search rules)

@@ -8,10 +8,10 @@ use Rattle.dresserduck.proofs.dresserduck_stretch.Tie as tie
 returns : tie.Need-returns
 returns c =
     let e = c.before.before.before.before.before.before.before in
-    for_host_lem stretched_of c.stretched-of.ensures e.stretch.ensures
+    for_host_lem stretched_of c.stretched_of.ensures e.stretch-answer.ensures
 
-pub dresserduck-stretch-spec : {M : Type 1} → statement M
-dresserduck-stretch-spec =
+pub dresserduck_stretch_spec : {M : Type 1} → statement M
+dresserduck_stretch_spec =
     tie.close
     (tie.spec
     (λ c κs. search rules)

@@ -8,5 +8,5 @@ returns : tie.Need-returns
 unfolding recorded_of
 returns c = refl
 
-pub refused-record-spec : {M : Type 1} → statement M
-refused-record-spec = tie.close (tie.spec returns)
+pub refused_record_spec : {M : Type 1} → statement M
+refused_record_spec = tie.close (tie.spec returns)
