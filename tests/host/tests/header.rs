@@ -102,14 +102,22 @@ fn in_c_named(name: &str) -> String {
     format!("dresserduck{}", name.to_lowercase())
 }
 
+/// What a struct derives says nothing of its fields.
+fn without_derives(source: &str) -> String {
+    let is_kept = |line: &&str| !line.starts_with("#[derive(");
+    let lines: Vec<&str> = source.lines().filter(is_kept).collect();
+    lines.join("\n")
+}
+
 fn in_source(source: &str) -> (Declared, Declared) {
-    let records = all_between(source, "#[repr(C)]\npub struct ", "}")
+    let source = without_derives(source);
+    let records = all_between(&source, "#[repr(C)]\npub struct ", "}")
         .into_iter()
         .map(|text| {
             let (name, fields) = text.split_once('{').expect("a record's {");
             (in_c_named(name.trim()), all_in_c(fields))
         });
-    let calls = all_between(source, "pub extern \"C\" fn ", "\n    ensures")
+    let calls = all_between(&source, "pub extern \"C\" fn ", "\n    ensures")
         .into_iter()
         .map(|text| {
             let (name, rest) = text.split_once('(').expect("a call's (");
