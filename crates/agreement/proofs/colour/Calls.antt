@@ -38,7 +38,7 @@ hits-alike : {limit n n' p p' : ℕ} {xs ys ks ls xs' ys' ks' ls' : List ℕ} �
     → HitsClaim limit (record { patterns = groups n ys; intervals = ls }) p (record { patterns = groups n' ys'; intervals = ls' }) p'
 hits-alike e f e' f' k = record {
   same = groups-alike e e' k.same;
-  opens_there_lem = λ l. opens-alike e (k.opens_there_lem l);
+  opens_there = λ l. opens-alike e (k.opens_there l);
   settled = λ i i' c. (
     λ x. settled-alike e' ((k.settled i i' c).0 (settled-alike (numbers_sym e) x)),
     λ x. settled-alike e ((k.settled i i' c).1 (settled-alike (numbers_sym e') x)),

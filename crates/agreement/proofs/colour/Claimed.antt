@@ -78,7 +78,7 @@ module _ (s : Settings) (c c' : Chart) {a g b h : ℕ} (r : Agree s.limit c.kind
   hits_claim : HitsClaim s.limit (hits_of s c) a (hits_of s c') b
   hits_claim = record {
     same = same_hits;
-    opens_there_lem = cut-opens c r.cut;
+    opens_there = cut-opens c r.cut;
     settled = settled-agree;
     interval = λ i i' x e. interval-agree i i' x.after e x.there (settled-counts c r.cut x);
   }

@@ -199,7 +199,7 @@ three_after {kinds} {m} {position} x =
 
 -- at least four objects of the tail stand before it: behind it an object's idx is at least 4 in every chart, and object idx − 2 is of the tail
 pub landmark_late : {kinds : List ℕ} {m position : ℕ} → ColourLandmark kinds m position → length kinds + 4 ≤ position + m
-landmark_late x = omega (arith, three_after x, x.note_before_lem, x.note_of_tail)
+landmark_late x = omega (arith, three_after x, x.note_before, x.note_of_tail)
 
 pub landmark_within : {kinds : List ℕ} {m position : ℕ} → ColourLandmark kinds m position → position ≤ length kinds
 landmark_within x = omega (arith, x.just_after, x.last_there)
@@ -213,7 +213,7 @@ module _ (pre tail : List ℕ) (offset : ℕ) (m : ColourLandmark (pre ++ tail) 
 
   lead_is : length pre + lead ≡ m.object
   unfolding lead
-  lead_is = omega (arith, m.note_before_lem, m.note_of_tail, length-append pre tail)
+  lead_is = omega (arith, m.note_before, m.note_of_tail, length-append pre tail)
 
   lead_le : lead ≤ length tail
   lead_le = omega (arith, lead_is, m.object_there, length-append pre tail)
@@ -232,7 +232,7 @@ module _ (pre tail : List ℕ) (offset : ℕ) (m : ColourLandmark (pre ++ tail) 
       from = omega (arith, m.note_of_tail, length-append pre tail)
 
       inside : place < lead
-      inside = omega (arith, lead_is, m.note_before_lem, from)
+      inside = omega (arith, lead_is, m.note_before, from)
 
   -- a chart that ends so, cut before the object of (a)
   abbrev fronted : List ℕ → List ℕ

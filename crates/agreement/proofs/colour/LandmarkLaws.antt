@@ -38,7 +38,7 @@ module _ (kinds : List ℕ) (m position : ℕ) where
         object-opens = eqb-true _ _ (all_first _ _ a);
         note = y.number;
         note_is = all_first _ _ y.passes;
-        note_before_lem = y.below;
+        note_before = y.below;
         note_of_tail = leb-true _ _ (all_first _ _ (all_rest _ _ y.passes));
         streak = streak;
         streak_after = leb-true _ _ (all_first _ _ b);
@@ -71,7 +71,7 @@ module _ (kinds : List ℕ) (m position : ℕ) where
     unfolding levels_of tail_note_before object_serves
     object_test =
         all_more _ _ (eq-eqb _ _ x.object-opens)
-        (all_more _ _ (found_any x.object (λ (i : ℕ). all_true (is_note (get_or kinds i 0) ∷ leb (length kinds) (i + m) ∷ [])) x.note x.note_before_lem
+        (all_more _ _ (found_any x.object (λ (i : ℕ). all_true (is_note (get_or kinds i 0) ∷ leb (length kinds) (i + m) ∷ [])) x.note x.note_before
         (all_more _ _ x.note_is (all_more _ _ (le-leb _ _ x.note_of_tail) all_none))) all_none)
 
     streak_test : streak_serves (levels_of kinds) x.object x.streak ≡ true

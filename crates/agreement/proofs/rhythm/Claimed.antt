@@ -71,7 +71,7 @@ module _ (margin : Float) {t : ℕ} {xs ys : List Float} (s : SameLast t xs ys) 
   one = omega (arith, landmark.before_there)
 
   one' : i' - 1 + 1 ≡ i'
-  one' = omega (arith, landmark.before_there, landmark.of_tail_lem, s.inside')
+  one' = omega (arith, landmark.before_there, landmark.of_tail, s.inside')
 
   marks : drop (suc (i - 1)) (interval_marks margin xs) ≡ drop (suc (i' - 1)) (interval_marks margin ys)
   marks =

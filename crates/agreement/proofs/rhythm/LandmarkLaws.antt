@@ -19,7 +19,7 @@ module _ (margin : Float) (deltas : List Float) (t i : ℕ) where
       record {
         before_there = ltb-true _ _ (all_first _ _ e);
         next_there = ltb-true _ _ (all_first _ _ e₁);
-        of_tail_lem = leb-true _ _ (all_first _ _ e₂);
+        of_tail = leb-true _ _ (all_first _ _ e₂);
         near = all_first _ _ e₃;
         not_near = not-true _ (all_first _ _ (all_rest _ _ e₃));
       }
@@ -29,4 +29,4 @@ module _ (margin : Float) (deltas : List Float) (t i : ℕ) where
   landmark_test m =
       all_more _ _ (lt-ltb _ _ m.before_there)
       (all_more _ _ (lt-ltb _ _ m.next_there)
-      (all_more _ _ (le-leb _ _ m.of_tail_lem) (all_more _ _ m.near (all_more _ _ (not_of _ m.not_near) all_none))))
+      (all_more _ _ (le-leb _ _ m.of_tail) (all_more _ _ m.near (all_more _ _ (not_of _ m.not_near) all_none))))

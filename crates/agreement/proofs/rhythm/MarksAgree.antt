@@ -26,10 +26,10 @@ landmark_marks margin deltas t i m =
 module _ {t : ℕ} {xs ys : List Float} (s : SameLast t xs ys) (margin : Float) (i i' : ℕ)
     (c : Counterparts (length xs) (length ys) i i') (m : RhythmLandmark margin xs t i) where
   same_delta : (p q : ℕ) → i - 1 ≤ p → Counterparts (length xs) (length ys) p q → get_or xs p nan ≡ get_or ys q nan
-  same_delta p q l d = same_at s p q (omega (arith, m.of_tail_lem)) d nan
+  same_delta p q l d = same_at s p q (omega (arith, m.of_tail)) d nan
 
   before : get_or xs (i - 1) nan ≡ get_or ys (i' - 1) nan
-  before = same_delta (i - 1) (i' - 1) (omega arith) (omega (arith, m.before_there, m.of_tail_lem, s.inside'))
+  before = same_delta (i - 1) (i' - 1) (omega arith) (omega (arith, m.before_there, m.of_tail, s.inside'))
 
   here : get_or xs i nan ≡ get_or ys i' nan
   here = same_delta i i' (omega arith) c
@@ -40,9 +40,9 @@ module _ {t : ℕ} {xs ys : List Float} (s : SameLast t xs ys) (margin : Float) 
   -- a landmark of the one list is one of the other
   landmark_moves : RhythmLandmark margin ys t i'
   landmark_moves = record {
-    before_there = omega (arith, m.before_there, m.of_tail_lem, s.inside');
+    before_there = omega (arith, m.before_there, m.of_tail, s.inside');
     next_there = omega (arith, m.next_there);
-    of_tail_lem = omega (arith, m.before_there, m.of_tail_lem, s.inside');
+    of_tail = omega (arith, m.before_there, m.of_tail, s.inside');
     near = rw (← before, ← here) m.near;
     not_near = rw (← here, ← next) m.not_near;
   }
@@ -51,7 +51,7 @@ module _ {t : ℕ} {xs ys : List Float} (s : SameLast t xs ys) (margin : Float) 
   pub marks_agree : drop i (interval_marks margin xs) ≡ drop i' (interval_marks margin ys)
   marks_agree =
       landmark_marks margin xs t i m
-      ∙ (λ k. marks_after margin true (before k) (same_behind s i i' (omega (arith, m.of_tail_lem)) c k))
+      ∙ (λ k. marks_after margin true (before k) (same_behind s i i' (omega (arith, m.of_tail)) c k))
       ∙ sym (landmark_marks margin ys t i' landmark_moves)
 
 -- a landmark read in either list is one of both

@@ -32,7 +32,7 @@ pub record HitsClaim (limit : ℕ) (h : EncodedHits) (p : ℕ) (h' : EncodedHits
   -- hit patterns open at the same objects, and hold the same objects
   pub same : SameGroups h.patterns p h'.patterns p'
   -- one opens at p, if an object is left
-  pub opens_there_lem : p < h.patterns.count → OpensAt h.patterns p
+  pub opens_there : p < h.patterns.count → OpensAt h.patterns p
   -- the M-th of these is the same one, read in either chart
   pub settled : (i i' : ℕ) → Counterparts h.patterns.count h'.patterns.count i i'
       → Settled limit h.patterns p i ↔ Settled limit h'.patterns p' i'

@@ -15,7 +15,7 @@ pub record ColourLandmark (kinds : List ℕ) (m position : ℕ) : Type 0 where
   pub object-opens : get_or (streak_marks kinds) object 0 ≡ 1
   pub note : ℕ
   pub note_is : is_note (get_or kinds note 0) ≡ true
-  pub note_before_lem : note < object
+  pub note_before : note < object
   pub note_of_tail : length kinds ≤ note + m
   -- (b) that streak, or one behind it, is shorter or longer than the one that follows, which begins a pattern
   pub streak : ℕ

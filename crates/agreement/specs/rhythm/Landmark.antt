@@ -11,7 +11,7 @@ pub record RhythmLandmark (margin : Float) (deltas : List Float) (t i : ℕ) : T
   pub before_there : 0 < i
   pub next_there : i + 1 < length deltas
   -- note i − 1 is of the tail, and so the two behind it are
-  pub of_tail_lem : length deltas ≤ i - 1 + t
+  pub of_tail : length deltas ≤ i - 1 + t
   -- notes i − 1 and i are near in delta
   pub near : is_near margin (get_or deltas (i - 1) nan) (get_or deltas i nan) ≡ true
   -- notes i and i + 1 are not
