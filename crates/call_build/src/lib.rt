@@ -1,5 +1,6 @@
 // The call build: a chart made of raw kinds and times, as an editor holds them, and a clock rate.
 #![tactic(auto)]
+
 ghost use Rattle.std.specs.Prelude.{◌≡◌, ◌-◌, length};
 ghost use Rattle.grouping_chart.specs.Outcome.{outcome};
 ghost use Rattle.call_build.specs.Build.{raw, built_chart};

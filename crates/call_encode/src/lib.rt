@@ -1,5 +1,6 @@
 // The call encode: per object six numbers, and the number of hit patterns.
 #![tactic(auto)]
+
 ghost use Rattle.std.specs.Prelude.{◌≡◌, ◌*◌, length};
 ghost use Rattle.lent.specs.Over.{over, part};
 ghost use Rattle.lent.specs.Scan.{gathered};

@@ -1,5 +1,6 @@
 // The colour evaluator's formulas, one function each: the same rounded operations as the source's, in its order.
 #![tactic(auto)]
+
 ghost use Rattle.std.specs.Prelude.{◌≡◌};
 ghost use Rattle.numeric.specs.Logistic.{logistic_table};
 ghost use Rattle.evaluator_colour.specs.Formulas.{hit_value, alt_value, mono_value, add_if, object_sum};

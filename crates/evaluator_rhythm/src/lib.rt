@@ -1,5 +1,6 @@
 // The penalty of a rhythm group that repeats an interval.
 #![tactic(auto)]
+
 ghost use Rattle.std.specs.Prelude.{◌≡◌, cond, [], ◌∷◌, ltb};
 ghost use Rattle.numeric.specs.Constants.{one64, eight_tenths};
 ghost use Rattle.evaluator_rhythm.specs.RepeatedInterval.{similar, some_pair, walk_penalty};

@@ -1,5 +1,6 @@
 // What a chart is, which charts are refused, and the two counters of an object.
 #![tactic(auto)]
+
 pub mod good;
 pub mod object;
 pub mod refusal;

@@ -1,5 +1,6 @@
 // Hit patterns: which patterns open one, and each hit pattern's repetition interval.
 #![tactic(auto)]
+
 ghost use Rattle.std.specs.Prelude.{◌≡◌, cond, ◌≤◌, ◌<◌, eqb};
 ghost use Rattle.lent.specs.Over.{put, part};
 ghost use Rattle.lent.specs.passes.Regions.{Room, Pair, PairApart, TripleApart};

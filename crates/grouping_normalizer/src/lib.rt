@@ -1,5 +1,6 @@
 // The delta normaliser: what a delta counts as among the deltas of its group.
 #![tactic(auto)]
+
 ghost use Rattle.std.specs.Prelude.{◌≡◌, ◌<◌, length};
 ghost use Rattle.numeric_sort.specs.Ordered.{AllFinite};
 ghost use Rattle.grouping_normalizer.specs.Normalizer.{alike, holds, middle, middle_of, sets, NormalOf};

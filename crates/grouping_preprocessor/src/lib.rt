@@ -1,5 +1,6 @@
 // The encoder: from the kinds to the tables from which each object's six numbers are looked up.
 #![tactic(auto)]
+
 ghost use Rattle.std.specs.Prelude.{◌≤◌, ◌<◌, length};
 ghost use Rattle.grouping_preprocessor.specs.passes.Steps.{Regions, Streaks, PatternsFound, HitMarksFound};
 ghost use Rattle.grouping_preprocessor.specs.passes.Steps.{HitsFound, Encodes};

@@ -1,5 +1,6 @@
 // Rhythm groups and pattern groups: own intervals, intervals and ratios.
 #![tactic(auto)]
+
 pub mod groups;
 pub mod own;
 pub mod owns;

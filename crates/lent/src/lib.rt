@@ -1,3 +1,4 @@
 // What a lent slice holds, and the loops that fill one from its front.
 #![tactic(auto)]
+
 pub mod fill;

@@ -1,5 +1,6 @@
 // Sorting by the total order, in linear time where the values rise or fall already.
 #![tactic(auto)]
+
 ghost use Rattle.std.specs.Prelude.{◌≡◌, length};
 ghost use Rattle.numeric_sort.specs.passes.Heap.{Shuffled};
 ghost use Rattle.numeric_sort.specs.Ordered.{ordered, AllFinite};

@@ -1,5 +1,6 @@
 // `numeric`, `group_by_interval` and the normaliser under C names, for tests alone.
 #![tactic(auto)]
+
 ghost use Rattle.std.specs.Prelude.{◌≡◌};
 ghost use Rattle.std.specs.Float.Ieee as Ieee;
 ghost use Rattle.std.specs.Float.{binary64};

@@ -66,7 +66,7 @@ returns-in-Accepted c =
     let judged = verdict-judged ch (answer_lengths m) _ _ (short_joined (size ch) _ _) c.judge-verdict.ensures refl in
     let accepted = told ch m _ _ judged c.stretch_verdict.ensures c.in-Accepted.is in
     let mean =
-        mean_is c.base.result (is_permitted c.base.ensures) ch m _ _ (both-accepted _ _ accepted) _ c.fill_chart.ensures _ c.mean-mean.ensures in
+    mean_is c.base.result (is_permitted c.base.ensures) ch m _ _ (both-accepted _ _ accepted) _ c.fill_chart.ensures _ c.mean-mean.ensures in
     let tenths = to_z-of_z {w = w64} (record { sfits = c.tenths.type_inv }) ∙ c.tenths.ensures ∙ ap tenths_of mean in
     stretch-done c.base.result ch m _ _ _ _ _ accepted mean tenths c.fill_chart.ensures
     ∙ ap (λ (set : Settings). stretch_outcome set ch a.a a.b m) c.base.ensures

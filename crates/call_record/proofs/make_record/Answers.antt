@@ -9,6 +9,6 @@ returns c =
     record {
       made =
           recorded a.s a.kind.now a.start.now a.delta.now a.g a.window e.found c.ratio-ratio.ensures c.canonical.ensures
-              c.repeated_interval_penalty-penalty.ensures c.canonical-2.ensures;
+          c.repeated_interval_penalty-penalty.ensures c.canonical-2.ensures;
       cleared = cleared_is _ c.requires e.work e.rest c.clear.ensures c.clear_floats.ensures;
     }

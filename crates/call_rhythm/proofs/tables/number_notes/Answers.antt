@@ -19,6 +19,6 @@ group_numbers-requires c =
 pub returns : goal.returns
 returns c =
     let r =
-        notes_numbered _ _ _ _ c.requires _ c.mark_intervals.ensures _ c.group_firsts.ensures _ c.group_numbers.ensures _
-        c.if-notes-eq0.false c.as_usize.ensures.0 in
+    notes_numbered _ _ _ _ c.requires _ c.mark_intervals.ensures _ c.group_firsts.ensures _ c.group_numbers.ensures _
+    c.if-notes-eq0.false c.as_usize.ensures.0 in
     record { count = r.0; work = r.1 }
