@@ -20,10 +20,10 @@ use Rattle.call_encode.proofs.encode.Tie as tie
 abbrev start : tie.After-judge → tie.Start
 start c = c.before.before.before.before.before.before.before.before.before.before.before.before.before
 
-abbrev based : tie.After-encode-kinds → tie.After-base
+abbrev based : tie.After-encode_kinds-hits → tie.After-base-s
 based c = c.before.before.before.before.before.before.before.before.before
 
-abbrev given : tie.After-clear-floats-arg → tie.After-encode-kinds
+abbrev given : tie.After-clear_floats-arg-1 → tie.After-encode_kinds-hits
 given c = c.before.before.before.before.before.before.before.before.before.before.before.before.before.before.before
 
 -- ---- the chart and the memory as lent, and the verdict on them
@@ -34,51 +34,42 @@ chart_of c = chart c.args.kind.now c.args.start.now c.args.delta.now c.args.rati
 abbrev memory_of : tie.Start → Memory
 memory_of c =
     let a = c.args in
-    memory a.streak.now a.streak-place.now a.pattern.now a.pattern-place.now a.hit.now a.interval.now a.work.now a.scratch.now
+    memory a.streak-1.now a.streak_place-1.now a.pattern-1.now a.pattern_place-1.now a.hit-1.now a.interval-1.now a.work-1.now a.scratch-1.now
 
 verdict-told : (c : tie.After-judge) {v : Verdict} → c.judge.result ≡ v → judged (chart_of (start c)) (memory_of (start c)) ≡ v
 verdict-told c =
-    let s = start c in
-    verdict-judged (chart_of s) (answer_lengths (memory_of s)) _ _ (short_joined (size (chart_of s)) _ _) c.judge.ensures
+    verdict-judged (chart_of c.before.before.before.before.before.before.before.before.before.before.before.before.before) (answer_lengths (memory_of c.before.before.before.before.before.before.before.before.before.before.before.before.before)) _ _ (short_joined (size (chart_of c.before.before.before.before.before.before.before.before.before.before.before.before.before)) _ _) c.judge.ensures
 
-accepted : (c : tie.After-enum-told) → judged (chart_of (start c.before.before)) (memory_of (start c.before.before)) ≡ Accepted
-accepted c = verdict-told c.before.before c.enum_told.given.1
+accepted : (c : tie.In-Accepted) → judged (chart_of (start c.before.before)) (memory_of (start c.before.before)) ≡ Accepted
+accepted c = verdict-told c.before.before c.enum_told-1.given.1
 
 -- ---- the needs
 
-cast-m : tie.Need-overflow-cast-m
-cast-m c = omega (arith, is_permitted c.before.base.ensures)
+cast-m : tie.Need-overflow_cast-m
+cast-m c = omega (arith, is_permitted c.before.base-s.ensures)
 
-encode-kinds-requires : tie.Need-encode-kinds-requires
+encode-kinds-requires : tie.Need-encode_kinds-hits-requires
 encode-kinds-requires c κs =
-    let b = c.before.before.before.before.before.before.before.before in
-    let s = start b.before.before.before in
-    kinds_room b.base.result (chart_of s) (memory_of s) (is_permitted b.base.ensures) (accepted b.before)
+    kinds_room c.before.before.before.before.before.before.before.before.base-s.result (chart_of c.before.before.before.before.before.before.before.before.before.before.before.before.before.before.before.before.before.before.before.before.before.before.before.before) (memory_of c.before.before.before.before.before.before.before.before.before.before.before.before.before.before.before.before.before.before.before.before.before.before.before.before) (is_permitted c.before.before.before.before.before.before.before.before.base-s.ensures) (accepted c.before.before.before.before.before.before.before.before.before)
 
-clear-floats-requires : tie.Need-clear-floats-requires
+clear-floats-requires : tie.Need-clear_floats-requires
 clear-floats-requires c κs =
-    let t = (based (given c)).before in
-    let s = start t.before.before in
-    scratch_room (chart_of s) (memory_of s) (accepted t)
+    scratch_room (chart_of c.before.before.before.before.before.before.before.before.before.before.before.before.before.before.before.before.before.before.before.before.before.before.before.before.before.before.before.before.before.before.before.before.before.before.before.before.before.before.before.before) (memory_of c.before.before.before.before.before.before.before.before.before.before.before.before.before.before.before.before.before.before.before.before.before.before.before.before.before.before.before.before.before.before.before.before.before.before.before.before.before.before.before.before) (accepted c.before.before.before.before.before.before.before.before.before.before.before.before.before.before.before.before.before.before.before.before.before.before.before.before.before)
 
-returns : tie.Need-returns
+returns : tie.Need-returns-in-Refused
 unfolding encode_outcome
 returns c =
-    let k = c.before.before.before in
-    answered-refused _ answer.Refused (memory_of (start k)) (verdict-told k c.before.number.given.1)
+    answered-refused _ answer.Refused (memory_of (c.before.before.before.before.before.before.before.before.before.before.before.before.before.before.before.before)) (verdict-told c.before.before.before c.before.number-1.given.1)
 
-returns-2 : tie.Need-returns-2
+returns-2 : tie.Need-returns-in-Accepted
 returns-2 c =
-    let e = given c.before.before.before in
-    let b = based e in
-    let set = b.base.result in
-    let s = start b.before.before.before in
-    let f = filled_is set (chart_of s) (memory_of s) e.encode-kinds.ensures.1 c.before.before.clear-floats.ensures in
-    done-outcome set (chart_of s) (memory_of s) _ _ (accepted b.before) e.encode-kinds.ensures.0 f
-    ∙ ap (λ (x : Settings). encode_outcome x (chart_of s) (memory_of s)) b.base.ensures
+    let set = c.before.before.before.before.before.before.before.before.before.before.before.before.before.before.before.before.before.before.before.before.before.before.before.before.before.before.before.base-s.result in
+    let f = filled_is set (chart_of c.before.before.before.before.before.before.before.before.before.before.before.before.before.before.before.before.before.before.before.before.before.before.before.before.before.before.before.before.before.before.before.before.before.before.before.before.before.before.before.before.before.before.before) (memory_of c.before.before.before.before.before.before.before.before.before.before.before.before.before.before.before.before.before.before.before.before.before.before.before.before.before.before.before.before.before.before.before.before.before.before.before.before.before.before.before.before.before.before.before) c.before.before.before.before.before.before.before.before.before.before.before.before.before.before.before.before.before.before.encode_kinds-hits.ensures.1 c.before.before.clear_floats.ensures in
+    done-outcome set (chart_of c.before.before.before.before.before.before.before.before.before.before.before.before.before.before.before.before.before.before.before.before.before.before.before.before.before.before.before.before.before.before.before.before.before.before.before.before.before.before.before.before.before.before.before) (memory_of c.before.before.before.before.before.before.before.before.before.before.before.before.before.before.before.before.before.before.before.before.before.before.before.before.before.before.before.before.before.before.before.before.before.before.before.before.before.before.before.before.before.before.before) _ _ (accepted c.before.before.before.before.before.before.before.before.before.before.before.before.before.before.before.before.before.before.before.before.before.before.before.before.before.before.before.before) c.before.before.before.before.before.before.before.before.before.before.before.before.before.before.before.before.before.before.encode_kinds-hits.ensures.0 f
+    ∙ ap (λ (x : Settings). encode_outcome x (chart_of c.before.before.before.before.before.before.before.before.before.before.before.before.before.before.before.before.before.before.before.before.before.before.before.before.before.before.before.before.before.before.before.before.before.before.before.before.before.before.before.before.before.before.before) (memory_of c.before.before.before.before.before.before.before.before.before.before.before.before.before.before.before.before.before.before.before.before.before.before.before.before.before.before.before.before.before.before.before.before.before.before.before.before.before.before.before.before.before.before.before)) c.before.before.before.before.before.before.before.before.before.before.before.before.before.before.before.before.before.before.before.before.before.before.before.before.before.before.before.base-s.ensures
 
-pub encode-spec : {M : Type 1} → statement M
-encode-spec =
+pub encode_spec : {M : Type 1} → statement M
+encode_spec =
     tie.close
     (tie.spec
     (λ c κs. search rules)

@@ -1,0 +1,27 @@
+-- `encode_kinds` meets its contract: the encoder's tables, spread over the objects, and then cleared.
+use native.Mathlib.Omega.{arith}
+use Rattle.call_encode.proofs.KindsLaws.{patterns_room, hits_room, encoded}
+use Rattle.call_encode.proofs.encode_kinds.Goals as goal
+
+pub spread_patterns-requires : goal.spread_patterns-requires
+spread_patterns-requires c =
+    patterns_room c.encode_levels-k.ensures.tables c.requires
+
+pub spread_hits-requires : goal.spread_hits-requires
+spread_hits-requires c =
+    hits_room c.encode_levels-k.ensures.tables c.requires c.spread_patterns.ensures.1.1 c.spread_patterns.auto.1.1.1.1.1.0
+
+pub overflow_mul-n : goal.overflow_mul-n
+overflow_mul-n c =
+    omega (arith, c.requires)
+
+pub clear-requires : goal.clear-requires
+clear-requires c =
+    omega (arith, c.requires, c.encode_levels-k.ensures.tables.outside)
+
+pub returns : goal.returns
+returns c =
+    let tables = c.encode_levels-k.ensures.tables in
+    let p = c.spread_patterns.ensures in
+    let q = c.spread_hits.ensures in
+    (tables.count_h, encoded tables c.requires p.1.1 p.0 p.1.0 q.0 q.1.0 q.1.1 c.clear.ensures)
