@@ -9,7 +9,7 @@ spread_patterns-requires c =
 
 pub spread_hits-requires : goal.spread_hits-requires
 spread_hits-requires c =
-    hits_room c.encode_levels-k.ensures.tables c.requires c.spread_patterns.ensures.1.1 c.spread_patterns.auto.1.1.1.1.1.0
+    hits_room c.encode_levels-k.ensures.tables c.requires c.spread_patterns.ensures.pattern c.spread_patterns.auto.pattern
 
 pub overflow_mul-n : goal.overflow_mul-n
 overflow_mul-n c =
@@ -24,4 +24,8 @@ returns c =
     let tables = c.encode_levels-k.ensures.tables in
     let p = c.spread_patterns.ensures in
     let q = c.spread_hits.ensures in
-    (tables.count_h, encoded tables c.requires p.1.1 p.0 p.1.0 q.0 q.1.0 q.1.1 c.clear.ensures)
+    record {
+      count = tables.count_h;
+      filled =
+          encoded tables c.requires p.pattern p.streak p.streak_place q.pattern_place q.hit q.interval c.clear.ensures;
+    }

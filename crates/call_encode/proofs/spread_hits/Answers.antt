@@ -31,10 +31,9 @@ gather_bytes-requires c =
 
 pub returns : goal.returns
 returns c =
-    let a = c.args in (
-      looked_up_lem (2 * a.n) a.k.patterns a.work.now refl _ c.gather.ensures,
-      (
-        looked_up_lem a.n a.k.patterns a.work.now refl _ c.gather-2.ensures,
-        looked_up_lem (7 * a.n) a.k.hits a.work.now (hit_front c.requires _ c.gather-2.ensures) _ c.gather_bytes.ensures,
-      ),
-    )
+    let a = c.args in
+    record {
+      pattern_place = looked_up_lem (2 * a.n) a.k.patterns a.work.now refl _ c.gather.ensures;
+      hit = looked_up_lem a.n a.k.patterns a.work.now refl _ c.gather-2.ensures;
+      interval = looked_up_lem (7 * a.n) a.k.hits a.work.now (hit_front c.requires _ c.gather-2.ensures) _ c.gather_bytes.ensures;
+    }

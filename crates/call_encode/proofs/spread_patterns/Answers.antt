@@ -33,10 +33,9 @@ gather-requires-2 c =
 pub returns : goal.returns
 returns c =
     let a = c.args in
-    let f = streak_front c.requires _ c.copy.ensures in (
-      rw (lent_front a.n a.work.now) at c.copy.ensures,
-      (
-        looked_up_lem (4 * a.n) a.k.streaks a.work.now f _ c.gather.ensures,
-        looked_up_lem (3 * a.n) a.k.streaks a.work.now f _ c.gather-2.ensures,
-      ),
-    )
+    let f = streak_front c.requires _ c.copy.ensures in
+    record {
+      streak = rw (lent_front a.n a.work.now) at c.copy.ensures;
+      streak_place = looked_up_lem (4 * a.n) a.k.streaks a.work.now f _ c.gather.ensures;
+      pattern = looked_up_lem (3 * a.n) a.k.streaks a.work.now f _ c.gather-2.ensures;
+    }
