@@ -10,5 +10,5 @@ returns : tie.Need-returns
 unfolding neg of_bits
 returns c = by_kind c.args.value minus_zero64 nan c.args.kind c.requires
 
-pub addend-spec : {M : Type 1} → statement M
-addend-spec = tie.close (tie.spec (λ c. search rules) (λ c. search rules) returns)
+pub addend_spec : {M : Type 1} → statement M
+addend_spec = tie.close (tie.spec (λ c. search rules) (λ c. search rules) returns)

@@ -10,30 +10,30 @@ use Rattle.call_colour.proofs.TurnLaws.{has_step, has_over}
 use Rattle.call_colour.proofs.stretches.has_note.Statement.{statement}
 use Rattle.call_colour.proofs.stretches.has_note.Tie as tie
 
-abbrev invariant-loop : tie.invariant-loop
+abbrev invariant-loop : tie.invariant-loop-i
 invariant-loop kind i₀ i = (i ≤ length kind) × (has_note (drop i kind) ≡ has_note kind)
 
-abbrev decreases-loop : tie.decreases-loop
+abbrev decreases-loop : tie.decreases-loop-i
 decreases-loop kind i₀ i = length kind - i
 
-loop-holds : tie.Need-loop-init invariant-loop decreases-loop
+loop-holds : tie.Need-loop-i-init invariant-loop decreases-loop
 loop-holds c = (omega arith, refl)
 
-returns : tie.Need-returns invariant-loop decreases-loop
+returns : tie.Need-returns-then-is_note invariant-loop decreases-loop
 returns c =
     let turn = c.before.before.before in
-    sym (has_step _ _ true turn.loop-test.true (sym c.before.is-note.ensures ∙ c.if1.true)) ∙ turn.before.loop.invariant.1
+    sym (has_step _ _ true turn.loop-i-test.true (sym c.before.is_note.ensures ∙ c.if-is_note.true)) ∙ turn.before.loop-i.invariant.1
 
-loop-again : tie.Need-loop-preserved invariant-loop decreases-loop
+loop-again : tie.Need-loop-i-preserved invariant-loop decreases-loop
 loop-again c =
     let turn = c.before.before.before in
-    (omega arith, sym (has_step _ _ false turn.loop-test.true (sym c.before.is-note.ensures ∙ c.if1.false)) ∙ turn.before.loop.invariant.1)
+    (omega arith, sym (has_step _ _ false turn.loop-i-test.true (sym c.before.is_note.ensures ∙ c.if-is_note.false)) ∙ turn.before.loop-i.invariant.1)
 
-returns-2 : tie.Need-returns-2 invariant-loop decreases-loop
-returns-2 c = sym (sym c.before.loop.invariant.1 ∙ has_over _ _ c.loop-test.false)
+returns-2 : tie.Need-returns invariant-loop decreases-loop
+returns-2 c = sym (sym c.before.loop-i.invariant.1 ∙ has_over _ _ c.loop-i-test.false)
 
-pub has-note-spec : {M : Type 1} → statement M
-has-note-spec =
+pub has_note_spec : {M : Type 1} → statement M
+has_note_spec =
     tie.close
     (tie.spec
     invariant-loop

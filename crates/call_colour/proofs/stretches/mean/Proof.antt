@@ -37,8 +37,8 @@ returns c =
     let n = x.b - x.a in
     c.average.ensures ∙ (λ i. average_of (of_notes (part_pieces x.a n x.kind.now i) (part_pieces x.a n x.value.now i)))
 
-pub mean-spec : {M : Type 1} → statement M
-mean-spec =
+pub mean_spec : {M : Type 1} → statement M
+mean_spec =
     tie.close
     (tie.spec
     (λ c. search rules)

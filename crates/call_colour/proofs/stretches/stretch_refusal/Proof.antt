@@ -9,31 +9,31 @@ use borrow.Author.Rules.{rules}
 use Rattle.call_colour.proofs.stretches.stretch_refusal.Statement.{statement}
 use Rattle.call_colour.proofs.stretches.stretch_refusal.Tie as tie
 
-returns : tie.Need-returns
-returns c = none_refused _ _ _ (omega (arith, c.if1.true))
+returns : tie.Need-returns-then-b-a
+returns c = none_refused _ _ _ (omega (arith, c.if-b-a.true))
 
-returns-2 : tie.Need-returns-2
-returns-2 c = past_refused _ _ _ c.if2.true
+returns-2 : tie.Need-returns-then-n-b
+returns-2 c = past_refused _ _ _ c.if-n-b.true
 
 -- ---- once the stretch is known to be the chart's
-abbrev tested : tie.After-has-note → tie.Start
+abbrev tested : tie.After-has_note → tie.Start
 tested c = c.before.before.before.before.before
 
-noted : (c : tie.After-has-note) {b : Bool} → c.has-note.result ≡ b
+noted : (c : tie.After-has_note) {b : Bool} → c.has_note.result ≡ b
     → has_note (from_to (tested c).args.a (tested c).args.b (tested c).args.kind.now) ≡ b
-noted c e = ap has_note (sym (part_pieces _ _ _)) ∙ sym c.has-note.ensures ∙ e
+noted c e = ap has_note (sym (part_pieces _ _ _)) ∙ sym c.has_note.ensures ∙ e
 
-returns-3 : tie.Need-returns-3
+returns-3 : tie.Need-returns-then-has_note
 returns-3 c =
     let inside = c.before.before.before in
-    sym (lies_good _ _ _ (record { some = inside.before.if1.false; inside = inside.if2.false; noted = noted c.before c.if3.true }))
+    sym (lies_good _ _ _ (record { some = inside.before.if-b-a.false; inside = inside.if-n-b.false; noted = noted c.before c.if-has_note.true }))
 
-returns-4 : tie.Need-returns-4
+returns-4 : tie.Need-returns
 returns-4 c =
     let inside = c.before.before.before in
-    sym (noteless_refused _ _ _ inside.before.if1.false inside.if2.false (noted c.before c.if3.false))
+    sym (noteless_refused _ _ _ inside.before.if-b-a.false inside.if-n-b.false (noted c.before c.if-has_note.false))
 
-pub stretch-refusal-spec : {M : Type 1} → statement M
-stretch-refusal-spec =
+pub stretch_refusal_spec : {M : Type 1} → statement M
+stretch_refusal_spec =
     tie.close
     (tie.spec returns returns-2 (λ c. search rules) (λ c. search rules) (λ c. search rules) (λ c κs. search rules) returns-3 returns-4)

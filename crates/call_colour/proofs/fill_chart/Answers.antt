@@ -1,0 +1,20 @@
+-- `fill_chart` meets its contract: the values by the encoder's tables, which are then cleared.
+use Rattle.evaluator_values.proofs.TablesLaws.{tabled}
+use Rattle.call_colour.specs.Call.{memory}
+use Rattle.call_colour.proofs.FilledLaws.{filled_is}
+use Rattle.call_colour.proofs.fill_chart.Goals as goal
+
+pub fill_values-requires : goal.fill_values-requires
+fill_values-requires c =
+    let room = c.requires in
+    record {
+      sources =
+          record { steps = c.table-table.ensures; tabled = tabled room.regions c.encode_levels-k.ensures.tables; ratio = room.ratio };
+      room = room.values;
+    }
+
+pub returns : goal.returns
+returns c =
+    let a = c.args in
+    filled_is a.s _ (memory a.value.now a.work.now a.scratch.now) c.encode_levels-k.ensures.tables c.fill_values.ensures
+    c.clear.ensures c.clear_floats.ensures
