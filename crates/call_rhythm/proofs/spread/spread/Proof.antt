@@ -6,36 +6,36 @@ use Rattle.call_rhythm.proofs.SpreadLaws.{Spread, spread_start, spread_within, s
 use Rattle.call_rhythm.proofs.spread.spread.Statement.{statement}
 use Rattle.call_rhythm.proofs.spread.spread.Tie as tie
 
-abbrev invariant-loop : tie.invariant-loop
+abbrev invariant-loop : tie.invariant-loop-at
 invariant-loop kind numbers out₀ at₀ next₀ out at next = Spread kind numbers out₀ out next.0 at.0
 
-abbrev decreases-loop : tie.decreases-loop
+abbrev decreases-loop : tie.decreases-loop-at
 decreases-loop kind numbers out₀ at₀ next₀ out at next = length kind - at.0
 
-loop-holds : tie.Need-loop-init invariant-loop decreases-loop
+loop-holds : tie.Need-loop-at-init invariant-loop decreases-loop
 loop-holds c = spread_start _ _ _ c.before.before.before.requires
 
-number-of-requires : tie.Need-number-of-requires invariant-loop decreases-loop
+number-of-requires : tie.Need-number_of-requires invariant-loop decreases-loop
 number-of-requires c κs =
     let l = c.before.before.before in
-    spread_within l.loop.invariant l.before.before.before.before.requires c.before.if1.true
+    spread_within l.loop-at.invariant l.before.before.before.before.requires c.before.loop-at-test.true
 
-note-after-requires : tie.Need-note-after-requires invariant-loop decreases-loop
-note-after-requires c κs = omega (arith, spread_few c.before.before.before.before.loop.invariant c.before.before.if1.true)
+note-after-requires : tie.Need-note_after-next-requires invariant-loop decreases-loop
+note-after-requires c κs = omega (arith, spread_few c.before.before.before.before.loop-at.invariant c.before.before.loop-at-test.true)
 
-loop-again : tie.Need-loop-preserved invariant-loop decreases-loop
+loop-again : tie.Need-loop-at-preserved invariant-loop decreases-loop
 loop-again c =
     let t = c.before.before.before in
-    spread_turn t.before.before.loop.invariant _ _ t.if1.true c.before.number_of.ensures c.note-after.ensures
+    spread_turn t.before.before.loop-at.invariant _ _ t.loop-at-test.true c.before.number_of.ensures c.note_after-next.ensures
 
-same_length : tie.Need-same-length invariant-loop decreases-loop
-same_length c = c.before.before.loop.invariant.fill.long
+same_length : tie.Need-shape_of-out invariant-loop decreases-loop
+same_length c = c.before.before.loop-at.invariant.fill.long
 
 returns : tie.Need-returns invariant-loop decreases-loop
-returns c = spread_end c.before.before.loop.invariant c.if1.false
+returns c = spread_end c.before.before.loop-at.invariant c.loop-at-test.false
 
-pub spread-spec : {M : Type 1} → statement M
-spread-spec =
+pub spread_spec : {M : Type 1} → statement M
+spread_spec =
     tie.close
     (tie.spec
     invariant-loop
