@@ -87,9 +87,9 @@ module _ (starts deltas ratios : List Float) (whole : length ratios ≡ 39) wher
   settled = record { after = omega arith; there = omega arith; late = omega (arith, shown.sixteenth) }
 
   -- a chart that ends so
-  module _ (c : Chart) (whole′ : length c.ratios ≡ size c) (kinds-alike : SameLast 39 tail c.kinds) (ratios-alike : SameLast 39 ratios c.ratios) where
+  module _ (c : Chart) (whole' : length c.ratios ≡ size c) (kinds-alike : SameLast 39 tail c.kinds) (ratios-alike : SameLast 39 ratios c.ratios) where
     claim : ColourClaim base_settings alone c 7 (size c - 32)
-    claim = colour_claim base_settings alone c whole whole′ kinds-alike ratios-alike (omega (arith, kinds-alike.inside')) (inl shown.landmark)
+    claim = colour_claim base_settings alone c whole whole' kinds-alike ratios-alike (omega (arith, kinds-alike.inside')) (inl shown.landmark)
 
     -- its last object but one has the value that it has in the tail alone
     pub any_opening : get_or (values_of base_settings alone) 37 nan ≡ get_or (values_of base_settings c) (size c - 2) nan

@@ -18,19 +18,19 @@ ReachesBack g p i = (j : ℕ) × ((j < p) × (group_at g j ≡ group_at g i))
 pub record Matched (g : Groups) (p : ℕ) (g' : Groups) (p' : ℕ) : Type 0 where
   pub start : Counterparts g.count g'.count p p'
   pub from : ℕ
-  pub from′ : ℕ
-  pub shift : (i i' : ℕ) → p ≤ i → i < g.count → Counterparts g.count g'.count i i' → group_at g i + from′ ≡ group_at g' i' + from
+  pub from' : ℕ
+  pub shift : (i i' : ℕ) → p ≤ i → i < g.count → Counterparts g.count g'.count i i' → group_at g i + from' ≡ group_at g' i' + from
   pub reach : (i i' : ℕ) → p ≤ i → i < g.count → Counterparts g.count g'.count i i' → ReachesBack g p i → ReachesBack g' p' i'
-  pub reach′ : (i i' : ℕ) → p ≤ i → i < g.count → Counterparts g.count g'.count i i' → ReachesBack g' p' i' → ReachesBack g p i
+  pub reach' : (i i' : ℕ) → p ≤ i → i < g.count → Counterparts g.count g'.count i i' → ReachesBack g' p' i' → ReachesBack g p i
 
 matched_sym : {g : Groups} {p : ℕ} {g' : Groups} {p' : ℕ} → Matched g p g' p' → Matched g' p' g p
 matched_sym m = record {
   start = sym m.start;
   from = m.from';
-  from′ = m.from;
+  from' = m.from;
   shift = λ i i' l h c. sym (m.shift i' i (omega (arith, m.start)) (omega arith) (sym c));
   reach = λ i i' l h c. m.reach' i' i (omega (arith, m.start)) (omega arith) (sym c);
-  reach′ = λ i i' l h c. m.reach i' i (omega (arith, m.start)) (omega arith) (sym c);
+  reach' = λ i i' l h c. m.reach i' i (omega (arith, m.start)) (omega arith) (sym c);
 }
 
 module _ {g : Groups} {p : ℕ} {g' : Groups} {p' : ℕ} (m : Matched g p g' p') (i i' : ℕ) (l : p ≤ i)

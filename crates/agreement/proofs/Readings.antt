@@ -49,36 +49,36 @@ opens_there numbers i = not (any_below i (λ (j : ℕ). eqb (get_or numbers j 0)
 
 -- two lists that end in `tail`: at the offset in it there is a landmark of the reading in the first, and a group opens there in the first only
 unfoldable pub refutes : {A : Type 0} → (List A → List ℕ) → Reading A → List A → List A → List A → ℕ → Bool
-refutes numbers reading before before′ tail offset =
+refutes numbers reading before before' tail offset =
     all_true (ltb offset (length tail)
     ∷ reading (before ++ tail) (length tail) (length before + offset)
     ∷ opens_there (numbers (before ++ tail)) (length before + offset)
-    ∷ not (opens_there (numbers (before′ ++ tail)) (length before′ + offset))
+    ∷ not (opens_there (numbers (before' ++ tail)) (length before' + offset))
     ∷ [])
 
-module _ {A : Type 0} (numbers : List A → List ℕ) (reading : Reading A) (before before′ tail : List A) (offset : ℕ) where
+module _ {A : Type 0} (numbers : List A → List ℕ) (reading : Reading A) (before before' tail : List A) (offset : ℕ) where
   ends_in : (front : List A) → last_of (length tail) (front ++ tail) ≡ tail
   ends_in front = drop_at front tail (length (front ++ tail) - length tail) (omega (arith, length-append front tail))
 
-  same_tail : SameLast (length tail) (before ++ tail) (before′ ++ tail)
+  same_tail : SameLast (length tail) (before ++ tail) (before' ++ tail)
   same_tail = record {
     inside = omega (arith, length-append before tail);
-    inside′ = omega (arith, length-append before′ tail);
-    alike = ends_in before ∙ sym (ends_in before′);
+    inside' = omega (arith, length-append before' tail);
+    alike = ends_in before ∙ sym (ends_in before');
   }
 
-  pub refuted : refutes numbers reading before before′ tail offset ≡ true → ClaimFrom numbers reading → ⊥
+  pub refuted : refutes numbers reading before before' tail offset ≡ true → ClaimFrom numbers reading → ⊥
   unfolding refutes opens_there
   refuted e claim =
       let i : ℕ = length before + offset in
-      let i' : ℕ = length before′ + offset in
+      let i' : ℕ = length before' + offset in
       let e₁ = all_rest _ _ e in
       let e₂ = all_rest _ _ e₁ in
       let inside : offset < length tail = ltb-true _ _ (all_first _ _ e) in
       let none = found_none i (λ (j : ℕ). eqb (get_or (numbers (before ++ tail)) j 0) (get_or (numbers (before ++ tail)) i 0)) (not-true _ (all_first _ _ e₂)) in
       let earlier = any_found _ _ (not-false _ (not-true _ (all_first _ _ (all_rest _ _ e₂)))) in
-      let far : Counterparts (length (before ++ tail)) (length (before′ ++ tail)) i i' = omega (arith, length-append before tail, length-append before′ tail) in
-      let same = claim (before ++ tail) (before′ ++ tail) (length tail) i i' same_tail far (all_first _ _ e₁) in
+      let far : Counterparts (length (before ++ tail)) (length (before' ++ tail)) i i' = omega (arith, length-append before tail, length-append before' tail) in
+      let same = claim (before ++ tail) (before' ++ tail) (length tail) i i' same_tail far (all_first _ _ e₁) in
       let opens : OpensAt (groups (length (before ++ tail)) (numbers (before ++ tail))) i =
       record { there = omega (arith, length-append before tail); first = λ j h f. none j h (eq-eqb _ _ f) } in
       ((same.opens i i' (omega arith) far).0 opens).first earlier.number earlier.below (eqb-true _ _ earlier.passes)

@@ -9,7 +9,7 @@ use lib.Seq.{drop-drop, get_or-drop}
 use Rattle.agreement.specs.CommonTail.{Counterparts, SameLast}
 
 pub last_sym : {A : Type 0} {t : ℕ} {xs ys : List A} → SameLast t xs ys → SameLast t ys xs
-last_sym s = record { inside = s.inside'; inside′ = s.inside; alike = sym s.alike }
+last_sym s = record { inside = s.inside'; inside' = s.inside; alike = sym s.alike }
 
 module _ {A : Type 0} {t : ℕ} {xs ys : List A} (s : SameLast t xs ys) (p q : ℕ) (h : length xs ≤ p + t) (c : Counterparts (length xs) (length ys) p q) where
   pub same_behind : drop p xs ≡ drop q ys

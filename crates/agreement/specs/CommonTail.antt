@@ -13,5 +13,5 @@ last_of m xs = drop (length xs - m) xs
 -- two lists have m items or more, and their last m are alike: equal, and so in all bits where none is a NaN
 pub record SameLast {A : Type 0} (m : ℕ) (xs ys : List A) : Type 0 where
   pub inside : m ≤ length xs
-  pub inside′ : m ≤ length ys
+  pub inside' : m ≤ length ys
   pub alike : last_of m xs ≡ last_of m ys

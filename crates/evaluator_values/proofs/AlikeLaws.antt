@@ -16,16 +16,16 @@ use Rattle.evaluator_values.specs.Colour.{is_first, standing_at, colour_at}
 use Rattle.evaluator_values.proofs.StandingLaws.{same_standing}
 
 -- object i of the one chart stands in its groups as object i' of the other does, by the numbers of the two
-pub standing_alike : (limit : ℕ) (kinds : List ℕ) (i : ℕ) (kinds′ : List ℕ) (i' : ℕ)
-    → get_or (interval_of limit kinds) i 0 ≡ get_or (interval_of limit kinds′) i' 0
-    → get_or (pattern_place_of kinds) i 0 ≡ get_or (pattern_place_of kinds′) i' 0
-    → get_or (streak_place_of kinds) i 0 ≡ get_or (streak_place_of kinds′) i' 0
-    → is_first (streak_of kinds) i ≡ is_first (streak_of kinds′) i'
-    → is_first (alternating_of kinds) i ≡ is_first (alternating_of kinds′) i'
-    → is_first (hit_of kinds) i ≡ is_first (hit_of kinds′) i'
-    → standing_at limit kinds i ≡ standing_at limit kinds′ i'
+pub standing_alike : (limit : ℕ) (kinds : List ℕ) (i : ℕ) (kinds' : List ℕ) (i' : ℕ)
+    → get_or (interval_of limit kinds) i 0 ≡ get_or (interval_of limit kinds') i' 0
+    → get_or (pattern_place_of kinds) i 0 ≡ get_or (pattern_place_of kinds') i' 0
+    → get_or (streak_place_of kinds) i 0 ≡ get_or (streak_place_of kinds') i' 0
+    → is_first (streak_of kinds) i ≡ is_first (streak_of kinds') i'
+    → is_first (alternating_of kinds) i ≡ is_first (alternating_of kinds') i'
+    → is_first (hit_of kinds) i ≡ is_first (hit_of kinds') i'
+    → standing_at limit kinds i ≡ standing_at limit kinds' i'
 unfolding standing_at
-standing_alike limit kinds i kinds′ i' n q p s a h =
+standing_alike limit kinds i kinds' i' n q p s a h =
     same_standing (record { interval = n; pattern_place = q; streak_place = p; streak = s; pattern = a; hit = h })
 
 -- from object 4 on the penalty hangs on the two ratios alone
@@ -35,11 +35,11 @@ penalty-late tolerance i j c p h k =
     ∙ tested tolerance j c p false _ false (le-ltb j 2 (omega arith)) refl (le-ltb j 4 k)
 
 -- the value, from object 4 on, where the two ratios are the same too
-pub colour-alike : (limit : ℕ) (tolerance : Float) (kinds : List ℕ) (ratios : List Float) (i : ℕ) (kinds′ : List ℕ) (ratios' : List Float) (i' : ℕ)
-    → standing_at limit kinds i ≡ standing_at limit kinds′ i' → get_or ratios i nan ≡ get_or ratios' i' nan
+pub colour-alike : (limit : ℕ) (tolerance : Float) (kinds : List ℕ) (ratios : List Float) (i : ℕ) (kinds' : List ℕ) (ratios' : List Float) (i' : ℕ)
+    → standing_at limit kinds i ≡ standing_at limit kinds' i' → get_or ratios i nan ≡ get_or ratios' i' nan
     → get_or ratios (i - 2) nan ≡ get_or ratios' (i' - 2) nan → 4 ≤ i → 4 ≤ i'
-    → colour_at limit tolerance kinds ratios i ≡ colour_at limit tolerance kinds′ ratios' i'
+    → colour_at limit tolerance kinds ratios i ≡ colour_at limit tolerance kinds' ratios' i'
 unfolding colour_at
-colour-alike limit tolerance kinds ratios i kinds′ ratios' i' l this earlier h k =
+colour-alike limit tolerance kinds ratios i kinds' ratios' i' l this earlier h k =
     (λ t. mul binary64 (object_sum (l t)) (ratio_penalty tolerance i (this t) (earlier t)))
     ∙ rw (penalty-late tolerance i i' (get_or ratios' i' nan) (get_or ratios' (i' - 2) nan) h k)

@@ -39,11 +39,11 @@ streak_marks-cut front back =
     rw (streak_marks_scan (front ++ back), streak_marks_scan front) (scan-append seen_next opens_seen seen₀ front back)
 
 -- with a note just before the cut in both charts, the marks behind it are the same
-pub streak_marks-agree : (before before′ shared back : List ℕ) → HasNote shared
-    → streak_marks_after (before ++ shared) back ≡ streak_marks_after (before′ ++ shared) back
+pub streak_marks-agree : (before before' shared back : List ℕ) → HasNote shared
+    → streak_marks_after (before ++ shared) back ≡ streak_marks_after (before' ++ shared) back
 unfolding streak_marks_after
-streak_marks-agree before before′ shared back n =
-    rw (after_append seen_next seen₀ before shared, after_append seen_next seen₀ before′ shared)
+streak_marks-agree before before' shared back n =
+    rw (after_append seen_next seen₀ before shared, after_append seen_next seen₀ before' shared)
     (scan-alike seen_next Alike next_alike opens_seen opens-alike _ _ back
     (after_hides seen_next Alike next_alike 0 shared n.place n.inside (λ s t. note_alike s t (get_or shared n.place 0) n.note) _ _))
 

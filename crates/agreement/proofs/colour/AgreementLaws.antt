@@ -6,12 +6,12 @@ use native.Mathlib.Omega.{arith}
 use lib.ListN.{length}
 use Rattle.agreement.specs.passes.Agreement.{Agree, Agreement}
 
-module _ {limit : ℕ} {kinds : List ℕ} {a g : ℕ} {kinds′ : List ℕ} {b h : ℕ} (r : Agree limit kinds a g kinds′ b h) where
-  pub agree_sym : Agree limit kinds′ b h kinds a g
+module _ {limit : ℕ} {kinds : List ℕ} {a g : ℕ} {kinds' : List ℕ} {b h : ℕ} (r : Agree limit kinds a g kinds' b h) where
+  pub agree_sym : Agree limit kinds' b h kinds a g
   agree_sym = record {
     objects = sym r.objects;
     cut = r.cut';
-    cut′ = r.cut;
+    cut' = r.cut;
     count = sym r.count;
     sizes = sym r.sizes;
     firsts = sym r.firsts;
@@ -25,8 +25,8 @@ module _ {limit : ℕ} {kinds : List ℕ} {a g : ℕ} {kinds′ : List ℕ} {b h
     interval = λ j l n. sym (r.interval j (other j l) (omega (arith, r.hit j (other j l))));
   }
     where
-      other : (j : ℕ) → b + j < length kinds′ → a + j < length kinds
+      other : (j : ℕ) → b + j < length kinds' → a + j < length kinds
       other j l = omega (arith, r.objects)
 
-pub agreement_sym : {limit : ℕ} {kinds : List ℕ} {a : ℕ} {kinds′ : List ℕ} {b : ℕ} → Agreement limit kinds a kinds′ b → Agreement limit kinds′ b kinds a
-agreement_sym r = record { before = r.before'; before′ = r.before; agree = agree_sym r.agree }
+pub agreement_sym : {limit : ℕ} {kinds : List ℕ} {a : ℕ} {kinds' : List ℕ} {b : ℕ} → Agreement limit kinds a kinds' b → Agreement limit kinds' b kinds a
+agreement_sym r = record { before = r.before'; before' = r.before; agree = agree_sym r.agree }

@@ -55,10 +55,10 @@ module _ (s : Settings) (c c' : Chart) {a g b h : ℕ} (r : Agree s.limit c.kind
   same_hits = same_groups (record {
     start = r.objects;
     from = g;
-    from′ = h;
+    from' = h;
     shift = λ i i' l k e. hit-agree i i' l e k;
     reach = λ i i' l k e y. absurd (cut_closed c r.cut i l k y);
-    reach′ = λ i i' l k e y. absurd (cut_closed c' r.cut' i' (omega (arith, r.objects)) (omega arith) y);
+    reach' = λ i i' l k e y. absurd (cut_closed c' r.cut' i' (omega (arith, r.objects)) (omega arith) y);
   })
 
   settled-agree : (i i' : ℕ) → Counterparts (size c) (size c') i i' → Settled s.limit (hit_patterns c) a i ↔ Settled s.limit (hit_patterns c') b i'
@@ -83,13 +83,13 @@ module _ (s : Settings) (c c' : Chart) {a g b h : ℕ} (r : Agree s.limit c.kind
     interval = λ i i' x e. interval-agree i i' x.after e x.there (settled-counts c r.cut x);
   }
 
-  module _ {m : ℕ} (whole : length c.ratios ≡ size c) (whole′ : length c'.ratios ≡ size c')
+  module _ {m : ℕ} (whole : length c.ratios ≡ size c) (whole' : length c'.ratios ≡ size c')
       (k : SameLast m c.kinds c'.kinds) (t : SameLast m c.ratios c'.ratios) (late : size c + 4 ≤ a + m) where
     same_kind : (i i' : ℕ) → Settled s.limit (hit_patterns c) a i → Counterparts (size c) (size c') i i' → get_or c.kinds i 0 ≡ get_or c'.kinds i' 0
     same_kind i i' x e = same_at k i i' (omega (arith, x.after)) e 0
 
     same_value : (i i' : ℕ) → Settled s.limit (hit_patterns c) a i → Counterparts (size c) (size c') i i' → value_at s c i ≡ value_at s c' i'
-    same_value i i' x e = value-agree r s.tolerance whole whole′ t late i i' x.after e x.there (settled-counts c r.cut x)
+    same_value i i' x e = value-agree r s.tolerance whole whole' t late i i' x.after e x.there (settled-counts c r.cut x)
 
     claimed : ColourClaim s c c' a b
     claimed = record {
@@ -105,7 +105,7 @@ module _ (s : Settings) (c c' : Chart) {a g b h : ℕ} (r : Agree s.limit c.kind
 pub colour_claim : (s : Settings) (c c' : Chart) {m p p' : ℕ} → length c.ratios ≡ size c → length c'.ratios ≡ size c'
     → SameLast m c.kinds c'.kinds → SameLast m c.ratios c'.ratios → Counterparts (size c) (size c') p p'
     → ColourLandmark c.kinds m p ⊎ ColourLandmark c'.kinds m p' → ColourClaim s c c' p p'
-colour_claim s c c' {m} {p} {p'} whole whole′ k t far x =
+colour_claim s c c' {m} {p} {p'} whole whole' k t far x =
     let r = colour-agree s.limit c.kinds c'.kinds m p p' k far x in
     let late : size c + 4 ≤ p + m = ⊎_elim (λ y. omega (arith, landmark_late y)) (λ y. omega (arith, landmark_late y)) x in
-    claimed s c c' r.agree whole whole′ k t late
+    claimed s c c' r.agree whole whole' k t late

@@ -167,24 +167,24 @@ module _ (front rest : List ℕ) {n position : ℕ} (m : ColourLandmark (front +
 
   -- ---- another chart, with other objects before (a) and the same marks behind it
 
-  module _ (front′ : List ℕ) (same : streak_marks_after front′ rest ≡ streak_marks_after front rest) where
-    there : Parted (front′ ++ rest) (back unequal uncoupled)
+  module _ (front' : List ℕ) (same : streak_marks_after front' rest ≡ streak_marks_after front rest) where
+    there : Parted (front' ++ rest) (back unequal uncoupled)
     unfolding marks types
-    there = parted unequal uncoupled (streaks-cut front′ rest marks same opening)
+    there = parted unequal uncoupled (streaks-cut front' rest marks same opening)
 
-    position_there : length there.streaks + length front ≡ position + length front′
+    position_there : length there.streaks + length front ≡ position + length front'
     unfolding marks types there here cut
     position_there =
-        omega (arith, position_is, parted-objects unequal uncoupled cut, parted-objects unequal uncoupled (streaks-cut front′ rest marks same opening))
+        omega (arith, position_is, parted-objects unequal uncoupled cut, parted-objects unequal uncoupled (streaks-cut front' rest marks same opening))
 
-    seam_agree : (limit position' : ℕ) → position' + length front ≡ position + length front′ → Agreement limit kinds position (front′ ++ rest) position'
+    seam_agree : (limit position' : ℕ) → position' + length front ≡ position + length front' → Agreement limit kinds position (front' ++ rest) position'
     seam_agree limit position' h =
         let a : length there.streaks ≡ position' = omega (arith, position_there) in
         record {
           before = group_count here.hits;
-          before′ = group_count there.hits;
+          before' = group_count there.hits;
           agree =
-              subst₂ (λ (i j : ℕ). Agree limit kinds i (group_count here.hits) (front′ ++ rest) j (group_count there.hits)) position_is a
+              subst₂ (λ (i j : ℕ). Agree limit kinds i (group_count here.hits) (front' ++ rest) j (group_count there.hits)) position_is a
               (parted-agree limit here there);
         }
 
@@ -267,19 +267,19 @@ same_tail_agree limit pre pre' tail offset (inl m) = agreement pre tail offset m
 same_tail_agree limit pre pre' tail offset (inr m) = agreement_sym (agreement pre' tail offset m limit pre)
 
 -- the last m kinds of two charts are alike, and one of them has a landmark; the two positions are counterparts
-pub colour-agree : (limit : ℕ) (kinds kinds′ : List ℕ) (m position position' : ℕ) → SameLast m kinds kinds′
-    → Counterparts (length kinds) (length kinds′) position position'
-    → ColourLandmark kinds m position ⊎ ColourLandmark kinds′ m position' → Agreement limit kinds position kinds′ position'
-colour-agree limit kinds kinds′ m position position' s far x =
-    transport (λ i. ColourLandmark (whole i) (size i) (place i) ⊎ ColourLandmark (whole′ i) (size i) (place′ i)
-    → Agreement limit (whole i) (place i) (whole′ i) (place′ i))
-    (same_tail_agree limit front front′ (last_of m kinds) (position + m - length kinds)) x
+pub colour-agree : (limit : ℕ) (kinds kinds' : List ℕ) (m position position' : ℕ) → SameLast m kinds kinds'
+    → Counterparts (length kinds) (length kinds') position position'
+    → ColourLandmark kinds m position ⊎ ColourLandmark kinds' m position' → Agreement limit kinds position kinds' position'
+colour-agree limit kinds kinds' m position position' s far x =
+    transport (λ i. ColourLandmark (whole i) (size i) (place i) ⊎ ColourLandmark (whole' i) (size i) (place' i)
+    → Agreement limit (whole i) (place i) (whole' i) (place' i))
+    (same_tail_agree limit front front' (last_of m kinds) (position + m - length kinds)) x
   where
     front : List ℕ
     front = take (length kinds - m) kinds
 
-    front′ : List ℕ
-    front′ = take (length kinds′ - m) kinds′
+    front' : List ℕ
+    front' = take (length kinds' - m) kinds'
 
     from : length kinds ≤ position + m
     from = ⊎_elim (λ y. omega (arith, landmark_late y)) (λ y. omega (arith, landmark_late y)) x
@@ -287,8 +287,8 @@ colour-agree limit kinds kinds′ m position position' s far x =
     whole : front ++ last_of m kinds ≡ kinds
     whole = take-append-drop (length kinds - m) kinds
 
-    whole′ : front′ ++ last_of m kinds ≡ kinds′
-    whole′ = rw s.alike (take-append-drop (length kinds′ - m) kinds′)
+    whole' : front' ++ last_of m kinds ≡ kinds'
+    whole' = rw s.alike (take-append-drop (length kinds' - m) kinds')
 
     size : length (last_of m kinds) ≡ m
     size = omega (arith, length-drop (length kinds - m) kinds, s.inside)
@@ -296,5 +296,5 @@ colour-agree limit kinds kinds′ m position position' s far x =
     place : length front + (position + m - length kinds) ≡ position
     place = omega (arith, length-take-le (length kinds - m) kinds (omega arith), from, s.inside)
 
-    place′ : length front′ + (position + m - length kinds) ≡ position'
-    place′ = omega (arith, length-take-le (length kinds′ - m) kinds′ (omega arith), from, s.inside')
+    place' : length front' + (position + m - length kinds) ≡ position'
+    place' = omega (arith, length-take-le (length kinds' - m) kinds' (omega arith), from, s.inside')

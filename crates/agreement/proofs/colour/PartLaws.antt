@@ -76,9 +76,9 @@ hit_seconds_behind k = group_firsts k.hits (second_lengths k.lengths k.hits)
 -- ---- lists that are cut
 
 -- a level with an item for each group of the level below it, before the cut and in all, has one for each behind the cut too
-back_level : {whole below : List ℕ} (front back front′ back' : List ℕ) → length whole ≡ group_count below → whole ≡ front ++ back
-    → below ≡ front′ ++ back' → Opening back' → group_count front′ ≡ length front → length back ≡ group_count back'
-back_level front back front′ back' long e f o h = omega (arith, long, ap length e, length-append front back, ap group_count f, count-cut front′ back' o, h)
+back_level : {whole below : List ℕ} (front back front' back' : List ℕ) → length whole ≡ group_count below → whole ≡ front ++ back
+    → below ≡ front' ++ back' → Opening back' → group_count front' ≡ length front → length back ≡ group_count back'
+back_level front back front' back' long e f o h = omega (arith, long, ap length e, length-append front back, ap group_count f, count-cut front' back' o, h)
 
 -- a number behind the cut
 pub split_from : {xs : List ℕ} {at c : ℕ} {back : List ℕ} → Split xs at c back → (i : ℕ) → at ≤ i → i < length xs → c ≤ get_or xs i 0
@@ -281,12 +281,12 @@ module _ {kinds : List ℕ} {k : Back} (x : Parted kinds k) where
   hit-count = hit_count_made kinds ∙ ap group_count x.hits-whole ∙ count-cut x.hits k.hits x.hits_open_lem
 
 -- two charts that are cut so, with the same back
-pub parted-agree : (limit : ℕ) {kinds kinds′ : List ℕ} {k : Back} (x : Parted kinds k) (y : Parted kinds′ k)
-    → Agree limit kinds (length x.streaks) (group_count x.hits) kinds′ (length y.streaks) (group_count y.hits)
-parted-agree limit {kinds} {kinds′} {k} x y = record {
+pub parted-agree : (limit : ℕ) {kinds kinds' : List ℕ} {k : Back} (x : Parted kinds k) (y : Parted kinds' k)
+    → Agree limit kinds (length x.streaks) (group_count x.hits) kinds' (length y.streaks) (group_count y.hits)
+parted-agree limit {kinds} {kinds'} {k} x y = record {
   objects = omega (arith, objects-back x, objects-back y);
   cut = hits-cut x;
-  cut′ = hits-cut y;
+  cut' = hits-cut y;
   count = omega (arith, hit-count x, hit-count y);
   sizes = sizes-behind x ∙ sym (sizes-behind y);
   firsts = firsts-behind x ∙ sym (firsts-behind y);

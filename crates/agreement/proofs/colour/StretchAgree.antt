@@ -29,8 +29,8 @@ module _ (s : Settings) (c c' : Chart) (p : ℕ)
   equal : b - a ≡ b' - a'
   equal = omega (arith, lies.some)
 
-  inside′ : b' ≤ size c'
-  inside′ = omega (arith, lies.inside)
+  inside' : b' ≤ size c'
+  inside' = omega (arith, lies.inside)
 
   settled : (i : ℕ) → i < b - a → Settled s.limit (hit_patterns c) p (a + i)
   settled i k = settled-onwards c a (a + i) x (omega arith) (omega (arith, lies.inside))
@@ -43,7 +43,7 @@ module _ (s : Settings) (c c' : Chart) (p : ℕ)
 
   pub same_stretch : SameStretch s c a b c' a' b'
   same_stretch = record {
-    accepted = good_alike s c c' a b a' b' lies equal inside′ same_kinds same_values;
-    mean = mean-alike s c c' a b a' b' lies equal inside′ same_kinds same_values;
-    tenths = tenths-alike s c c' a b a' b' lies equal inside′ same_kinds same_values;
+    accepted = good_alike s c c' a b a' b' lies equal inside' same_kinds same_values;
+    mean = mean-alike s c c' a b a' b' lies equal inside' same_kinds same_values;
+    tenths = tenths-alike s c c' a b a' b' lies equal inside' same_kinds same_values;
   }

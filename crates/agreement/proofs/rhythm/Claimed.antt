@@ -54,10 +54,10 @@ same_behind_shift : {margin : Float} {xs ys : List Float} {a b : ℕ} → Shifte
 same_behind_shift {margin} {xs} {ys} {a} {b} s = same_groups (record {
   start = omega (arith, s.start);
   from = number_at margin xs a;
-  from′ = number_at margin ys b;
+  from' = number_at margin ys b;
   shift = λ i i' l h c. s.shift i i' (omega arith) h c;
   reach = λ i i' l h c. reach_over s i i' (omega arith) h c;
-  reach′ = λ i i' l h c. reach_over (shifted_sym s) i' i (omega (arith, s.start)) (omega arith) (sym c);
+  reach' = λ i i' l h c. reach_over (shifted_sym s) i' i (omega (arith, s.start)) (omega arith) (sym c);
 })
 
 -- ---- two lists of deltas whose last t are alike, with a landmark there, read in either
@@ -70,29 +70,29 @@ module _ (margin : Float) {t : ℕ} {xs ys : List Float} (s : SameLast t xs ys) 
   one : i - 1 + 1 ≡ i
   one = omega (arith, landmark.before_there)
 
-  one′ : i' - 1 + 1 ≡ i'
-  one′ = omega (arith, landmark.before_there, landmark.of_tail_lem, s.inside')
+  one' : i' - 1 + 1 ≡ i'
+  one' = omega (arith, landmark.before_there, landmark.of_tail_lem, s.inside')
 
   marks : drop (suc (i - 1)) (interval_marks margin xs) ≡ drop (suc (i' - 1)) (interval_marks margin ys)
   marks =
       let e : suc (i - 1) ≡ i = omega (arith, one) in
-      let f : suc (i' - 1) ≡ i' = omega (arith, one′) in
+      let f : suc (i' - 1) ≡ i' = omega (arith, one') in
       rw (e, f) (marks_agree s margin i i' c landmark)
 
   -- the numbers differ by a constant from the note before the landmark on
   shifted : Shifted margin xs (i - 1) ys (i' - 1)
   shifted = record {
-    start = omega (arith, one, one′);
+    start = omega (arith, one, one');
     shift = λ p q l h d.
         let j : ℕ = p - (i - 1) in
         let e : i - 1 + j ≡ p = omega arith in
-        let f : i' - 1 + j ≡ q = omega (arith, one, one′) in
+        let f : i' - 1 + j ≡ q = omega (arith, one, one') in
         subst₂ (λ (p q : ℕ). number_at margin xs p + number_at margin ys (i' - 1) ≡ number_at margin ys q + number_at margin xs (i - 1)) e f
         (numbers_shift (interval_marks margin xs) (interval_marks margin ys) (i - 1) (i' - 1) marks j (omega (arith, length_marks margin xs)));
   }
 
   pub rhythm_claim : SameGroups (interval_groups margin xs) i (interval_groups margin ys) i'
-  rhythm_claim = rw (← one, ← one′) (same_behind_shift shifted)
+  rhythm_claim = rw (← one, ← one') (same_behind_shift shifted)
 
 -- ---- the claim is not empty: a group opens at the landmark or at the next note
 
@@ -147,5 +147,5 @@ module _ (margin : Float) (deltas : List Float) (t i : ℕ) (m : RhythmLandmark 
 pub chart_claim : (s : Settings) (c c' : Chart) {m : ℕ} → length c.deltas ≡ size c → length c'.deltas ≡ size c'
     → SameLast m c.kinds c'.kinds → SameLast m c.deltas c'.deltas → (i i' : ℕ) → Counterparts (note_count c) (note_count c') i i'
     → LandmarkNote s c m i ⊎ LandmarkNote s c' m i' → SameGroups (rhythm_groups s c) i (rhythm_groups s c') i'
-chart_claim s c c' whole whole′ k d i i' far x =
-    rhythm_claim s.margin (notes-alike c c' whole whole′ k d) i i' far (rw (← same_count c c' whole whole′ k d) at x)
+chart_claim s c c' whole whole' k d i i' far x =
+    rhythm_claim s.margin (notes-alike c c' whole whole' k d) i i' far (rw (← same_count c c' whole whole' k d) at x)

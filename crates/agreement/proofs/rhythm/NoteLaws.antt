@@ -48,7 +48,7 @@ module _ (m : ℕ) (c : Chart) (whole : length c.deltas ≡ size c) (fits : m �
 
 -- ---- two charts
 
-module _ (c c' : Chart) {m : ℕ} (whole : length c.deltas ≡ size c) (whole′ : length c'.deltas ≡ size c')
+module _ (c c' : Chart) {m : ℕ} (whole : length c.deltas ≡ size c) (whole' : length c'.deltas ≡ size c')
     (k : SameLast m c.kinds c'.kinds) (d : SameLast m c.deltas c'.deltas) where
   pub same_count : tail_notes m c ≡ tail_notes m c'
   same_count = rw k.alike
@@ -56,8 +56,8 @@ module _ (c c' : Chart) {m : ℕ} (whole : length c.deltas ≡ size c) (whole′
   pub notes-alike : SameLast (tail_notes m c) (deltas_of c) (deltas_of c')
   notes-alike = record {
     inside = notes_fit m c whole k.inside;
-    inside′ = omega (arith, same_count, notes_fit m c' whole′ k.inside');
-    alike = rw (notes_last m c whole k.inside, same_count, notes_last m c' whole′ k.inside') (λ i. of_notes (k.alike i) (d.alike i));
+    inside' = omega (arith, same_count, notes_fit m c' whole' k.inside');
+    alike = rw (notes_last m c whole k.inside, same_count, notes_last m c' whole' k.inside') (λ i. of_notes (k.alike i) (d.alike i));
   }
 
   module _ (o o' : ℕ) (h : size c ≤ o + m) (l : o < size c) (e : Counterparts (size c) (size c') o o') where
@@ -71,7 +71,7 @@ module _ (c c' : Chart) {m : ℕ} (whole : length c.deltas ≡ size c) (whole′
           note_number c.kinds o n,
           note_number c'.kinds o' (sym same_kind ∙ n),
           length_of_notes c.kinds c.deltas whole,
-          length_of_notes c'.kinds c'.deltas whole′,
+          length_of_notes c'.kinds c'.deltas whole',
           notes_split c.kinds o,
           notes_split c'.kinds o',
           ap (λ (ks : List ℕ). length (notes ks)) (same_behind k o o' h e),

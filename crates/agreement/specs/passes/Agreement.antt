@@ -20,30 +20,30 @@ pub record HitsCut (kinds : List ℕ) (position before : ℕ) : Type 0 where
 
 -- two charts from a landmark on: a objects and g hit patterns stand before it in the first chart, b and h in the
 -- second. Objects a + j and b + j are counterparts
-pub record Agree (limit : ℕ) (kinds : List ℕ) (a g : ℕ) (kinds′ : List ℕ) (b h : ℕ) : Type 0 where
-  pub objects : length kinds + b ≡ length kinds′ + a
+pub record Agree (limit : ℕ) (kinds : List ℕ) (a g : ℕ) (kinds' : List ℕ) (b h : ℕ) : Type 0 where
+  pub objects : length kinds + b ≡ length kinds' + a
   pub cut : HitsCut kinds a g
-  pub cut′ : HitsCut kinds′ b h
+  pub cut' : HitsCut kinds' b h
   -- the hit patterns behind the landmark: how many, and of each what the search for an interval compares
-  pub count : hit_count kinds + h ≡ hit_count kinds′ + g
-  pub sizes : drop g (hit_sizes kinds) ≡ drop h (hit_sizes kinds′)
-  pub firsts : drop g (hit_firsts kinds) ≡ drop h (hit_firsts kinds′)
-  pub seconds : drop g (hit_seconds kinds) ≡ drop h (hit_seconds kinds′)
+  pub count : hit_count kinds + h ≡ hit_count kinds' + g
+  pub sizes : drop g (hit_sizes kinds) ≡ drop h (hit_sizes kinds')
+  pub firsts : drop g (hit_firsts kinds) ≡ drop h (hit_firsts kinds')
+  pub seconds : drop g (hit_seconds kinds) ≡ drop h (hit_seconds kinds')
   -- counted from the landmark, counterparts are of the same hit pattern
-  pub hit : (j : ℕ) → a + j < length kinds → get_or (hit_of kinds) (a + j) 0 + h ≡ get_or (hit_of kinds′) (b + j) 0 + g
-  pub hit_first : (j : ℕ) → a + j < length kinds → FirstAlike (hit_of kinds) (hit_of kinds′) a b j
-  pub pattern_first : (j : ℕ) → a + j < length kinds → FirstAlike (alternating_of kinds) (alternating_of kinds′) a b j
-  pub streak_first : (j : ℕ) → a + j < length kinds → FirstAlike (streak_of kinds) (streak_of kinds′) a b j
+  pub hit : (j : ℕ) → a + j < length kinds → get_or (hit_of kinds) (a + j) 0 + h ≡ get_or (hit_of kinds') (b + j) 0 + g
+  pub hit_first : (j : ℕ) → a + j < length kinds → FirstAlike (hit_of kinds) (hit_of kinds') a b j
+  pub pattern_first : (j : ℕ) → a + j < length kinds → FirstAlike (alternating_of kinds) (alternating_of kinds') a b j
+  pub streak_first : (j : ℕ) → a + j < length kinds → FirstAlike (streak_of kinds) (streak_of kinds') a b j
   pub pattern-place : (j : ℕ) → a + j < length kinds
-      → get_or (pattern_place_of kinds) (a + j) 0 ≡ get_or (pattern_place_of kinds′) (b + j) 0
+      → get_or (pattern_place_of kinds) (a + j) 0 ≡ get_or (pattern_place_of kinds') (b + j) 0
   pub streak-place : (j : ℕ) → a + j < length kinds
-      → get_or (streak_place_of kinds) (a + j) 0 ≡ get_or (streak_place_of kinds′) (b + j) 0
+      → get_or (streak_place_of kinds) (a + j) 0 ≡ get_or (streak_place_of kinds') (b + j) 0
   -- from the M-th of these hit patterns on
   pub interval : (j : ℕ) → a + j < length kinds → g + limit ≤ get_or (hit_of kinds) (a + j) 0 + 1
-      → get_or (interval_of limit kinds) (a + j) 0 ≡ get_or (interval_of limit kinds′) (b + j) 0
+      → get_or (interval_of limit kinds) (a + j) 0 ≡ get_or (interval_of limit kinds') (b + j) 0
 
 -- the same, with the numbers of hit patterns before the landmark found
-pub record Agreement (limit : ℕ) (kinds : List ℕ) (a : ℕ) (kinds′ : List ℕ) (b : ℕ) : Type 0 where
+pub record Agreement (limit : ℕ) (kinds : List ℕ) (a : ℕ) (kinds' : List ℕ) (b : ℕ) : Type 0 where
   pub before : ℕ
-  pub before′ : ℕ
-  pub agree : Agree limit kinds a before kinds′ b before′
+  pub before' : ℕ
+  pub agree : Agree limit kinds a before kinds' b before'

@@ -11,23 +11,23 @@ use Rattle.call_record.proofs.record_refusal.Statement.{statement}
 use Rattle.call_record.proofs.record_refusal.Tie as tie
 
 -- ---- once the groups are counted
-abbrev start : tie.After-count-groups → tie.Start
+abbrev start : tie.After-count_groups → tie.Start
 start c = c.before.before.before.before.before
 
-good : (c : tie.After-count-groups) → window_good (start c).args.window ≡ true
-good c = sym c.before.before.window-good.ensures ∙ c.before.if1.true
+good : (c : tie.After-count_groups) → window_good (start c).args.window ≡ true
+good c = sym c.before.before.window_good.ensures ∙ c.before.if-window_good.true
 
-counted : (c : tie.After-count-groups) → c.count-groups.result ≡ groups_in (start c).args.margin (start c).args.kind.now (start c).args.delta.now
-counted c = c.count-groups.ensures ∙ sym (groups-counted _ _ _ (start c).requires)
+counted : (c : tie.After-count_groups) → c.count_groups.result ≡ groups_in (start c).args.margin (start c).args.kind.now (start c).args.delta.now
+counted c = c.count_groups.ensures ∙ sym (groups-counted _ _ _ (start c).requires)
 
-returns : tie.Need-returns
-returns c = neither_refused _ _ _ (good c.before) (omega (arith, counted c.before, c.if2.true))
+returns : tie.Need-returns-then-g-count_groups
+returns c = neither_refused _ _ _ (good c.before) (omega (arith, counted c.before, c.if-g-count_groups.true))
 
-returns-2 : tie.Need-returns-2
-returns-2 c = group-refused _ _ _ (good c.before) (omega (arith, counted c.before, c.if2.false))
+returns-2 : tie.Need-returns-then-window_good
+returns-2 c = group-refused _ _ _ (good c.before) (omega (arith, counted c.before, c.if-g-count_groups.false))
 
-returns-3 : tie.Need-returns-3
-returns-3 c = window_refused _ _ _ (sym c.before.window-good.ensures ∙ c.if1.false)
+returns-3 : tie.Need-returns
+returns-3 c = window_refused _ _ _ (sym c.before.window_good.ensures ∙ c.if-window_good.false)
 
-pub record-refusal-spec : {M : Type 1} → statement M
-record-refusal-spec = tie.close (tie.spec (λ c κs. search rules) (λ c κs. search rules) returns returns-2 returns-3)
+pub record_refusal_spec : {M : Type 1} → statement M
+record_refusal_spec = tie.close (tie.spec (λ c κs. search rules) (λ c κs. search rules) returns returns-2 returns-3)

@@ -7,7 +7,7 @@ use Rattle.call_record.proofs.window_good.Tie as tie
 
 returns : tie.Need-returns
 unfolding window_good of_bits
-returns c = c.is_Within.ensures
+returns c = c.is_within.ensures
 
-pub window-good-spec : {M : Type 1} → statement M
-window-good-spec = tie.close (tie.spec (λ c κs. search rules) returns)
+pub window_good_spec : {M : Type 1} → statement M
+window_good_spec = tie.close (tie.spec (λ c κs. search rules) returns)
