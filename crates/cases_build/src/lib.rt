@@ -1,5 +1,6 @@
 // A stored case of build.
 #![tactic(auto)]
+
 ghost use Rattle.std.specs.Prelude.{◌≡◌, ◌+◌, ◌-◌, ◌*◌, ◌≤◌, ◌<◌};
 ghost use Rattle.grouping_chart.specs.Chart.{largest};
 ghost use Rattle.call_build.specs.Build.{raw};

@@ -42,7 +42,7 @@ module _ (s : StoredStretch) (answer : Stretching) (mean : Float) (tenths : ℤ)
   pub mean-told : (bits : ℕ) → of_z w64 tenths ≡ of_z w64 stored → bits ≡ to_bits binary64 mean → Tells (eqb bits s.mean) (MeanIs s answer)
   unfolding MeanIs
   mean-told bits h b =
-      let z : tenths ≡ signed_of s.tenths = sym (to_z-of_z (sfits_of small)) ∙ ap (to_z w64) h ∙ to_z-of_z (sfits_of fits) ∙ sign in
+      let z : tenths ≡ signed_of s.tenths = sym (to_z-of_z {w = w64} (sfits_of small)) ∙ ap (to_z w64) h ∙ to_z-of_z {w = w64} (sfits_of fits) ∙ sign in
       subst (λ (a : Stretching). Tells (eqb bits s.mean) (MeanIs s a)) (sym e) (tells_as (λ q. (sym b ∙ q, z)) (λ p. b ∙ p.0) (tells_eqb bits s.mean))
 
   pub tenths_differ : (of_z w64 tenths ≡ of_z w64 stored → ⊥) → Tells false (MeanIs s answer)

@@ -1,5 +1,6 @@
 // A stored case of colour, and of a stretch of its chart.
 #![tactic(auto)]
+
 ghost use Rattle.std.specs.Prelude.{◌≡◌, ◌+◌, ◌*◌, ◌≤◌};
 ghost use Rattle.grouping_chart.specs.Chart.{chart, largest};
 ghost use Rattle.call_colour.specs.Call.{memory};

@@ -1,5 +1,6 @@
 // A stored case of encode.
 #![tactic(auto)]
+
 ghost use Rattle.std.specs.Prelude.{◌≡◌, ◌≤◌};
 ghost use Rattle.grouping_chart.specs.Settings.{base_settings};
 ghost use Rattle.grouping_chart.specs.Outcome.{outcome};
@@ -48,8 +49,7 @@ fn outcome_holds(
     requires { EncodeCompared size h.objects body.now interval.now }
     ensures { Tells result (EncodeStored size h.width h.objects body.now
         (outcome answer
-        (memory streak.now streak_place.now pattern.now pattern_place.now hit.now interval.now work.now scratch.now)))
-        }
+        (memory streak.now streak_place.now pattern.now pattern_place.now hit.now interval.now work.now scratch.now))) }
 {
     let n = h.objects;
     let at = 2 + n;
@@ -91,8 +91,7 @@ fn lent_holds(
     requires { EncodeCompared size h.objects body.now interval.old }
     ensures { Tells result (EncodeStored size h.width h.objects body.now
         (encode_outcome base_settings (chart kind.now one.now one.now one.now)
-        (memory streak.old streak_place.old pattern.old pattern_place.old hit.old interval.old work.old scratch.old)))
-        }
+        (memory streak.old streak_place.old pattern.old pattern_place.old hit.old interval.old work.old scratch.old))) }
 {
     let got = call_encode::encode(
         kind,

@@ -1,5 +1,6 @@
 // The stored cases of all calls: what follows a head in a file, and whether a case holds, whichever call it is of.
 #![tactic(auto)]
+
 ghost use Rattle.std.specs.Prelude.{◌≡◌, ◌≤◌};
 ghost use Rattle.vectors.specs.Held.{Tells};
 ghost use Rattle.replay_cases.specs.Cases.{follows_in, ChartHolds, PartHolds};

@@ -3,15 +3,43 @@
 // what is counted is what the definitions say of these bytes. Nor can it say that there were bytes to read: `End`, and
 // `Broken`, which counts as a difference, are allowed at any time. How many cases were read, the program prints.
 #![tactic(auto)]
-ghost use Rattle.std.specs.Prelude.{◌≤◌};
+
+ghost use Rattle.std.specs.Prelude.{ℕ, ◌≤◌, length};
 ghost use Rattle.replay_read.specs.Read.{ChartRead, PartRead, CaseRead, FileRead};
 
 use replay_cases::count::{Replay, Replayed};
 use replay_cases::{Next, count};
+use std::fs::File;
+use std::io::Read;
 use vectors::case::Head;
 
+// Reads once, and returns how many bytes it put at the start of `buf`: none at the file's end, or where the read fails.
+fn read_some(file: &mut File, buf: &mut [u8]) -> usize
+    ensures { result ≤ length buf.new }
+{
+    match file.read(buf) {
+        Ok(n) => n,
+        Err(_) => 0,
+    }
+}
+
+// Reads until `buf` is full, the file ends or a read fails, and returns how many bytes it put at the start of `buf`.
+fn read_full(file: &mut File, buf: &mut [u8]) -> usize
+    ensures { result ≤ length buf.new }
+{
+    let mut done = 0;
+    while done < buf.len() {
+        let n = read_some(file, &mut buf[done..]);
+        if n == 0 {
+            break;
+        }
+        done += n;
+    }
+    done
+}
+
 // Reads the body of a case with a chart of its own, and replays it.
-fn chart_case(fd: i32, spare: usize, h: Head, body: &mut [u8]) -> Replayed
+fn chart_case(file: &mut File, spare: usize, h: Head, body: &mut [u8]) -> Replayed
     requires { spare ≤ 7 }
     ensures { ChartRead h spare body.new result }
 {
@@ -19,7 +47,7 @@ fn chart_case(fd: i32, spare: usize, h: Head, body: &mut [u8]) -> Replayed
     if body.len() < size {
         return Replayed::Broken;
     }
-    if io::read_full(fd, &mut body[..size]) != size {
+    if read_full(file, &mut body[..size]) != size {
         return Replayed::Broken;
     }
     let held = replay_cases::chart_holds(h, &body[..size], spare);
@@ -27,7 +55,14 @@ fn chart_case(fd: i32, spare: usize, h: Head, body: &mut [u8]) -> Replayed
 }
 
 // Reads a case on the chart whose body is at hand, and replays it.
-fn part_case(fd: i32, spare: usize, chart: Head, body: &[u8], h: Head, part: &mut [u8]) -> Replayed
+fn part_case(
+    file: &mut File,
+    spare: usize,
+    chart: Head,
+    body: &[u8],
+    h: Head,
+    part: &mut [u8],
+) -> Replayed
     requires { spare ≤ 7 }
     ensures { PartRead chart body.now h spare part.new result }
 {
@@ -39,7 +74,7 @@ fn part_case(fd: i32, spare: usize, chart: Head, body: &[u8], h: Head, part: &mu
     if part.len() < size {
         return Replayed::Broken;
     }
-    if io::read_full(fd, &mut part[..size]) != size {
+    if read_full(file, &mut part[..size]) != size {
         return Replayed::Broken;
     }
     let held = replay_cases::part_holds(chart, &body[..whole], h, &part[..size], spare);
@@ -48,7 +83,7 @@ fn part_case(fd: i32, spare: usize, chart: Head, body: &[u8], h: Head, part: &mu
 
 // Reads and replays the next case of the file of this call's charts. `body` has the last chart's body.
 fn next_case(
-    fd: i32,
+    file: &mut File,
     call: u8,
     r: Replay,
     head: &mut [u8; 8],
@@ -57,7 +92,7 @@ fn next_case(
 ) -> Replayed
     ensures { CaseRead call r head.new body.old body.new part.new result }
 {
-    let got = io::read_full(fd, head);
+    let got = read_full(file, head);
     if got == 0 {
         return Replayed::End;
     }
@@ -68,14 +103,14 @@ fn next_case(
     let spare = count::spare(r);
     let chart = r.chart;
     match replay_cases::follows(call, h) {
-        Next::Body => chart_case(fd, spare, h, body),
-        Next::Part => part_case(fd, spare, chart, body, h, part),
+        Next::Body => chart_case(file, spare, h, body),
+        Next::Part => part_case(file, spare, chart, body, h, part),
         Next::Nothing => Replayed::Broken,
     }
 }
 
 // Replays the cases of the file of this call's charts, up to its end.
-pub fn replay_all(fd: i32, call: u8) -> Replay
+pub fn replay_all(file: &mut File, call: u8) -> Replay
     ensures { FileRead call result }
 {
     let mut head = [0u8; 8];
@@ -83,8 +118,15 @@ pub fn replay_all(fd: i32, call: u8) -> Replay
     let mut part = [0u8; 58];
     let mut r = count::start();
     while r.left > 0 {
-        let c = next_case(fd, call, r, &mut head, &mut body, &mut part);
+        let c = next_case(file, call, r, &mut head, &mut body, &mut part);
         r = count::after(r, c);
     }
     r
+}
+
+// The replay of a file that can't be opened: it has no cases, whichever call it is of.
+pub fn no_cases() -> Replay
+    ensures { (call : ℕ) → FileRead call result }
+{
+    count::after(count::start(), Replayed::End)
 }

@@ -1,5 +1,6 @@
 // Stored cases of the original: reading them out of bytes, and holding lent slices to them.
 #![tactic(auto)]
+
 pub mod case;
 pub mod form;
 pub mod held;

@@ -7,8 +7,8 @@ use Rattle.cases_build.proofs.build_formed.Tie as tie
 returns : tie.Need-returns
 returns c = form-told c.before.before.before.formed.ensures c.before.before.built.ensures c.both.ensures
 
-pub build-formed-spec : {M : Type 1} → statement M
-build-formed-spec =
+pub build_formed_spec : {M : Type 1} → statement M
+build_formed_spec =
     tie.close
     (tie.spec
     (λ c. omega arith)

@@ -8,7 +8,7 @@ use Rattle.cases_build.proofs.BuildLaws.{made_told}
 use Rattle.cases_build.proofs.call_holds.Statement.{statement}
 use Rattle.cases_build.proofs.call_holds.Tie as tie
 
-lent-holds-requires : tie.Need-lent-holds-requires
+lent-holds-requires : tie.Need-lent_holds-requires
 lent-holds-requires c κs =
     let entry = c.before.before.before.before.before.before.before.before.before.before.before in
     let most = front_fits (entry.args.n + entry.args.spare) most_places byte_sentinel in
@@ -19,10 +19,10 @@ returns c =
     let called = c.before.before.before.before in
     let read = called.before.before.before.before.before.before.before.before in
     let rated = read.before.before in
-    made_told rated.before.before.requires.few _ _ read.read.ensures rated.stored-rate.ensures called.lent-holds.ensures
+    made_told rated.before.before.requires.few _ _ read.read.ensures rated.stored_rate-rate.ensures called.lent_holds.ensures
 
-pub call-holds-spec : {M : Type 1} → statement M
-call-holds-spec =
+pub call_holds_spec : {M : Type 1} → statement M
+call_holds_spec =
     tie.close
     (tie.spec
     (λ c. omega arith)

@@ -6,26 +6,26 @@ use Rattle.cases_build.proofs.BuildLaws.{form_room}
 use Rattle.cases_build.proofs.holds.Statement.{statement}
 use Rattle.cases_build.proofs.holds.Tie as tie
 
-returns : tie.Need-returns
+returns : tie.Need-returns-then-n-gt-MOST_OBJECTS
 unfolding BuildHolds
-returns c = too_many c.if1.true
+returns c = too_many c.if-n-gt-MOST_OBJECTS.true
 
-call-holds-requires : tie.Need-call-holds-requires
+call-holds-requires : tie.Need-call_holds-requires
 call-holds-requires c κs =
     let sized = c.before.before in
-    form_room sized.before.if1.false sized.before.before.before.requires (c.before.build-formed.ensures.0 c.if2.true)
+    form_room sized.before.if-n-gt-MOST_OBJECTS.false sized.before.before.before.requires (c.before.build_formed.ensures.0 c.if-build_formed.true)
 
-returns-2 : tie.Need-returns-2
+returns-2 : tie.Need-returns-then-build_formed
 unfolding BuildHolds
 returns-2 c =
     let sized = c.before.before.before in
-    rw (← sized.raw-size.ensures.0)
-    (well_formed sized.before.if1.false c.before.before.build-formed.ensures c.before.if2.true c.call-holds.ensures)
+    rw (← sized.raw_size-m.ensures.0)
+    (well_formed sized.before.if-n-gt-MOST_OBJECTS.false c.before.before.build_formed.ensures c.before.if-build_formed.true c.call_holds.ensures)
 
-returns-3 : tie.Need-returns-3
+returns-3 : tie.Need-returns
 unfolding BuildHolds
-returns-3 c = rw (← c.before.before.raw-size.ensures.0) (ill_formed c.before.build-formed.ensures c.if2.false)
+returns-3 c = rw (← c.before.before.raw_size-m.ensures.0) (ill_formed c.before.build_formed.ensures c.if-build_formed.false)
 
-pub holds-spec : {M : Type 1} → statement M
-holds-spec =
+pub holds_spec : {M : Type 1} → statement M
+holds_spec =
     tie.close (tie.spec returns (λ c κs. omega arith) (λ c κs. omega arith) call-holds-requires returns-2 returns-3)

@@ -6,7 +6,7 @@ use Rattle.cases_build.proofs.raw_size.Tie as tie
 
 returns : tie.Need-returns
 unfolding raw_size
-returns c = (c.pair-at.ensures, omega arith)
+returns c = (c.pair_at.ensures, omega arith)
 
-pub raw-size-spec : {M : Type 1} → statement M
-raw-size-spec = tie.close (tie.spec (λ c κs. omega arith) (λ c. omega arith) returns)
+pub raw_size_spec : {M : Type 1} → statement M
+raw_size_spec = tie.close (tie.spec (λ c κs. omega arith) (λ c. omega arith) returns)

@@ -8,5 +8,5 @@ returns : tie.Need-returns
 unfolding stored_rate
 returns c = rw (← c.before.word_at.ensures) c.float_of.ensures
 
-pub stored-rate-spec : {M : Type 1} → statement M
-stored-rate-spec = tie.close (tie.spec (λ c κs. omega arith) (λ c κs. omega arith) returns)
+pub stored_rate_spec : {M : Type 1} → statement M
+stored_rate_spec = tie.close (tie.spec (λ c κs. omega arith) (λ c κs. omega arith) returns)

@@ -5,10 +5,10 @@ use Rattle.cases_colour.proofs.colour_formed.Statement.{statement}
 use Rattle.cases_colour.proofs.colour_formed.Tie as tie
 
 returns : tie.Need-returns
-returns c = form-told _ _ _ _ c.before.before.pair-at.ensures c.formed.ensures
+returns c = form-told _ _ _ _ c.before.before.pair_at.ensures c.formed.ensures
 
-pub colour-formed-spec : {M : Type 1} → statement M
-colour-formed-spec =
+pub colour_formed_spec : {M : Type 1} → statement M
+colour_formed_spec =
     tie.close
     (tie.spec
     (λ c κs. omega arith)

@@ -6,28 +6,28 @@ use Rattle.cases_colour.proofs.ColourLaws.{form_room}
 use Rattle.cases_colour.proofs.holds.Statement.{statement}
 use Rattle.cases_colour.proofs.holds.Tie as tie
 
-returns : tie.Need-returns
+returns : tie.Need-returns-then-n-gt-MOST_OBJECTS
 unfolding ColourHolds
-returns c = too_many c.if1.true
+returns c = too_many c.if-n-gt-MOST_OBJECTS.true
 
-call-holds-requires : tie.Need-call-holds-requires
+call-holds-requires : tie.Need-call_holds-requires
 call-holds-requires c κs =
-    form_room _ _ _ _ c.before.before.before.if1.false c.before.before.before.before.before.requires
-    c.before.before.column-size.ensures.1 (c.before.colour-formed.ensures.0 c.if2.true)
+    form_room _ _ _ _ c.before.before.before.if-n-gt-MOST_OBJECTS.false c.before.before.before.before.before.requires
+    c.before.before.column_size-size.ensures.1 (c.before.colour_formed.ensures.0 c.if-colour_formed.true)
 
-returns-2 : tie.Need-returns-2
+returns-2 : tie.Need-returns-then-colour_formed
 unfolding ColourHolds
 returns-2 c =
     let sized = c.before.before.before in
-    rw (← sized.column-size.ensures.0)
-    (well_formed sized.before.if1.false c.before.before.colour-formed.ensures c.before.if2.true c.call-holds.ensures)
+    rw (← sized.column_size-size.ensures.0)
+    (well_formed sized.before.if-n-gt-MOST_OBJECTS.false c.before.before.colour_formed.ensures c.before.if-colour_formed.true c.call_holds.ensures)
 
-returns-3 : tie.Need-returns-3
+returns-3 : tie.Need-returns
 unfolding ColourHolds
-returns-3 c = rw (← c.before.before.column-size.ensures.0) (ill_formed c.before.colour-formed.ensures c.if2.false)
+returns-3 c = rw (← c.before.before.column_size-size.ensures.0) (ill_formed c.before.colour_formed.ensures c.if-colour_formed.false)
 
-pub holds-spec : {M : Type 1} → statement M
-holds-spec =
+pub holds_spec : {M : Type 1} → statement M
+holds_spec =
     tie.close
     (tie.spec
     returns

@@ -7,10 +7,10 @@ use Rattle.cases_colour.proofs.read_stretch.Tie as tie
 returns : tie.Need-returns
 unfolding stretch_of
 returns c =
-    rw (c.before.before.before.pair-at.ensures, c.before.before.pair-at2.ensures, c.before.word_at.ensures, c.quad_at.ensures.0)
+    rw (c.before.before.before.pair_at.ensures, c.before.before.pair_at-2.ensures, c.before.word_at.ensures, c.quad_at.ensures.0)
 
-pub read-stretch-spec : {M : Type 1} → statement M
-read-stretch-spec =
+pub read_stretch_spec : {M : Type 1} → statement M
+read_stretch_spec =
     tie.close
     (tie.spec
     (λ c κs. omega arith)

@@ -7,35 +7,35 @@ use Rattle.cases_colour.proofs.ColourLaws.{form_room}
 use Rattle.cases_colour.proofs.stretch_holds.Statement.{statement}
 use Rattle.cases_colour.proofs.stretch_holds.Tie as tie
 
-returns : tie.Need-returns
+returns : tie.Need-returns-then-n-gt-MOST_OBJECTS
 unfolding StretchHolds
-returns c = too_many c.if1.true
+returns c = too_many c.if-n-gt-MOST_OBJECTS.true
 
-call-holds-requires : tie.Need-call-holds-requires
+call-holds-requires : tie.Need-call_holds-requires
 call-holds-requires c κs =
     let whole = c.before.before.before.before in
-    let f = tells_both _ _ c.before.before.both.ensures whole.colour-formed.ensures c.before.before.before.part-formed.ensures in
-    form_room _ _ _ _ whole.before.before.if1.false whole.before.before.before.before.before.requires
-    whole.before.column-size.ensures.1 (f.0 c.before.if2.true).0
+    let f = tells_both _ _ c.before.before.both.ensures whole.colour_formed-whole.ensures c.before.before.before.part_formed.ensures in
+    form_room _ _ _ _ whole.before.before.if-n-gt-MOST_OBJECTS.false whole.before.before.before.before.before.requires
+    whole.before.column_size-size.ensures.1 (f.0 c.before.if-both.true).0
 
-returns-2 : tie.Need-returns-2
+returns-2 : tie.Need-returns-then-both
 unfolding StretchHolds
 returns-2 c =
     let whole = c.before.before.before.before.before in
     let parts = c.before.before.before in
-    let f = tells_both _ _ parts.both.ensures whole.colour-formed.ensures parts.before.part-formed.ensures in
-    rw (← whole.before.column-size.ensures.0, ← c.before.read-stretch.ensures)
-    (well_formed whole.before.before.if1.false f c.before.before.if2.true c.call-holds.ensures)
+    let f = tells_both _ _ parts.both.ensures whole.colour_formed-whole.ensures parts.before.part_formed.ensures in
+    rw (← whole.before.column_size-size.ensures.0, ← c.before.read_stretch.ensures)
+    (well_formed whole.before.before.if-n-gt-MOST_OBJECTS.false f c.before.before.if-both.true c.call_holds.ensures)
 
-returns-3 : tie.Need-returns-3
+returns-3 : tie.Need-returns
 unfolding StretchHolds
 returns-3 c =
     let whole = c.before.before.before in
-    let f = tells_both _ _ c.before.both.ensures whole.colour-formed.ensures c.before.before.part-formed.ensures in
-    rw (← whole.before.column-size.ensures.0) (ill_formed f c.if2.false)
+    let f = tells_both _ _ c.before.both.ensures whole.colour_formed-whole.ensures c.before.before.part_formed.ensures in
+    rw (← whole.before.column_size-size.ensures.0) (ill_formed f c.if-both.false)
 
-pub stretch-holds-spec : {M : Type 1} → statement M
-stretch-holds-spec =
+pub stretch_holds_spec : {M : Type 1} → statement M
+stretch_holds_spec =
     tie.close
     (tie.spec
     returns

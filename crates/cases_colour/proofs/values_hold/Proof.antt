@@ -5,9 +5,9 @@ use Rattle.cases_colour.proofs.values_hold.Statement.{statement}
 use Rattle.cases_colour.proofs.values_hold.Tie as tie
 
 returns : tie.Need-returns
-returns c = values-told c.both.ensures c.before.before.floats-held.ensures c.before.work-cleared.ensures
+returns c = values-told c.both.ensures c.before.before.floats_held-values.ensures c.before.work_cleared-cleared.ensures
 
-pub values-hold-spec : {M : Type 1} → statement M
-values-hold-spec =
+pub values_hold_spec : {M : Type 1} → statement M
+values_hold_spec =
     tie.close
     (tie.spec (λ c. omega arith) (λ c. omega arith) (λ c κs. omega arith) (λ c κs. omega arith) (λ c κs. omega arith) returns)

@@ -5,31 +5,31 @@ use Rattle.cases_encode.specs.Encode.{EncodeHolds}
 use Rattle.cases_encode.proofs.holds.Statement.{statement}
 use Rattle.cases_encode.proofs.holds.Tie as tie
 
-returns : tie.Need-returns
+returns : tie.Need-returns-then-n-gt-MOST_OBJECTS
 unfolding EncodeHolds
-returns c = too_many c.if1.true
+returns c = too_many c.if-n-gt-MOST_OBJECTS.true
 
-call-holds-requires : tie.Need-call-holds-requires
+call-holds-requires : tie.Need-call_holds-requires
 call-holds-requires c κs =
-    let f = c.before.formed.ensures.0 c.if2.true in
+    let f = c.before.formed.ensures.0 c.if-formed.true in
     record {
-      few = record { objects = c.before.before.before.if1.false; places = c.before.before.before.before.before.requires };
-      stored = record { small = c.before.before.column-size.ensures.1; whole = f.whole };
+      few = record { objects = c.before.before.before.if-n-gt-MOST_OBJECTS.false; places = c.before.before.before.before.before.requires };
+      stored = record { small = c.before.before.column_size-size.ensures.1; whole = f.whole };
     }
 
-returns-2 : tie.Need-returns-2
+returns-2 : tie.Need-returns-then-formed
 unfolding EncodeHolds
 returns-2 c =
     let sized = c.before.before.before in
-    rw (← sized.column-size.ensures.0)
-    (well_formed sized.before.if1.false c.before.before.formed.ensures c.before.if2.true c.call-holds.ensures)
+    rw (← sized.column_size-size.ensures.0)
+    (well_formed sized.before.if-n-gt-MOST_OBJECTS.false c.before.before.formed.ensures c.before.if-formed.true c.call_holds.ensures)
 
-returns-3 : tie.Need-returns-3
+returns-3 : tie.Need-returns
 unfolding EncodeHolds
-returns-3 c = rw (← c.before.before.column-size.ensures.0) (ill_formed c.before.formed.ensures c.if2.false)
+returns-3 c = rw (← c.before.before.column_size-size.ensures.0) (ill_formed c.before.formed.ensures c.if-formed.false)
 
-pub holds-spec : {M : Type 1} → statement M
-holds-spec =
+pub holds_spec : {M : Type 1} → statement M
+holds_spec =
     tie.close
     (tie.spec
     returns

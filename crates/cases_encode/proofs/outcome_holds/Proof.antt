@@ -7,13 +7,13 @@ use Rattle.cases_encode.proofs.outcome_holds.Tie as tie
 returns : tie.Need-returns
 returns c =
     let compared = c.before.before.before.before.before in
-    outcome-told compared.before.before.before.before.before.count-holds.ensures compared.before.before.before.before.columns-held.ensures
-    compared.before.before.before.columns-held2.ensures compared.before.before.column-held.ensures compared.before.bytes-held.ensures
-    compared.work-cleared.ensures c.before.before.before.before.both.ensures c.before.before.before.both2.ensures
-    c.before.before.both3.ensures c.before.both4.ensures c.both5.ensures
+    outcome-told compared.before.before.before.before.before.count_holds-count.ensures compared.before.before.before.before.columns_held-streaks.ensures
+    compared.before.before.before.columns_held-patterns.ensures compared.before.before.column_held-hits.ensures compared.before.bytes_held-intervals.ensures
+    compared.work_cleared-cleared.ensures c.before.before.before.before.both.ensures c.before.before.before.both-first.ensures
+    c.before.before.both-2.ensures c.before.both-rest.ensures c.both-3.ensures
 
-pub outcome-holds-spec : {M : Type 1} → statement M
-outcome-holds-spec =
+pub outcome_holds_spec : {M : Type 1} → statement M
+outcome_holds_spec =
     tie.close
     (tie.spec
     (λ c. omega arith)

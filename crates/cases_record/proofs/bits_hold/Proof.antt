@@ -7,5 +7,5 @@ use Rattle.cases_record.proofs.bits_hold.Tie as tie
 returns : tie.Need-returns
 returns c = tells_eqb_as c.before.bits.ensures c.word_at.ensures
 
-pub bits-hold-spec : {M : Type 1} → statement M
-bits-hold-spec = tie.close (tie.spec (λ c κs. omega arith) (λ c κs. omega arith) returns)
+pub bits_hold_spec : {M : Type 1} → statement M
+bits_hold_spec = tie.close (tie.spec (λ c κs. omega arith) (λ c κs. omega arith) returns)

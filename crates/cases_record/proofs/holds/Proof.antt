@@ -7,33 +7,33 @@ use Rattle.cases_record.specs.Record.{RecordHolds}
 use Rattle.cases_record.proofs.holds.Statement.{statement}
 use Rattle.cases_record.proofs.holds.Tie as tie
 
-returns : tie.Need-returns
+returns : tie.Need-returns-then-n-gt-MOST_OBJECTS
 unfolding RecordHolds
-returns c = too_many c.if1.true
+returns c = too_many c.if-n-gt-MOST_OBJECTS.true
 
-call-holds-requires : tie.Need-call-holds-requires
+call-holds-requires : tie.Need-call_holds-requires
 call-holds-requires c κs =
     let formed = c.before.before.before in
-    let f = (tells_both _ _ c.before.both.ensures formed.rhythm-formed.ensures c.before.before.part-formed.ensures).0 c.if2.true in
-    form_room _ _ _ formed.before.if1.false formed.before.before.before.before.requires f.0
+    let f = (tells_both _ _ c.before.both.ensures formed.rhythm_formed-whole.ensures c.before.before.part_formed.ensures).0 c.if-both.true in
+    form_room _ _ _ formed.before.if-n-gt-MOST_OBJECTS.false formed.before.before.before.before.requires f.0
 
-returns-2 : tie.Need-returns-2
+returns-2 : tie.Need-returns-then-both
 unfolding RecordHolds
 returns-2 c =
     let formed = c.before.before.before.before in
-    well_formed formed.before.if1.false
-    (tells_both _ _ c.before.before.both.ensures formed.rhythm-formed.ensures c.before.before.before.part-formed.ensures)
-    c.before.if2.true c.call-holds.ensures
+    well_formed formed.before.if-n-gt-MOST_OBJECTS.false
+    (tells_both _ _ c.before.before.both.ensures formed.rhythm_formed-whole.ensures c.before.before.before.part_formed.ensures)
+    c.before.if-both.true c.call_holds.ensures
 
-returns-3 : tie.Need-returns-3
+returns-3 : tie.Need-returns
 unfolding RecordHolds
 returns-3 c =
     ill_formed
-    (tells_both _ _ c.before.both.ensures c.before.before.before.rhythm-formed.ensures c.before.before.part-formed.ensures)
-    c.if2.false
+    (tells_both _ _ c.before.both.ensures c.before.before.before.rhythm_formed-whole.ensures c.before.before.part_formed.ensures)
+    c.if-both.false
 
-pub holds-spec : {M : Type 1} → statement M
-holds-spec =
+pub holds_spec : {M : Type 1} → statement M
+holds_spec =
     tie.close
     (tie.spec
     returns

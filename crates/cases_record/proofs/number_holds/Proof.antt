@@ -6,7 +6,7 @@ use Rattle.cases_record.proofs.number_holds.Statement.{statement}
 use Rattle.cases_record.proofs.number_holds.Tie as tie
 
 returns : tie.Need-returns
-returns c = tells_eqb_as refl c.pair-at.ensures
+returns c = tells_eqb_as refl c.pair_at.ensures
 
-pub number-holds-spec : {M : Type 1} → statement M
-number-holds-spec = tie.close (tie.spec (λ c κs. omega arith) (λ c. omega arith) returns)
+pub number_holds_spec : {M : Type 1} → statement M
+number_holds_spec = tie.close (tie.spec (λ c κs. omega arith) (λ c. omega arith) returns)

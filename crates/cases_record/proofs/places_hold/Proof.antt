@@ -7,11 +7,11 @@ use Rattle.cases_record.proofs.places_hold.Tie as tie
 returns : tie.Need-returns
 returns c =
     let first = c.before.before.before.before in
-    places-told first.both.ensures c.before.both2.ensures c.both3.ensures first.before.before.number-holds.ensures
-    first.before.number-holds2.ensures c.before.before.before.number-holds3.ensures c.before.before.own-holds.ensures
+    places-told first.both-notes.ensures c.before.both.ensures c.both-2.ensures first.before.before.number_holds.ensures
+    first.before.number_holds-2.ensures c.before.before.before.number_holds-3.ensures c.before.before.own_holds.ensures
 
-pub places-hold-spec : {M : Type 1} → statement M
-places-hold-spec =
+pub places_hold_spec : {M : Type 1} → statement M
+places_hold_spec =
     tie.close
     (tie.spec
     (λ c κs. omega arith)

@@ -6,11 +6,11 @@ use Rattle.cases_rhythm.proofs.outcome_holds.Tie as tie
 
 returns : tie.Need-returns
 returns c =
-    outcome-told c.before.before.before.before.counts-hold.ensures c.before.before.before.columns-held.ensures
-    c.before.before.work-cleared.ensures c.before.both.ensures c.both2.ensures
+    outcome-told c.before.before.before.before.counts_hold-counts.ensures c.before.before.before.columns_held-numbers.ensures
+    c.before.before.work_cleared-cleared.ensures c.before.both.ensures c.both-2.ensures
 
-pub outcome-holds-spec : {M : Type 1} → statement M
-outcome-holds-spec =
+pub outcome_holds_spec : {M : Type 1} → statement M
+outcome_holds_spec =
     tie.close
     (tie.spec
     (λ c κs. tt)

@@ -8,5 +8,5 @@ returns : tie.Need-returns
 unfolding RhythmForm
 returns c = c.formed.ensures
 
-pub rhythm-formed-spec : {M : Type 1} → statement M
-rhythm-formed-spec = tie.close (tie.spec (λ c. omega arith) (λ c. omega arith) (λ c κs. omega arith) returns)
+pub rhythm_formed_spec : {M : Type 1} → statement M
+rhythm_formed_spec = tie.close (tie.spec (λ c. omega arith) (λ c. omega arith) (λ c κs. omega arith) returns)

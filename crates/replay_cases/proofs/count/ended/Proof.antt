@@ -8,5 +8,5 @@ returns : tie.Need-returns
 unfolding ended_with
 returns c = refl
 
-pub ended-spec : {M : Type 1} → statement M
-ended-spec = tie.close (tie.spec returns)
+pub ended_spec : {M : Type 1} → statement M
+ended_spec = tie.close (tie.spec returns)

@@ -6,7 +6,7 @@ use Rattle.replay_cases.proofs.count.spare.Tie as tie
 
 returns : tie.Need-returns
 unfolding spare_of
-returns c = (rw c.wrapping-add-u64.ensures, omega arith)
+returns c = (rw c.wrapping_add_u64.ensures, omega arith)
 
-pub spare-spec : {M : Type 1} → statement M
-spare-spec = tie.close (tie.spec (λ c κs. omega arith) returns)
+pub spare_spec : {M : Type 1} → statement M
+spare_spec = tie.close (tie.spec (λ c κs. omega arith) returns)

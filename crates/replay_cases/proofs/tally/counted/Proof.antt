@@ -4,15 +4,15 @@ use Rattle.replay_cases.specs.Tally.{one_more}
 use Rattle.replay_cases.proofs.tally.counted.Statement.{statement}
 use Rattle.replay_cases.proofs.tally.counted.Tie as tie
 
-returns : tie.Need-returns
+returns : tie.Need-returns-then-held
 unfolding one_more
-returns c = rw (c.if1.true, c.before.wrapping-add-u64.ensures)
+returns c = rw (c.if-held.true, c.before.wrapping_add_u64-cases.ensures)
 
-returns-2 : tie.Need-returns-2
+returns-2 : tie.Need-returns
 unfolding one_more
 returns-2 c =
     let test = c.before.before in
-    rw (test.if1.false, test.before.wrapping-add-u64.ensures, c.before.wrapping-add-u642.ensures, c.first-differing.ensures)
+    rw (test.if-held.false, test.before.wrapping_add_u64-cases.ensures, c.before.wrapping_add_u64.ensures, c.first_differing.ensures)
 
 pub counted_spec : {M : Type 1} → statement M
 counted_spec =

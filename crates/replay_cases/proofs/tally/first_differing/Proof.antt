@@ -4,13 +4,13 @@ use Rattle.replay_cases.specs.Tally.{first_differing}
 use Rattle.replay_cases.proofs.tally.first_differing.Statement.{statement}
 use Rattle.replay_cases.proofs.tally.first_differing.Tie as tie
 
-returns : tie.Need-returns
+returns : tie.Need-returns-then-t-eq0
 unfolding first_differing
-returns c = rw (eq-eqb _ _ c.if1.true)
+returns c = rw (eq-eqb _ _ c.if-t-eq0.true)
 
-returns-2 : tie.Need-returns-2
+returns-2 : tie.Need-returns-else-t-eq0
 unfolding first_differing
-returns-2 c = rw (ne_eqb _ _ c.if1.false)
+returns-2 c = rw (ne_eqb _ _ c.if-t-eq0.false)
 
-pub first-differing-spec : {M : Type 1} → statement M
-first-differing-spec = tie.close (tie.spec returns returns-2)
+pub first_differing_spec : {M : Type 1} → statement M
+first_differing_spec = tie.close (tie.spec returns returns-2)

@@ -6,13 +6,13 @@ use Rattle.vectors.specs.Case.{column_size}
 use Rattle.vectors.proofs.case.column_size.Statement.{statement}
 use Rattle.vectors.proofs.case.column_size.Tie as tie
 
-returns : tie.Need-returns
+returns : tie.Need-returns-then-width-eq1
 unfolding column_size
-returns c = (rw (eq-eqb _ _ c.if1.true), omega arith)
+returns c = (rw (eq-eqb _ _ c.if-width-eq1.true), omega arith)
 
-returns-2 : tie.Need-returns-2
+returns-2 : tie.Need-returns-else-width-eq1
 unfolding column_size
-returns-2 c = (rw (ne_eqb _ _ c.if1.false), omega arith)
+returns-2 c = (rw (ne_eqb _ _ c.if-width-eq1.false), omega arith)
 
-pub column-size-spec : {M : Type 1} → statement M
-column-size-spec = tie.close (tie.spec (λ c. search rules) returns returns-2)
+pub column_size_spec : {M : Type 1} → statement M
+column_size_spec = tie.close (tie.spec (λ c. search rules) returns returns-2)

@@ -5,16 +5,16 @@ use Rattle.vectors.specs.Case.{number_at}
 use Rattle.vectors.proofs.case.number_at.Statement.{statement}
 use Rattle.vectors.proofs.case.number_at.Tie as tie
 
-returns : tie.Need-returns
+returns : tie.Need-returns-then-width-eq1
 unfolding number_at
-returns c = rw (eq-eqb _ _ c.before.if1.true) c.byte_at.ensures
+returns c = rw (eq-eqb _ _ c.before.if-width-eq1.true) c.byte_at.ensures
 
-returns-2 : tie.Need-returns-2
+returns-2 : tie.Need-returns
 unfolding number_at
-returns-2 c = rw (ne_eqb _ _ c.before.if1.false) c.pair-at.ensures
+returns-2 c = rw (ne_eqb _ _ c.before.if-width-eq1.false) c.pair_at.ensures
 
-pub number-at-spec : {M : Type 1} → statement M
-number-at-spec =
+pub number_at_spec : {M : Type 1} → statement M
+number_at_spec =
     tie.close
     (tie.spec
     (λ c. search rules)

@@ -6,8 +6,8 @@ use Rattle.vectors.proofs.case.pair_at.Tie as tie
 
 returns : tie.Need-returns
 unfolding pair_at
-returns c = rw (← c.before.before.byte_at.ensures, ← c.before.byte-at2.ensures) c.number.ensures
+returns c = rw (← c.before.before.byte_at.ensures, ← c.before.byte_at-2.ensures) c.number.ensures
 
-pub pair-at-spec : {M : Type 1} → statement M
-pair-at-spec =
+pub pair_at_spec : {M : Type 1} → statement M
+pair_at_spec =
     tie.close (tie.spec (λ c κs. omega arith) (λ c. omega arith) (λ c κs. omega arith) (λ c κs. omega arith) returns)

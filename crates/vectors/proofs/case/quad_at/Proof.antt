@@ -6,10 +6,10 @@ use Rattle.vectors.proofs.case.quad_at.Tie as tie
 
 returns : tie.Need-returns
 unfolding quad_at
-returns c = (rw (c.before.pair-at.ensures, c.pair-at2.ensures), omega arith)
+returns c = (rw (c.before.pair_at.ensures, c.pair_at-2.ensures), omega arith)
 
-pub quad-at-spec : {M : Type 1} → statement M
-quad-at-spec =
+pub quad_at_spec : {M : Type 1} → statement M
+quad_at_spec =
     tie.close
     (tie.spec
     (λ c κs. omega arith)

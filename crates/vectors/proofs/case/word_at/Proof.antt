@@ -6,10 +6,10 @@ use Rattle.vectors.proofs.case.word_at.Tie as tie
 
 returns : tie.Need-returns
 unfolding word_at
-returns c = rw (c.before.quad_at.ensures.0, c.quad-at2.ensures.0)
+returns c = rw (c.before.quad_at.ensures.0, c.quad_at-2.ensures.0)
 
-pub word-at-spec : {M : Type 1} → statement M
-word-at-spec =
+pub word_at_spec : {M : Type 1} → statement M
+word_at_spec =
     tie.close
     (tie.spec
     (λ c κs. omega arith)

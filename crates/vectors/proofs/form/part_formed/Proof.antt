@@ -9,5 +9,5 @@ returns c =
     tells_as (λ p. record { form = p.0; same = p.1 }) (λ p. (p.form, p.same))
     (tells_both _ _ c.both.ensures c.before.before.formed.ensures (tells_eqb _ _))
 
-pub part-formed-spec : {M : Type 1} → statement M
-part-formed-spec = tie.close (tie.spec (λ c κs. omega arith) (λ c κs. omega arith) returns)
+pub part_formed_spec : {M : Type 1} → statement M
+part_formed_spec = tie.close (tie.spec (λ c κs. omega arith) (λ c κs. omega arith) returns)

@@ -5,15 +5,15 @@ use Rattle.vectors.proofs.HeldLaws.{expected_front, expected_past}
 use Rattle.vectors.proofs.held.bits_expected.Statement.{statement}
 use Rattle.vectors.proofs.held.bits_expected.Tie as tie
 
-returns : tie.Need-returns
+returns : tie.Need-returns-then-i-n
 unfolding column_word
-returns c = expected_front _ _ _ _ _ c.before.if1.true c.word_at.ensures
+returns c = expected_front _ _ _ _ _ c.before.if-i-n.true c.word_at.ensures
 
-returns-2 : tie.Need-returns-2
-returns-2 c = expected_past _ _ _ _ _ c.before.if1.false c.bits.ensures
+returns-2 : tie.Need-returns-else-i-n
+returns-2 c = expected_past _ _ _ _ _ c.before.if-i-n.false c.bits.ensures
 
-pub bits-expected-spec : {M : Type 1} → statement M
-bits-expected-spec =
+pub bits_expected_spec : {M : Type 1} → statement M
+bits_expected_spec =
     tie.close
     (tie.spec
     (λ c. omega arith)

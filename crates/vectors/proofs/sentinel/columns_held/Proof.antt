@@ -6,8 +6,8 @@ use Rattle.vectors.proofs.sentinel.columns_held.Statement.{statement}
 use Rattle.vectors.proofs.sentinel.columns_held.Tie as tie
 
 returns : tie.Need-returns
-returns c = columns-told (tells_both _ _ c.both.ensures c.before.before.column-held.ensures c.before.column-held2.ensures)
+returns c = columns-told (tells_both _ _ c.both.ensures c.before.before.column_held-first.ensures c.before.column_held-second.ensures)
 
-pub columns-held-spec : {M : Type 1} → statement M
-columns-held-spec =
+pub columns_held_spec : {M : Type 1} → statement M
+columns_held_spec =
     tie.close (tie.spec (λ c κs. omega arith) (λ c. omega arith) (λ c κs. omega arith) (λ c κs. omega arith) returns)

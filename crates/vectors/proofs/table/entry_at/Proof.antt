@@ -7,9 +7,9 @@ use Rattle.vectors.proofs.table.entry_at.Tie as tie
 
 returns : tie.Need-returns
 unfolding entry_at column_word
-returns c = rw (← c.before.before.entry-number.ensures.0, ← c.before.word_at.ensures) c.float_of.ensures
+returns c = rw (← c.before.before.entry_number.ensures.0, ← c.before.word_at.ensures) c.float_of.ensures
 
-pub entry-at-spec : {M : Type 1} → statement M
-entry-at-spec =
+pub entry_at_spec : {M : Type 1} → statement M
+entry_at_spec =
     tie.close
     (tie.spec (λ c κs. omega arith) (λ c. omega arith) (λ c. omega arith) (λ c κs. omega arith) (λ c κs. omega arith) returns)

@@ -9,26 +9,26 @@ use Rattle.vectors.specs.Table.{entry_at, entries}
 use Rattle.vectors.proofs.table.read.Statement.{statement}
 use Rattle.vectors.proofs.table.read.Tie as tie
 
-abbrev invariant-loop : tie.invariant-loop
+abbrev invariant-loop : tie.invariant-loop-i
 invariant-loop s table column width n out₀ i₀ out i = Fill (tabulate (entry_at s table column width) n) n 0 out₀ out i
 
-abbrev decreases-loop : tie.decreases-loop
+abbrev decreases-loop : tie.decreases-loop-i
 decreases-loop s table column width n out₀ i₀ out i = n - i
 
-loop-holds : tie.Need-loop-init invariant-loop decreases-loop
+loop-holds : tie.Need-loop-i-init invariant-loop decreases-loop
 loop-holds c = fill_start_front _ _ _ (length-tabulate _ _) (omega arith)
 
-loop-again : tie.Need-loop-preserved invariant-loop decreases-loop
+loop-again : tie.Need-loop-i-preserved invariant-loop decreases-loop
 loop-again c =
-    let h = c.before.loop-test.true in
-    fill_turn_front nan c.before.before.loop.invariant h (c.entry_at.ensures ∙ sym (get_or-tabulate _ _ _ nan h))
+    let h = c.before.loop-i-test.true in
+    fill_turn_front nan c.before.before.loop-i.invariant h (c.entry_at.ensures ∙ sym (get_or-tabulate _ _ _ nan h))
 
-same_length : tie.Need-same-length invariant-loop decreases-loop
-same_length c = c.before.loop.invariant.long
+same_length : tie.Need-shape_of-out invariant-loop decreases-loop
+same_length c = c.before.loop-i.invariant.long
 
 returns : tie.Need-returns invariant-loop decreases-loop
 unfolding entries
-returns c = fill_end_front c.before.loop.invariant c.loop-test.false
+returns c = fill_end_front c.before.loop-i.invariant c.loop-i-test.false
 
 pub read_spec : {M : Type 1} → statement M
 read_spec =
