@@ -61,7 +61,7 @@ module _ (kinds : List ℕ) (old : Memory) {new : Memory} (x : new ≡ encoded_k
 -- ---- the three cases of a reading
 
 module _ (text : List ℕ) {kinds₀ kinds : List ℕ} {r : Reading} (x : ReadText (trimmed text) kinds₀ kinds r) where
-  -- the kinds′ first places hold those of the letters
+  -- the kinds' first places hold those of the letters
   kinds_read : (n : ℕ) → r ≡ Letters n → kinds_of (trimmed text) ≡ take n kinds
   kinds_read n e =
       let l : length (kinds_of (trimmed text)) ≡ n = omega (arith, length-kinds (trimmed text), (read_all x n e).count) in
