@@ -12,17 +12,14 @@ use Rattle.grouping_preprocessor.specs.declared.Levels.{Levels}
 use Rattle.evaluator_values.specs.Colour.{colour_values}
 use Rattle.call_colour.specs.Call.{Memory, memory, filled}
 
-abbrev pub of_lists : List Float → List ℕ → List Float → Memory
-of_lists = memory
-
 pub filled_is : (s : Settings) {kinds w work : List ℕ} {k : Levels} {value scratch : List Float} (ratios : List Float) (m : Memory)
     → Tables s.limit kinds m.work w k
     → value ≡ over (colour_values k.limit s.tolerance kinds ratios) m.value
     → work ≡ over (replicate (8 * length kinds) 0) w
     → scratch ≡ over (replicate (length kinds) (of_bits binary64 0)) m.scratch
-    → of_lists value work scratch ≡ filled s kinds ratios m
+    → memory value work scratch ≡ filled s kinds ratios m
 unfolding filled
 filled_is s {kinds} {w} ratios m t v z f =
     let values = rw t.searched at v in
     let zeros = z ∙ over-agree (replicate (8 * length kinds) 0) w m.work (8 * length kinds) (length-replicate (8 * length kinds) 0) t.outside.beyond in
-    λ i. of_lists (values i) (zeros i) (f i)
+    λ i. memory (values i) (zeros i) (f i)

@@ -14,12 +14,9 @@ use Rattle.grouping_preprocessor.proofs.BoundLaws.{length-alternating_of, hit-be
 use Rattle.grouping_colour.proofs.StreakListLaws.{streak-below}
 use Rattle.grouping_preprocessor.specs.passes.Steps.{Tables}
 use Rattle.grouping_preprocessor.specs.declared.Levels.{Levels}
-use Rattle.call_encode.specs.Call.{Memory, Lending, memory, encoded_kinds}
+use Rattle.call_encode.specs.Call.{Memory, memory, encoded_kinds}
 use Rattle.call_encode.specs.passes.LookUps.{Below, PatternsRoom, by_streak, HitsRoom, by_pattern, KindsRoom}
 use Rattle.call_encode.proofs.SpreadLaws.{written_front}
-
-abbrev of_lists : Lending List
-of_lists = memory
 
 below_of : {m c d : ℕ} {xs ys : List ℕ} → xs ≡ ys → c ≡ d → ((i : ℕ) → i < m → get_or ys i 0 < d) → Below m xs c
 below_of e f b = record { below = λ i h. rw (e, f) (b i h) }
@@ -89,7 +86,7 @@ module _ {limit : ℕ} {kinds w : List ℕ} {k : Levels} {old : Memory} (t : Tab
           → hit ≡ over (by_pattern n n k w pattern) old.hit
           → interval ≡ over (gathered (part (7 * n) k.hits w) (by_pattern n n k w pattern)) old.interval
           → work ≡ over (replicate (8 * n) 0) w
-          → of_lists streak place pattern pattern_place hit interval work old.scratch ≡ encoded_kinds limit kinds old
+          → memory streak place pattern pattern_place hit interval work old.scratch ≡ encoded_kinds limit kinds old
       unfolding encoded_kinds
       encoded a b c d e z =
           let streaks = rw t.streak at a in
@@ -98,4 +95,4 @@ module _ {limit : ℕ} {kinds w : List ℕ} {k : Levels} {old : Memory} (t : Tab
           let hitNumbers = rw hits at d in
           let found = rw intervals at e in
           let zeros = z ∙ over-agree (replicate (8 * n) 0) w old.work (8 * n) (length-replicate (8 * n) 0) t.outside.beyond in
-          λ i. of_lists (streaks i) (places i) (pattern-written i) (patternPlaces i) (hitNumbers i) (found i) (zeros i) old.scratch
+          λ i. memory (streaks i) (places i) (pattern-written i) (patternPlaces i) (hitNumbers i) (found i) (zeros i) old.scratch

@@ -34,9 +34,9 @@ fn spread_patterns(
     pattern: &mut [u16],
 )
     requires { PatternsRoom n k work.now streak.old streak_place.old pattern.old }
-    ensures streak_value { streak.new ≡ over (part 0 n work.now) streak.old }
-    ensures streak_place_value { streak_place.new ≡ over (by_streak (4 * n) n k work.now) streak_place.old }
-    ensures pattern_value { pattern.new ≡ over (by_streak (3 * n) n k work.now) pattern.old }
+    ensures streak { streak.new ≡ over (part 0 n work.now) streak.old }
+    ensures streak_place { streak_place.new ≡ over (by_streak (4 * n) n k work.now) streak_place.old }
+    ensures pattern { pattern.new ≡ over (by_streak (3 * n) n k work.now) pattern.old }
 {
     let s = k.streaks;
     fill::copy(&work[..n], streak);
@@ -55,10 +55,10 @@ fn spread_hits(
     interval: &mut [u8],
 )
     requires { HitsRoom n k work.now pattern.now pattern_place.old hit.old interval.old }
-    ensures pattern_place_value { pattern_place.new
+    ensures pattern_place { pattern_place.new
         ≡ over (by_pattern (2 * n) n k work.now pattern.now) pattern_place.old }
-    ensures hit_value { hit.new ≡ over (by_pattern n n k work.now pattern.now) hit.old }
-    ensures interval_value { interval.new
+    ensures hit { hit.new ≡ over (by_pattern n n k work.now pattern.now) hit.old }
+    ensures interval { interval.new
         ≡ over (gathered (part (7 * n) k.hits work.now) (by_pattern n n k work.now pattern.now))
         interval.old }
 {
@@ -83,8 +83,8 @@ pub fn encode_kinds(
 ) -> usize
     requires { KindsRoom (length kind.now) limit
         (kinds_memory streak.old streak_place.old pattern.old pattern_place.old hit.old interval.old work.old) }
-    ensures value { result ≡ hit_count kind.now }
-    ensures work_value { kinds_memory streak.new streak_place.new pattern.new pattern_place.new hit.new interval.new
+    ensures count { result ≡ hit_count kind.now }
+    ensures filled { kinds_memory streak.new streak_place.new pattern.new pattern_place.new hit.new interval.new
         work.new
         ≡ encoded_kinds limit kind.now
         (kinds_memory streak.old streak_place.old pattern.old pattern_place.old hit.old interval.old work.old) }

@@ -149,9 +149,6 @@ recorded s kinds starts deltas g window x r r' p q =
 
 -- and both slices are cleared
 
-abbrev pub of_lists : List ℕ → List Float → Memory
-of_lists = memory
-
 pub cleared_is : {margin : Float} {kinds : List ℕ} {starts deltas : List Float} {g : ℕ} {work₀ work₁ work : List ℕ} {scratch₀ scratch : List Float}
     (scratch₁ : List Float)
     → GroupRoom margin kinds starts deltas g work₀ scratch₀
@@ -159,10 +156,10 @@ pub cleared_is : {margin : Float} {kinds : List ℕ} {starts deltas : List Float
     → drop (length kinds) scratch₁ ≡ drop (length kinds) scratch₀
     → work ≡ over (replicate (8 * length kinds) 0) work₁
     → scratch ≡ over (replicate (length kinds) (of_bits binary64 0)) scratch₁
-    → of_lists work scratch ≡ cleared (length kinds) (of_lists work₀ scratch₀)
+    → memory work scratch ≡ cleared (length kinds) (memory work₀ scratch₀)
 unfolding cleared
 cleared_is {kinds = kinds} {work₀ = work₀} {work₁} {scratch₀ = scratch₀} scratch₁ room noted past z f =
     let n : ℕ = length kinds in
     let zeros = z ∙ over-agree (replicate (8 * n) 0) work₁ work₀ (8 * n) (length-replicate (8 * n) 0) (notes_left room.tables noted).past in
     let floats = f ∙ over-agree (replicate n (of_bits binary64 0)) scratch₁ scratch₀ n (length-replicate n (of_bits binary64 0)) past in
-    λ t. of_lists (zeros t) (floats t)
+    λ t. memory (zeros t) (floats t)

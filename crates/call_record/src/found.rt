@@ -41,10 +41,10 @@ fn locate(
     scratch: &mut [f64],
 ) -> LocatedGroup
     requires { GroupRoom margin kind.now start.now delta.now g work.old scratch.old }
-    ensures value { result ≡ located_at margin kind.now start.now delta.now g }
-    ensures work_value { work.new ≡ written (notes_writes margin kind.now delta.now) work.old }
-    ensures scratch_value { scratch.new ≡ written (locate_writes margin kind.now delta.now g) scratch.old }
-    ensures scratch_value_2 { drop (length kind.now) scratch.new ≡ drop (length kind.now) scratch.old }
+    ensures found { result ≡ located_at margin kind.now start.now delta.now g }
+    ensures work { work.new ≡ written (notes_writes margin kind.now delta.now) work.old }
+    ensures scratch { scratch.new ≡ written (locate_writes margin kind.now delta.now g) scratch.old }
+    ensures rest { drop (length kind.now) scratch.new ≡ drop (length kind.now) scratch.old }
 {
     let n = kind.len();
     let m = list_notes(kind, delta, work, scratch);
@@ -77,11 +77,11 @@ pub fn find(
     scratch: &mut [f64],
 ) -> FoundGroup
     requires { GroupRoom margin kind.now start.now delta.now g work.old scratch.old }
-    ensures value { result ≡ found_at margin kind.now start.now delta.now g }
-    ensures work_value { work.new ≡ written (notes_writes margin kind.now delta.now) work.old }
-    ensures scratch_value { scratch.new
+    ensures found { result ≡ found_at margin kind.now start.now delta.now g }
+    ensures work { work.new ≡ written (notes_writes margin kind.now delta.now) work.old }
+    ensures scratch { scratch.new
         ≡ written (find_writes margin kind.now start.now delta.now g) scratch.old }
-    ensures scratch_value_2 { drop (length kind.now) scratch.new ≡ drop (length kind.now) scratch.old }
+    ensures rest { drop (length kind.now) scratch.new ≡ drop (length kind.now) scratch.old }
 {
     let n = kind.len();
     let located = locate(kind, start, delta, margin, g, work, scratch);

@@ -76,8 +76,8 @@ fn make_record(
     scratch: &mut [f64],
 ) -> GroupRecord
     requires { GroupRoom s.margin kind.now start.now delta.now g work.old scratch.old }
-    ensures value { result ≡ record_at s kind.now start.now delta.now g window }
-    ensures scratch_value { memory work.new scratch.new ≡ cleared (length kind.now) (memory work.old scratch.old) }
+    ensures made { result ≡ record_at s kind.now start.now delta.now g window }
+    ensures cleared { memory work.new scratch.new ≡ cleared (length kind.now) (memory work.old scratch.old) }
 {
     let n = kind.len();
     let found = found::find(kind, start, delta, s.margin, g, work, scratch);

@@ -55,9 +55,6 @@ module _ {kinds : List ℕ} {k : GroupCounts} {work group₀ pattern₀ : List �
 
 -- ---- the answers are the definition's
 
-abbrev pub of_lists : List ℕ → List ℕ → List ℕ → List Float → Memory
-of_lists = memory
-
 module _ (s : Settings) {kinds : List ℕ} {starts deltas : List Float} {m : Memory} {k : GroupCounts} {work₁ : List ℕ} {scratch₁ : List Float}
     (r : GroupsRoom kinds starts deltas m) (counts : k ≡ counts_of s.margin kinds starts deltas)
     (w : work₁ ≡ written (work_writes s.margin kinds starts deltas) m.work)
@@ -103,7 +100,7 @@ module _ (s : Settings) {kinds : List ℕ} {starts deltas : List Float} {m : Mem
   pub filled_is : {work₂ work group pattern : List ℕ} {scratch : List Float} → group ≡ over (by_object (note_groups kinds k work₁) kinds) m.group
       → pattern ≡ over (by_object (note_patterns kinds k work₁) kinds) m.pattern → work₂ ≡ put (2 * length kinds) (note_patterns kinds k work₁) work₁
       → work ≡ over (replicate (8 * length kinds) 0) work₂ → scratch ≡ over (replicate (length kinds) (of_bits binary64 0)) scratch₁
-      → of_lists group pattern work scratch ≡ filled s kinds starts deltas m
+      → memory group pattern work scratch ≡ filled s kinds starts deltas m
   unfolding filled group_of note_group
   filled_is {work₂} g p x z q =
       let there = tables_there in
@@ -116,4 +113,4 @@ module _ (s : Settings) {kinds : List ℕ} {starts deltas : List Float} {m : Mem
       let patterns = rw by_objects at p in
       let zeros = z ∙ over-agree (replicate (8 * n) 0) work₂ m.work (8 * n) (length-replicate (8 * n) 0) past in
       let floats = q ∙ over-agree (replicate n (of_bits binary64 0)) scratch₁ m.scratch n (length-replicate n (of_bits binary64 0)) left.past_floats in
-      λ t. of_lists (groups t) (patterns t) (zeros t) (floats t)
+      λ t. memory (groups t) (patterns t) (zeros t) (floats t)

@@ -38,8 +38,8 @@ fn fill_groups(
     scratch: &mut [f64],
 ) -> GroupCounts
     requires { GroupsRoom kind.now start.now delta.now (memory group.old pattern.old work.old scratch.old) }
-    ensures value { result ≡ counts_of s.margin kind.now start.now delta.now }
-    ensures scratch_value { memory group.new pattern.new work.new scratch.new
+    ensures counts { result ≡ counts_of s.margin kind.now start.now delta.now }
+    ensures filled { memory group.new pattern.new work.new scratch.new
         ≡ filled s kind.now start.now delta.now (memory group.old pattern.old work.old scratch.old) }
 {
     let n = kind.len();

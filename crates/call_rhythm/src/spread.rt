@@ -59,10 +59,10 @@ pub fn fill_answers(
     pattern: &mut [u16],
 )
     requires { TablesThere kind.now k work.old group.old pattern.old }
-    ensures group_value { group.new ≡ over (by_object (note_groups kind.now k work.old) kind.now) group.old }
-    ensures pattern_value { pattern.new
+    ensures group { group.new ≡ over (by_object (note_groups kind.now k work.old) kind.now) group.old }
+    ensures pattern { pattern.new
         ≡ over (by_object (note_patterns kind.now k work.old) kind.now) pattern.old }
-    ensures work_value { work.new ≡ put (2 * length kind.now) (note_patterns kind.now k work.old) work.old }
+    ensures work { work.new ≡ put (2 * length kind.now) (note_patterns kind.now k work.old) work.old }
 {
     let n = kind.len();
     let m = k.notes;

@@ -28,8 +28,8 @@ pub struct GroupCounts {
 // numbers in their places. The result is how many groups there are, which is the last number and one more.
 pub fn number_notes(deltas: &[f64], margin: f64, work: &mut [u16], n: usize) -> usize
     requires { NumbersRoom deltas.now n work.old }
-    ensures value { result ≡ group_count (interval_marks margin deltas.now) }
-    ensures work_value { work.new
+    ensures count { result ≡ group_count (interval_marks margin deltas.now) }
+    ensures work { work.new
         ≡ written (numbers_writes n (interval_marks margin deltas.now) (take (length deltas.now) work.old))
         work.old }
 {
@@ -54,10 +54,10 @@ fn number_groups(
     scratch: &mut [f64],
 ) -> usize
     requires { FirstsThere start.now n groups work.old scratch.old }
-    ensures value { result ≡ group_count (patterns_from margin start.now n groups work.old) }
-    ensures work_value { work.new
+    ensures count { result ≡ group_count (patterns_from margin start.now n groups work.old) }
+    ensures work { work.new
         ≡ put (3 * n) (group_numbers (patterns_from margin start.now n groups work.old)) work.old }
-    ensures scratch_value { scratch.new ≡ over (intervals_from margin start.now n groups work.old) scratch.old }
+    ensures scratch { scratch.new ≡ over (intervals_from margin start.now n groups work.old) scratch.old }
 {
     fill_intervals(start, &work[n..n + groups], margin, scratch);
     group_by_interval(&scratch[..groups], margin, &mut work[3 * n..3 * n + groups])
@@ -73,9 +73,9 @@ pub fn group_notes(
     scratch: &mut [f64],
 ) -> GroupCounts
     requires { TablesRoom kind.now start.now delta.now work.old scratch.old }
-    ensures value { result ≡ counts_of margin kind.now start.now delta.now }
-    ensures work_value { work.new ≡ written (work_writes margin kind.now start.now delta.now) work.old }
-    ensures scratch_value { scratch.new
+    ensures count { result ≡ counts_of margin kind.now start.now delta.now }
+    ensures work { work.new ≡ written (work_writes margin kind.now start.now delta.now) work.old }
+    ensures scratch { scratch.new
         ≡ written (scratch_writes margin kind.now start.now delta.now) scratch.old }
 {
     let n = kind.len();

@@ -89,8 +89,8 @@ fn value_at(
     tolerance: f64,
     idx: ObjectIndex,
 ) -> f64
-    requires fact_1 { Sources table.now kind.now ratio.now w.now k }
-    requires fact_2 { idx.0 < length kind.now }
+    requires sources { Sources table.now kind.now ratio.now w.now k }
+    requires inside { idx.0 < length kind.now }
     ensures { result ≡ colour_at k.limit tolerance kind.now ratio.now idx.0 }
 {
     let sum = evaluator_colour::object_sum(table, standing_at(kind, w, k, idx));
@@ -110,8 +110,8 @@ pub fn fill_values(
     tolerance: f64,
     value: &mut [f64],
 )
-    requires fact_1 { Sources table.now kind.now ratio.now w.now k }
-    requires fact_2 { length kind.now ≤ length value.old }
+    requires sources { Sources table.now kind.now ratio.now w.now k }
+    requires room { length kind.now ≤ length value.old }
     ensures { value.new
         ≡ over (colour_values k.limit tolerance kind.now ratio.now) value.old }
 {

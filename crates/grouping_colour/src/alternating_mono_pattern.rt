@@ -8,8 +8,8 @@ ghost use Rattle.grouping_colour.specs.passes.Coupled.{coupled_at_in, coupled_in
 use grouping_marks::alike::alike_at;
 
 fn opens_pattern(w: &[u16], from: usize, m: usize, i: usize) -> u16
-    requires fact_1 { from + m ≤ length w.now }
-    requires fact_2 { i < m }
+    requires room { from + m ≤ length w.now }
+    requires inside { i < m }
     ensures { result ≡ opens_pattern (part from m w.now) i }
 {
     if i == 0 {
@@ -32,8 +32,8 @@ pub fn mark_patterns(w: &mut [u16], from: usize, m: usize, to: usize)
 }
 
 fn is_coupled(w: &[u16], lengths: usize, counts: usize, types: usize, m: usize, i: usize) -> u16
-    requires fact_1 { Triple w.now lengths counts types m }
-    requires fact_2 { i < m }
+    requires tables { Triple w.now lengths counts types m }
+    requires inside { i < m }
     ensures { result ≡ coupled_at_in lengths counts types m w.now i }
 {
     if m - i <= 2 {

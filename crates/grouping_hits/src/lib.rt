@@ -48,8 +48,8 @@ fn second_by(mark: u16, length: u16) -> u16
 }
 
 fn second_at(w: &[u16], lengths: usize, marks: usize, m: usize, i: usize) -> u16
-    requires fact_1 { Pair w.now lengths marks m }
-    requires fact_2 { i < m }
+    requires tables { Pair w.now lengths marks m }
+    requires inside { i < m }
     ensures { result ≡ second_at (part lengths m w.now) (part marks m w.now) i }
 {
     let j = i + 1;
@@ -122,9 +122,9 @@ pub fn repetition_intervals(
     limit: u16,
     to: usize,
 )
-    requires fact_1 { TripleApart w.old sizes firsts seconds m to }
-    requires fact_2 { 1 ≤ limit }
-    requires fact_3 { limit < 65535 }
+    requires tables { TripleApart w.old sizes firsts seconds m to }
+    requires least { 1 ≤ limit }
+    requires most { limit < 65535 }
     ensures { w.new
         ≡ put to (intervals_in limit sizes firsts seconds m w.old) w.old }
 {

@@ -7,9 +7,9 @@ ghost use Rattle.grouping_marks.specs.Alike.{alike_at};
 // Whether items a and b of m have the same three numbers. The three tests are joined without jumps, so that a loop
 // tests several pairs at a time.
 pub fn alike_at(w: &[u16], x: usize, y: usize, z: usize, m: usize, a: usize, b: usize) -> bool
-    requires fact_1 { Triple w.now x y z m }
-    requires fact_2 { a < m }
-    requires fact_3 { b < m }
+    requires tables { Triple w.now x y z m }
+    requires first_inside { a < m }
+    requires second_inside { b < m }
     ensures { result ≡ alike_at (part x m w.now) (part y m w.now) (part z m w.now) a b }
 {
     let first = w[x + a] == w[x + b];

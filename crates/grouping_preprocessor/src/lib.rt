@@ -30,8 +30,8 @@ fn find_streaks(kind: &[u8], w: &mut [u16]) -> usize
 
 // From s streaks to alternating patterns; the result is their count.
 fn find_patterns(w: &mut [u16], n: usize, s: usize) -> usize
-    requires fact_1 { Regions n w.old }
-    requires fact_2 { s ≤ n }
+    requires regions { Regions n w.old }
+    requires few { s ≤ n }
     ensures { PatternsFound n s w.old w.new result }
 {
     let marks = 7 * n;
@@ -46,8 +46,8 @@ fn find_patterns(w: &mut [u16], n: usize, s: usize) -> usize
 
 // Marks in region 6 the patterns that open a hit pattern, and leaves their second lengths in region 2.
 fn find_hit_marks(w: &mut [u16], n: usize, p: usize)
-    requires fact_1 { Regions n w.old }
-    requires fact_2 { p ≤ n }
+    requires regions { Regions n w.old }
+    requires few { p ≤ n }
     ensures { HitMarksFound n p w.old w.new }
 {
     let marks = 6 * n;
@@ -58,10 +58,10 @@ fn find_hit_marks(w: &mut [u16], n: usize, p: usize)
 
 // From p alternating patterns to hit patterns and their intervals; the result is their count.
 fn find_hits(w: &mut [u16], n: usize, p: usize, limit: u16) -> usize
-    requires fact_1 { Regions n w.old }
-    requires fact_2 { p ≤ n }
-    requires fact_3 { 1 ≤ limit }
-    requires fact_4 { limit < 65535 }
+    requires regions { Regions n w.old }
+    requires few { p ≤ n }
+    requires least { 1 ≤ limit }
+    requires most { limit < 65535 }
     ensures { HitsFound limit n p w.old w.new result }
 {
     let marks = 6 * n;
@@ -79,9 +79,9 @@ fn find_hits(w: &mut [u16], n: usize, p: usize, limit: u16) -> usize
 
 // Finds all levels. Their tables are in the work slice, in eight regions of n places.
 pub fn encode_levels(kind: &[u8], w: &mut [u16], limit: u16) -> Levels
-    requires fact_1 { Regions (length kind.now) w.old }
-    requires fact_2 { 1 ≤ limit }
-    requires fact_3 { limit < 65535 }
+    requires regions { Regions (length kind.now) w.old }
+    requires least { 1 ≤ limit }
+    requires most { limit < 65535 }
     ensures { Encodes limit kind.now w.old w.new result }
 {
     let n = kind.len();

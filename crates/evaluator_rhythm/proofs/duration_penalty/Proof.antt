@@ -7,7 +7,7 @@ use Rattle.evaluator_rhythm.proofs.duration_penalty.Tie as tie
 
 returns : tie.Need-returns
 unfolding duration_penalty of_bits
-returns c = c.larger-of.ensures
+returns c = c.larger_of.ensures
 
-pub duration-penalty-spec : {M : Type 1} → statement M
-duration-penalty-spec = tie.close (tie.spec (λ c κs. search rules) returns)
+pub duration_penalty_spec : {M : Type 1} → statement M
+duration_penalty_spec = tie.close (tie.spec (λ c κs. search rules) returns)

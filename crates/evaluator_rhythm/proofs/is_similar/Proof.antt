@@ -9,5 +9,5 @@ returns : tie.Need-returns
 unfolding similar of_bits
 returns c = c.near.ensures
 
-pub is-similar-spec : {M : Type 1} → statement M
-is-similar-spec = tie.close (tie.spec (λ c κs. search rules) returns)
+pub is_similar_spec : {M : Type 1} → statement M
+is_similar_spec = tie.close (tie.spec (λ c κs. search rules) returns)

@@ -4,12 +4,12 @@ use Rattle.numeric.proofs.ConstantLaws.{eight_tenths_bits}
 use Rattle.evaluator_rhythm.proofs.penalty_if.Statement.{statement}
 use Rattle.evaluator_rhythm.proofs.penalty_if.Tie as tie
 
-returns : tie.Need-returns
-returns c = rw c.if1.true eight_tenths_bits
+returns : tie.Need-returns-then-similar
+returns c = rw c.if-similar.true eight_tenths_bits
 
-returns-2 : tie.Need-returns-2
+returns-2 : tie.Need-returns-else-similar
 unfolding of_bits
-returns-2 c = rw c.if1.false
+returns-2 c = rw c.if-similar.false
 
-pub penalty-if-spec : {M : Type 1} → statement M
-penalty-if-spec = tie.close (tie.spec returns returns-2)
+pub penalty_if_spec : {M : Type 1} → statement M
+penalty_if_spec = tie.close (tie.spec returns returns-2)

@@ -23,10 +23,10 @@ returns c =
     let long = c.before.before.before in
     let x = long.before.args in
     multiplied x.threshold x.owns x.notes x.duration x.window
-    long.walk.ensures c.before.before.short-penalty.ensures c.before.smaller-of.ensures c.duration-penalty.ensures
+    long.walk-long.ensures c.before.before.short_penalty-short.ensures c.before.smaller_of.ensures c.duration_penalty.ensures
 
-pub repeated-interval-penalty-spec : {M : Type 1} → statement M
-repeated-interval-penalty-spec =
+pub repeated_interval_penalty_spec : {M : Type 1} → statement M
+repeated_interval_penalty_spec =
     tie.close
     (tie.spec
     (λ c κs. search rules)

@@ -5,12 +5,12 @@ use lib.Ieee.{of_bits}
 use Rattle.evaluator_rhythm.proofs.short_penalty.Statement.{statement}
 use Rattle.evaluator_rhythm.proofs.short_penalty.Tie as tie
 
-returns : tie.Need-returns
-returns c = rw (lt-ltb c.before.before.args.notes 6 c.before.if1.true) c.walk.ensures
+returns : tie.Need-returns-then-notes-lt6
+returns c = rw (lt-ltb c.before.before.args.notes 6 c.before.if-notes-lt6.true) c.walk.ensures
 
-returns-2 : tie.Need-returns-2
+returns-2 : tie.Need-returns
 unfolding of_bits
-returns-2 c = rw (le-ltb c.before.args.notes 6 c.if1.false)
+returns-2 c = rw (le-ltb c.before.args.notes 6 c.if-notes-lt6.false)
 
-pub short-penalty-spec : {M : Type 1} → statement M
-short-penalty-spec = tie.close (tie.spec (λ c κs. search rules) returns returns-2)
+pub short_penalty_spec : {M : Type 1} → statement M
+short_penalty_spec = tie.close (tie.spec (λ c κs. search rules) returns returns-2)

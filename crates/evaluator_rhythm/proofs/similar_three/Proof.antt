@@ -6,28 +6,28 @@ use Rattle.evaluator_rhythm.proofs.PairLaws.{three_tested}
 use Rattle.evaluator_rhythm.proofs.similar_three.Statement.{statement}
 use Rattle.evaluator_rhythm.proofs.similar_three.Tie as tie
 
-returns : tie.Need-returns
+returns : tie.Need-returns-then-is_similar
 returns c =
     let x = c.before.before.args in
-    three_tested x.threshold x.a x.b x.c true _ _ (sym c.before.is-similar.ensures ∙ c.if1.true) refl refl
+    three_tested x.threshold x.a x.b x.c true _ _ (sym c.before.is_similar.ensures ∙ c.if-is_similar.true) refl refl
 
-returns-2 : tie.Need-returns-2
+returns-2 : tie.Need-returns-then-is_similar-2
 returns-2 c =
     let first = c.before.before in
     let x = first.before.before.args in
     three_tested x.threshold x.a x.b x.c false true _
-    (sym first.before.is-similar.ensures ∙ first.if1.false) (sym c.before.is-similar2.ensures ∙ c.if2.true) refl
+    (sym first.before.is_similar.ensures ∙ first.if-is_similar.false) (sym c.before.is_similar-2.ensures ∙ c.if-is_similar-2.true) refl
 
-returns-3 : tie.Need-returns-3
+returns-3 : tie.Need-returns
 returns-3 c =
     let second = c.before in
     let first = second.before.before in
     let x = first.before.before.args in
     three_tested x.threshold x.a x.b x.c false false _
-    (sym first.before.is-similar.ensures ∙ first.if1.false) (sym second.before.is-similar2.ensures ∙ second.if2.false)
-    (sym c.is-similar3.ensures)
+    (sym first.before.is_similar.ensures ∙ first.if-is_similar.false) (sym second.before.is_similar-2.ensures ∙ second.if-is_similar-2.false)
+    (sym c.is_similar-3.ensures)
 
-pub similar-three-spec : {M : Type 1} → statement M
-similar-three-spec =
+pub similar_three_spec : {M : Type 1} → statement M
+similar_three_spec =
     tie.close
     (tie.spec (λ c κs. search rules) returns (λ c κs. search rules) returns-2 (λ c κs. search rules) returns-3)

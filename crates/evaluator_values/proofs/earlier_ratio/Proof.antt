@@ -6,10 +6,10 @@ use borrow.Author.Rules.{rules}
 use Rattle.evaluator_values.proofs.earlier_ratio.Statement.{statement}
 use Rattle.evaluator_values.proofs.earlier_ratio.Tie as tie
 
-returns : tie.Need-returns
+returns : tie.Need-returns-then-i-lt2
 returns c = let z : c.before.before.args.idx.0 - 2 ≡ 0 = omega arith in rw z
 
-pub earlier-ratio-spec : {M : Type 1} → statement M
-earlier-ratio-spec =
+pub earlier_ratio_spec : {M : Type 1} → statement M
+earlier_ratio_spec =
     tie.close
     (tie.spec (λ c. search rules) returns (λ c. search rules) (λ c. search rules) (λ c. refl))

@@ -10,44 +10,44 @@ use Rattle.evaluator_values.proofs.StandingLaws.{length-values, value_of}
 use Rattle.evaluator_values.proofs.fill_values.Statement.{statement}
 use Rattle.evaluator_values.proofs.fill_values.Tie as tie
 
-abbrev invariant-loop : tie.invariant-loop
+abbrev invariant-loop : tie.invariant-loop-i
 invariant-loop table kind ratio w k tolerance value₀ i₀ value i = Fill (colour_values k.limit tolerance kind ratio) (length kind) 0 value₀ value i
 
-abbrev decreases-loop : tie.decreases-loop
+abbrev decreases-loop : tie.decreases-loop-i
 decreases-loop table kind ratio w k tolerance value₀ i₀ value i = length kind - i
 
-loop-holds : tie.Need-loop-init invariant-loop decreases-loop
+loop-holds : tie.Need-loop-i-init invariant-loop decreases-loop
 loop-holds c = fill_start_front _ _ _ (length-values _ _ _ _) c.before.before.before.before.before.requires.1
 
 -- what was lent, as a turn of the loop has it
-abbrev start : tie.In-loop invariant-loop decreases-loop → tie.Start invariant-loop decreases-loop
+abbrev start : tie.In-loop-i invariant-loop decreases-loop → tie.Start invariant-loop decreases-loop
 start c = c.before.before.before.before.before.before.before
 
-value-at-requires : tie.Need-value-at-requires invariant-loop decreases-loop
-value-at-requires c κs = ((start c).requires.0, c.loop-test.true)
+value-at-requires : tie.Need-value_at-requires invariant-loop decreases-loop
+value-at-requires c κs = ((start c).requires.0, c.loop-i-test.true)
 
-mul-value : tie.Need-overflow-mul-value invariant-loop decreases-loop
-mul-value c = omega (arith, (start c.before).pre.0.tabled.regions)
+mul-value : tie.Need-offset_bounds-value-i invariant-loop decreases-loop
+mul-value c = omega (arith, (start c.before).requires.0.tabled.regions)
 
-slice-write-value : tie.Need-slice-write-value invariant-loop decreases-loop
-slice-write-value c = omega (arith, (start c.before).pre.1)
+slice-write-value : tie.Need-bounds-value-i invariant-loop decreases-loop
+slice-write-value c = omega (arith, (start c.before).requires.1)
 
-add-i : tie.Need-overflow-add-i invariant-loop decreases-loop
-add-i c = omega (arith, (start c.before).pre.0.tabled.regions)
+add-i : tie.Need-overflow_add-i invariant-loop decreases-loop
+add-i c = omega (arith, (start c.before).requires.0.tabled.regions)
 
-loop-again : tie.Need-loop-preserved invariant-loop decreases-loop
+loop-again : tie.Need-loop-i-preserved invariant-loop decreases-loop
 loop-again c =
-    fill_turn_front nan c.before.before.loop.invariant c.before.loop-test.true
-    (c.value-at.ensures ∙ sym (value_of _ _ _ _ _ c.before.loop-test.true))
+    fill_turn_front nan c.before.before.loop-i.invariant c.before.loop-i-test.true
+    (c.value_at.ensures ∙ sym (value_of _ _ _ _ _ c.before.loop-i-test.true))
 
-same_length : tie.Need-same-length invariant-loop decreases-loop
-same_length c = c.before.loop.invariant.long
+same_length : tie.Need-shape_of-value invariant-loop decreases-loop
+same_length c = c.before.loop-i.invariant.long
 
 returns : tie.Need-returns invariant-loop decreases-loop
-returns c = fill_end_front c.before.loop.invariant c.loop-test.false
+returns c = fill_end_front c.before.loop-i.invariant c.loop-i-test.false
 
-pub fill-values-spec : {M : Type 1} → statement M
-fill-values-spec =
+pub fill_values_spec : {M : Type 1} → statement M
+fill_values_spec =
     tie.close
     (tie.spec
     invariant-loop

@@ -11,12 +11,12 @@ use Rattle.evaluator_values.proofs.value_at.Tie as tie
 returns : tie.Need-returns
 unfolding colour_at
 returns c =
-    let s = c.before.before.before.object-sum.ensures ∙ ap object_sum c.before.before.before.before.standing-at.ensures in
-    let p = c.ratio-penalty.ensures ∙ ap (ratio_penalty _ _ _) c.before.earlier-ratio.ensures in
+    let s = c.before.before.before.object_sum-sum.ensures ∙ ap object_sum c.before.before.before.before.standing_at.ensures in
+    let p = c.ratio_penalty.ensures ∙ ap (ratio_penalty _ _ _) c.before.earlier_ratio-p.ensures in
     λ t. mul binary64 (s t) (p t)
 
-pub value-at-spec : {M : Type 1} → statement M
-value-at-spec =
+pub value_at_spec : {M : Type 1} → statement M
+value_at_spec =
     tie.close
     (tie.spec
     (λ c κs. search rules)

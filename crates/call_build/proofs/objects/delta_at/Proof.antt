@@ -9,8 +9,8 @@ returns : tie.Need-returns
 unfolding delta_at
 returns c = refl
 
-pub delta-at-spec : {M : Type 1} → statement M
-delta-at-spec =
+pub delta_at_spec : {M : Type 1} → statement M
+delta_at_spec =
     tie.close
     (tie.spec
     (λ c. omega arith)

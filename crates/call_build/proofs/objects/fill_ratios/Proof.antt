@@ -17,49 +17,49 @@ record Filled (delta ratio₀ ratio : List Float) (i : ℕ) : Type 0 where
   fill : Fill (ratios_from delta) (length delta) 0 ratio₀ ratio i
   past_first : 0 < i
 
-abbrev invariant-loop : tie.invariant-loop
+abbrev invariant-loop : tie.invariant-loop-i
 invariant-loop delta ratio₀ i₀ ratio i = Filled delta ratio₀ ratio i
 
-abbrev decreases-loop : tie.decreases-loop
+abbrev decreases-loop : tie.decreases-loop-i
 decreases-loop delta ratio₀ i₀ ratio i = length delta - i
 
-returns : tie.Need-returns invariant-loop decreases-loop
-returns c = none_built _ _ c.if1.true
+returns : tie.Need-returns-then-delta-eq0 invariant-loop decreases-loop
+returns c = none_built _ _ c.if-delta-eq0.true
 
-loop-holds : tie.Need-loop-init invariant-loop decreases-loop
+loop-holds : tie.Need-loop-i-init invariant-loop decreases-loop
 unfolding of_bits
 loop-holds c =
     let s = c.before.before.before in
-    record { fill = first_stored _ s.args.ratio.now (omega (arith, c.if1.false)) s.requires; past_first = omega arith }
+    record { fill = first_stored _ s.args.ratio.now (omega (arith, c.if-delta-eq0.false)) s.requires; past_first = omega arith }
 
-loop-again : tie.Need-loop-preserved invariant-loop decreases-loop
+loop-again : tie.Need-loop-i-preserved invariant-loop decreases-loop
 loop-again c =
     let t = c.before.before.before in
-    let h = t.loop-test.true in
-    let f = t.before.loop.invariant in
+    let h = t.loop-i-test.true in
+    let f = t.before.loop-i.invariant in
     record {
-      fill = fill_turn_front nan f.fill h (c.nearest-ratio.ensures ∙ sym (later-ratio _ _ f.past_first h));
+      fill = fill_turn_front nan f.fill h (c.nearest_ratio.ensures ∙ sym (later-ratio _ _ f.past_first h));
       past_first = omega arith;
     }
 
 -- from the loop back to the start
-abbrev start : tie.At-loop invariant-loop decreases-loop → tie.Start invariant-loop decreases-loop
+abbrev start : tie.At-loop-i invariant-loop decreases-loop → tie.Start invariant-loop decreases-loop
 start c = c.before.before.before.before
 
-same_length : tie.Need-same-length invariant-loop decreases-loop
+same_length : tie.Need-shape_of-ratio invariant-loop decreases-loop
 unfolding of_bits
 same_length c =
     let t = c.before in
-    t.loop.invariant.fill.long ∙ length-set (start t).args.ratio.now 0 one64
+    t.loop-i.invariant.fill.long ∙ length-set (start t).args.ratio.now 0 one64
 
-returns-2 : tie.Need-returns-2 invariant-loop decreases-loop
+returns-2 : tie.Need-returns invariant-loop decreases-loop
 returns-2 c =
     let t = c.before in
-    fill_end_front t.loop.invariant.fill c.loop-test.false
-    ∙ over-set _ _ 0 _ (omega (arith, length-ratios (start t).args.delta.now, t.before.if1.false))
+    fill_end_front t.loop-i.invariant.fill c.loop-i-test.false
+    ∙ over-set _ _ 0 _ (omega (arith, length-ratios (start t).args.delta.now, t.before.if-delta-eq0.false))
 
-pub fill-ratios-spec : {M : Type 1} → statement M
-fill-ratios-spec =
+pub fill_ratios_spec : {M : Type 1} → statement M
+fill_ratios_spec =
     tie.close
     (tie.spec
     invariant-loop

@@ -8,25 +8,25 @@ use Rattle.call_build.specs.Build.{built_starts}
 use Rattle.call_build.proofs.objects.fill_starts.Statement.{statement}
 use Rattle.call_build.proofs.objects.fill_starts.Tie as tie
 
-abbrev invariant-loop : tie.invariant-loop
+abbrev invariant-loop : tie.invariant-loop-i
 invariant-loop time rate n start₀ i₀ start i = Fill (built_starts rate time n) n 0 start₀ start i
 
-abbrev decreases-loop : tie.decreases-loop
+abbrev decreases-loop : tie.decreases-loop-i
 decreases-loop time rate n start₀ i₀ start i = n - i
 
-loop-holds : tie.Need-loop-init invariant-loop decreases-loop
+loop-holds : tie.Need-loop-i-init invariant-loop decreases-loop
 loop-holds c = fill_start_front _ _ _ (length-tabulate _ _) c.before.before.requires.0
 
-loop-again : tie.Need-loop-preserved invariant-loop decreases-loop
+loop-again : tie.Need-loop-i-preserved invariant-loop decreases-loop
 loop-again c =
-    let h = c.before.loop-test.true in
-    fill_turn_front nan c.before.before.loop.invariant h (c.start-at.ensures ∙ sym (get_or-tabulate _ _ _ nan h))
+    let h = c.before.loop-i-test.true in
+    fill_turn_front nan c.before.before.loop-i.invariant h (c.start_at.ensures ∙ sym (get_or-tabulate _ _ _ nan h))
 
 returns : tie.Need-returns invariant-loop decreases-loop
-returns c = fill_end_front c.before.loop.invariant c.loop-test.false
+returns c = fill_end_front c.before.loop-i.invariant c.loop-i-test.false
 
-pub fill-starts-spec : {M : Type 1} → statement M
-fill-starts-spec =
+pub fill_starts_spec : {M : Type 1} → statement M
+fill_starts_spec =
     tie.close
     (tie.spec
     invariant-loop
@@ -38,5 +38,5 @@ fill-starts-spec =
     (λ c. omega arith)
     (λ c. omega arith)
     loop-again
-    (λ c. c.before.loop.invariant.long)
+    (λ c. c.before.loop-i.invariant.long)
     returns)

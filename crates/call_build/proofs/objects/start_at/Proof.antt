@@ -9,8 +9,8 @@ returns : tie.Need-returns
 unfolding start_at
 returns c = refl
 
-pub start-at-spec : {M : Type 1} → statement M
-start-at-spec =
+pub start_at_spec : {M : Type 1} → statement M
+start_at_spec =
     tie.close
     (tie.spec
     (λ c. omega arith)

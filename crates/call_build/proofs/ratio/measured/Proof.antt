@@ -8,5 +8,5 @@ returns : tie.Need-returns
 unfolding candidate_of
 returns c = rw c.gap.ensures
 
-pub measured-spec : {M : Type 1} → statement M
-measured-spec = tie.close (tie.spec (λ c κs. search rules) returns)
+pub measured_spec : {M : Type 1} → statement M
+measured_spec = tie.close (tie.spec (λ c κs. search rules) returns)

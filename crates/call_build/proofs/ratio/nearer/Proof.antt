@@ -4,11 +4,11 @@ use Rattle.call_build.proofs.CandidateLaws.{candidate_taken, candidate_kept}
 use Rattle.call_build.proofs.ratio.nearer.Statement.{statement}
 use Rattle.call_build.proofs.ratio.nearer.Tie as tie
 
-returns : tie.Need-returns
-returns c = candidate_taken _ _ _ c.before.before.before.measured.ensures c.if1.true
+returns : tie.Need-returns-then-next-best
+returns c = candidate_taken _ _ _ c.before.before.before.measured-next.ensures c.if-next-best.true
 
-returns-2 : tie.Need-returns-2
-returns-2 c = candidate_kept _ _ _ c.before.before.before.measured.ensures c.if1.false
+returns-2 : tie.Need-returns-else-next-best
+returns-2 c = candidate_kept _ _ _ c.before.before.before.measured-next.ensures c.if-next-best.false
 
-pub nearer-spec : {M : Type 1} → statement M
-nearer-spec = tie.close (tie.spec (λ c κs. search rules) returns returns-2)
+pub nearer_spec : {M : Type 1} → statement M
+nearer_spec = tie.close (tie.spec (λ c κs. search rules) returns returns-2)

@@ -17,20 +17,20 @@ record Passed (c : Chart) (n at : ℕ) : Type 0 where
   within : at ≤ n
   same : first_refused at (drop at c.kinds) (drop at c.starts) (drop at c.deltas) (drop at c.ratios) ≡ objects_verdict c
 
-abbrev invariant-loop : tie.invariant-loop
+abbrev invariant-loop : tie.invariant-loop-at
 invariant-loop kind time rate n at₀ at = Passed (built_chart rate (record { kinds = kind; times = time })) n at.0
 
-abbrev decreases-loop : tie.decreases-loop
+abbrev decreases-loop : tie.decreases-loop-at
 decreases-loop kind time rate n at₀ at = n - at.0
 
-loop-holds : tie.Need-loop-init invariant-loop decreases-loop
+loop-holds : tie.Need-loop-at-init invariant-loop decreases-loop
 loop-holds c = record { within = omega arith; same = refl }
 
 -- from the test of an object back to the loop's head, and from there to the start
-abbrev head : tie.After-object-refusal invariant-loop decreases-loop → tie.At-loop invariant-loop decreases-loop
+abbrev head : tie.After-object_refusal-number invariant-loop decreases-loop → tie.At-loop-at invariant-loop decreases-loop
 head c = c.before.before.before.before.before.before
 
-abbrev start : tie.At-loop invariant-loop decreases-loop → tie.Start invariant-loop decreases-loop
+abbrev start : tie.At-loop-at invariant-loop decreases-loop → tie.Start invariant-loop decreases-loop
 start c = c.before.before.before
 
 abbrev raw_of : tie.Start invariant-loop decreases-loop → Raw
@@ -40,42 +40,42 @@ abbrev chart_of : tie.Start invariant-loop decreases-loop → Chart
 chart_of c = built_chart c.args.rate (raw_of c)
 
 -- the number of the built object that was tested
-abbrev Found : tie.After-object-refusal invariant-loop decreases-loop → Type 0
-Found c = let i = (head c).loop.at.0 in let b = chart_of (start (head c)) in
-    c.object-refusal.result ≡ object_refusal (get_or b.kinds i 0) (get_or b.starts i nan) (get_or b.deltas i nan) (get_or b.ratios i nan)
+abbrev Found : tie.After-object_refusal-number invariant-loop decreases-loop → Type 0
+Found c = let i = (head c).loop-at.at.0 in let b = chart_of (start (head c)) in
+    c.object_refusal-number.result ≡ object_refusal (get_or b.kinds i 0) (get_or b.starts i nan) (get_or b.deltas i nan) (get_or b.ratios i nan)
 
-found : (c : tie.After-object-refusal invariant-loop decreases-loop) → Found c
+found : (c : tie.After-object_refusal-number invariant-loop decreases-loop) → Found c
 unfolding of_bits
 found c =
-    number_found _ (raw_of (start (head c))) _ (omega arith) c.before.before.start-at.ensures c.before.delta-at.ensures c.object-refusal.ensures
+    number_found _ (raw_of (start (head c))) _ (omega arith) c.before.before.start_at.ensures c.before.delta_at.ensures c.object_refusal-number.ensures
 
-inside : (c : tie.After-object-refusal invariant-loop decreases-loop) → (head c).loop.at.0 < size (chart_of (start (head c)))
+inside : (c : tie.After-object_refusal-number invariant-loop decreases-loop) → (head c).loop-at.at.0 < size (chart_of (start (head c)))
 inside c = omega (arith, built-size (start (head c)).args.rate (raw_of (start (head c))))
 
-returns : tie.Need-returns invariant-loop decreases-loop
+returns : tie.Need-returns-then-number-ne0 invariant-loop decreases-loop
 returns c =
     let o = c.before in
     let t = head o in
-    first_here _ _ _ _ t.loop.at.0 nan (built-lengths _ (raw_of (start t))) _ (inside o) (found o) c.if2.true ∙ t.loop.inv.same
+    first_here _ _ _ _ t.loop-at.at.0 nan (built-lengths _ (raw_of (start t))) _ (inside o) (found o) c.if-number-ne0.true ∙ t.loop-at.invariant.same
 
-loop-again : tie.Need-loop-preserved invariant-loop decreases-loop
+loop-again : tie.Need-loop-at-preserved invariant-loop decreases-loop
 loop-again c =
     let o = c.before in
     let t = head o in
     record {
       within = omega arith;
       same =
-          sym (first_later _ _ _ _ t.loop.at.0 nan (built-lengths _ (raw_of (start t))) _ (inside o) (found o) c.if2.false) ∙ t.loop.inv.same;
+          sym (first_later _ _ _ _ t.loop-at.at.0 nan (built-lengths _ (raw_of (start t))) _ (inside o) (found o) c.if-number-ne0.false) ∙ t.loop-at.invariant.same;
     }
 
-returns-2 : tie.Need-returns-2 invariant-loop decreases-loop
+returns-2 : tie.Need-returns invariant-loop decreases-loop
 returns-2 c =
     let t = c.before.before in
     let s = start t in
-    first_none _ _ _ _ t.loop.at.0 (omega (arith, built-size s.args.rate (raw_of s))) ∙ t.loop.invariant.same
+    first_none _ _ _ _ t.loop-at.at.0 (omega (arith, built-size s.args.rate (raw_of s))) ∙ t.loop-at.invariant.same
 
-pub first-refused-spec : {M : Type 1} → statement M
-first-refused-spec =
+pub first_refused_spec : {M : Type 1} → statement M
+first_refused_spec =
     tie.close
     (tie.spec
     invariant-loop

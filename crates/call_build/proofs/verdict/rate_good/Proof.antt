@@ -7,7 +7,7 @@ use Rattle.call_build.proofs.verdict.rate_good.Tie as tie
 
 returns : tie.Need-returns
 unfolding rate_good of_bits
-returns c = c.is_Within.ensures
+returns c = c.is_within.ensures
 
-pub rate-good-spec : {M : Type 1} → statement M
-rate-good-spec = tie.close (tie.spec (λ c κs. search rules) returns)
+pub rate_good_spec : {M : Type 1} → statement M
+rate_good_spec = tie.close (tie.spec (λ c κs. search rules) returns)

@@ -5,13 +5,13 @@ use Rattle.grouping_same_rhythm.specs.SameRhythm.{between}
 use Rattle.grouping_same_rhythm.proofs.groups.start_between.Statement.{statement}
 use Rattle.grouping_same_rhythm.proofs.groups.start_between.Tie as tie
 
-returns : tie.Need-returns
+returns : tie.Need-returns-then-near
 unfolding between of_bits
-returns c = rw (← c.before.near.ensures, c.if1.true)
+returns c = rw (← c.before.near.ensures, c.if-near.true)
 
-returns-2 : tie.Need-returns-2
+returns-2 : tie.Need-returns-else-near
 unfolding between of_bits
-returns-2 c = rw (← c.before.near.ensures, c.if1.false)
+returns-2 c = rw (← c.before.near.ensures, c.if-near.false)
 
-pub start-between-spec : {M : Type 1} → statement M
-start-between-spec = tie.close (tie.spec (λ c κs. search rules) returns returns-2)
+pub start_between_spec : {M : Type 1} → statement M
+start_between_spec = tie.close (tie.spec (λ c κs. search rules) returns returns-2)

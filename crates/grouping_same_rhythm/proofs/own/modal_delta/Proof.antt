@@ -5,16 +5,16 @@ use borrow.Author.Rules.{rules}
 use Rattle.grouping_same_rhythm.proofs.own.modal_delta.Statement.{statement}
 use Rattle.grouping_same_rhythm.proofs.own.modal_delta.Tie as tie
 
-returns : tie.Need-returns
-returns c = modal_few _ _ c.if1.true
+returns : tie.Need-returns-then-deltas-lt2
+returns c = modal_few _ _ c.if-deltas-lt2.true
 
-returns-2 : tie.Need-returns-2
+returns-2 : tie.Need-returns
 returns-2 c =
     let n = c.before.before.before in
-    modal_more _ _ _ _ _ _ n.before.before.before.if1.false n.normal-of.ensures refl c.round_ties_even.ensures
+    modal_more _ _ _ _ _ _ n.before.before.before.if-deltas-lt2.false n.normal_of-normal.ensures refl c.round_ties_even.ensures
 
-pub modal-delta-spec : {M : Type 1} → statement M
-modal-delta-spec =
+pub modal_delta_spec : {M : Type 1} → statement M
+modal_delta_spec =
     tie.close
     (tie.spec
     returns

@@ -6,5 +6,5 @@ use Rattle.grouping_same_rhythm.proofs.owns.further.Tie as tie
 returns : tie.Need-returns
 returns c = cc
 
-pub further-spec : {M : Type 1} → statement M
-further-spec = tie.close (tie.spec (λ c κs. search rules) returns)
+pub further_spec : {M : Type 1} → statement M
+further_spec = tie.close (tie.spec (λ c κs. search rules) returns)

@@ -8,41 +8,41 @@ use Rattle.grouping_same_rhythm.proofs.PatternsLaws.{Found, found-start, found_t
 use Rattle.grouping_same_rhythm.proofs.patterns.pattern_at.Statement.{statement}
 use Rattle.grouping_same_rhythm.proofs.patterns.pattern_at.Tie as tie
 
-abbrev invariant-loop : tie.invariant-loop
+abbrev invariant-loop : tie.invariant-loop-end
 invariant-loop intervals margin g number₀ before₀ at₀ end₀ number before at end = Found margin intervals g number before at end
 
-abbrev decreases-loop : tie.decreases-loop
+abbrev decreases-loop : tie.decreases-loop-end
 decreases-loop intervals margin g number₀ before₀ at₀ end₀ number before at end = length intervals - end
 
-loop-holds : tie.Need-loop-init invariant-loop decreases-loop
-loop-holds c = found-start _ _ _ c.before.before.requires c.next-end.result c.next-end.ensures
+loop-holds : tie.Need-loop-end-init invariant-loop decreases-loop
+loop-holds c = found-start _ _ _ c.before.before.requires c.next_end-end.result c.next_end-end.ensures
 
-loop-less : tie.Need-loop-smaller invariant-loop decreases-loop
+loop-less : tie.Need-loop-end-smaller invariant-loop decreases-loop
 loop-less c =
-    let x = c.before.before.loop.invariant in
-    omega (arith, found_lies (found_turn x c.before.loop-test.true c.next-end2.result c.next-end2.ensures))
+    let x = c.before.before.loop-end.invariant in
+    omega (arith, found_lies (found_turn x c.before.loop-end-test.true c.next_end-end-in-loop-end.result c.next_end-end-in-loop-end.ensures))
 
-loop-again : tie.Need-loop-preserved invariant-loop decreases-loop
-loop-again c = found_turn c.before.before.loop.invariant c.before.loop-test.true c.next-end2.result c.next-end2.ensures
+loop-again : tie.Need-loop-end-preserved invariant-loop decreases-loop
+loop-again c = found_turn c.before.before.loop-end.invariant c.before.loop-end-test.true c.next_end-end-in-loop-end.result c.next_end-end-in-loop-end.ensures
 
-returns : tie.Need-returns invariant-loop decreases-loop
+returns : tie.Need-returns-then-number-eq0 invariant-loop decreases-loop
 unfolding of_bits
-returns c = pattern_first c.before.before.loop.invariant c.before.loop-test.false c.if1.true
+returns c = pattern_first c.before.before.loop-end.invariant c.before.loop-end-test.false c.if-number-eq0.true
 
-pattern-interval-requires : tie.Need-pattern-interval-requires invariant-loop decreases-loop
-pattern-interval-requires c κs = let l = found_lies c.before.before.loop.invariant in (l.from, l.upto)
+pattern-interval-requires : tie.Need-pattern_interval-this-requires invariant-loop decreases-loop
+pattern-interval-requires c κs = let l = found_lies c.before.before.loop-end.invariant in (l.from, l.upto)
 
-pattern-interval-requires-2 : tie.Need-pattern-interval-requires-2 invariant-loop decreases-loop
-pattern-interval-requires-2 c κs = let l = c.before.before.before.loop.invariant.previous c.before.if1.false in (l.from, l.upto)
+pattern-interval-requires-2 : tie.Need-pattern_interval-previous-requires invariant-loop decreases-loop
+pattern-interval-requires-2 c κs = let l = c.before.before.before.loop-end.invariant.previous c.before.if-number-eq0.false in (l.from, l.upto)
 
-returns-2 : tie.Need-returns-2 invariant-loop decreases-loop
+returns-2 : tie.Need-returns invariant-loop decreases-loop
 returns-2 c =
-    let x = c.before.before.before.before.loop.invariant in
-    pattern-later x c.before.before.before.loop-test.false c.before.before.if1.false _ _
-    c.before.pattern-interval.ensures c.pattern-interval2.ensures
+    let x = c.before.before.before.before.loop-end.invariant in
+    pattern-later x c.before.before.before.loop-end-test.false c.before.before.if-number-eq0.false _ _
+    c.before.pattern_interval-this.ensures c.pattern_interval-previous.ensures
 
-pub pattern-at-spec : {M : Type 1} → statement M
-pattern-at-spec =
+pub pattern_at_spec : {M : Type 1} → statement M
+pattern_at_spec =
     tie.close
     (tie.spec
     invariant-loop

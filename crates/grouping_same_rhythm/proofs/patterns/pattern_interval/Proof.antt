@@ -4,14 +4,14 @@ use Rattle.grouping_same_rhythm.proofs.PatternsLaws.{interval_two, interval_one}
 use Rattle.grouping_same_rhythm.proofs.patterns.pattern_interval.Statement.{statement}
 use Rattle.grouping_same_rhythm.proofs.patterns.pattern_interval.Tie as tie
 
-returns : tie.Need-returns
-returns c = interval_two _ _ _ c.before.before.requires.0 c.before.before.requires.1 c.before.if1.true
+returns : tie.Need-returns-then-at-end
+returns c = interval_two _ _ _ c.before.before.requires.0 c.before.before.requires.1 c.before.if-at-end.true
 
-returns-2 : tie.Need-returns-2
+returns-2 : tie.Need-returns
 returns-2 c = interval_one _ _ _ c.before.before.requires.0 c.before.before.requires.1 (omega arith)
 
-pub pattern-interval-spec : {M : Type 1} → statement M
-pattern-interval-spec =
+pub pattern_interval_spec : {M : Type 1} → statement M
+pattern_interval_spec =
     tie.close
     (tie.spec
     (λ c. omega arith)
