@@ -1,5 +1,5 @@
 -- `letter` meets its contract: there is room for no more objects, or one more stands behind them and a count may follow.
-use Rattle.letters_shorthand.proofs.ReaderLaws.{letter-full, letter_asks, letter_read}
+use Rattle.letters_shorthand.proofs.ReaderLaws.{letter-full, letter_read}
 use Rattle.letters_shorthand.proofs.reader.letter.Goals as goal
 
 pub returns-then-n-ge-MOST_OBJECTS : goal.returns-then-n-ge-MOST_OBJECTS
