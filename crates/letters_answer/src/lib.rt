@@ -78,7 +78,7 @@ fn read_full<R: Read>(reader: &mut R, buf: &mut [u8]) -> usize
     done
 }
 
-// Reads the input, as much of it as tells all, and answers it as `answer` does. A failed read counts as the input's end.
+// Reads the input, as much of it as tells all, and answers it as `answer` does. A failed read counts as its end.
 // Where the reader's bytes are known, and none of those that tell all are left, all of them are answered.
 // How many bytes standard input has no promise can say: tests/letters sees that none was passed over.
 pub fn answer_input<R: Read>(

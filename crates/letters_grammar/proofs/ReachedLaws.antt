@@ -132,7 +132,8 @@ module _ (M D : ℕ) (t : List ℕ) where
   reached_open r = omega (arith, reached_brackets r)
 
   -- what the mode tells of the byte before
-  pub reached_after : {p : ℕ} {fs : List Bracket} {m : Mode} {ks : List ℕ} (i : ℕ) → Reached M D t p fs m ks → m ≡ after i → is_digit (get_or t (p - 1) 0) ≡ false
+  pub reached_after : {p : ℕ} {fs : List Bracket} {m : Mode} {ks : List ℕ} (i : ℕ) → Reached M D t p fs m ks → m ≡ after i
+      → is_digit (get_or t (p - 1) 0) ≡ false
   unfolding Tells
   reached_after i (start a b c d) e = never (cc)
   reached_after {p} i (next q es l js a h r x) e =
