@@ -1,11 +1,16 @@
 -- What is lent to the writing of the lines is what the definition shows, and what each case of a reading has written is the whole output.
--- What is read of an input is enough to answer all of it, and the answer lies within what was lent.
+-- What is read of an input is enough to answer all of it, and the answer lies within what was lent. What a reader gave is what it had, up to
+-- what is left of that.
 use mathlib.Core.Path.{◌≡◌, refl, sym, ap, ◌∙◌}
-use mathlib.Core.List.{List}
+use mathlib.Core.List.{List, ◌++◌}
 use Prim.Native.Nat.{ℕ, ◌≤◌}
 use native.Mathlib.Omega.{arith}
-use lib.ListN.{length, take, length-take}
+use lib.ListN.{length, take, drop, length-take}
 use lib.Seq.{take_all}
+use Rattle.std.proofs.Common.{Some, None, IfSome, le_refl, take-append-drop}
+use Rattle.std.proofs.lemmas.List.{append_cancel_right}
+use Rattle.std.specs.Io.KnownBytes.{Consumes}
+use Rattle.std.specs.declared.option.Option.{Option}
 use Rattle.lent.proofs.OverLaws.{front}
 use Rattle.grouping_colour.proofs.StreakListLaws.{length-streak_of}
 use Rattle.grouping_preprocessor.proofs.BoundLaws.{length-alternating_of, length-hit_of, length-interval_of}
@@ -61,7 +66,7 @@ module _ (kinds : List ℕ) (old : Memory) {new : Memory} (x : new ≡ encoded_k
 -- ---- the three cases of a reading
 
 module _ (text : List ℕ) {kinds₀ kinds : List ℕ} {r : Reading} (x : ReadText (trimmed text) kinds₀ kinds r) where
-  -- the kinds′ first places hold those of the letters
+  -- the kinds' first places hold those of the letters
   kinds_read : (n : ℕ) → r ≡ Letters n → kinds_of (trimmed text) ≡ take n kinds
   kinds_read n e =
       let l : length (kinds_of (trimmed text)) ≡ n = omega (arith, length-kinds (trimmed text), (read_all x n e).count) in
@@ -95,6 +100,18 @@ written-within {text} {old} {new} x =
 output_front : (n : ℕ) (text : List ℕ) → input_bytes ≤ n → letters_output (take n text) ≡ letters_output text
 unfolding letters_output
 output_front n text h = printed_front (λ (t : List ℕ). lines (columns (kinds_of t))) n text h
+
+-- a reader that has only left what follows the first bytes of its text gave those, and they are enough
+pub whole_answered : {old new : List ℕ} {count : ℕ} (known left : Option (List ℕ)) (bytes : List ℕ) → Consumes known left bytes
+    → Written (letters_output bytes) old new count
+    → IfSome known (λ text. left ≡ Some (drop input_bytes text) → Written (letters_output text) old new count)
+whole_answered None left bytes x y = tt
+whole_answered (Some text) None bytes x y = absurd x
+whole_answered (Some text) (Some rest) bytes x y = λ e.
+    let r : rest ≡ drop input_bytes text = cc in
+    let f : take input_bytes text ≡ bytes =
+    append_cancel_right (take input_bytes text) bytes rest (ap (λ l. take input_bytes text ++ l) r ∙ take-append-drop input_bytes text ∙ x) in
+    written_same (sym (output_front input_bytes text (le_refl input_bytes)) ∙ ap letters_output f) y
 
 module _ {input old new : List ℕ} {count : ℕ} where
   -- so that what is printed for the bytes read is what is printed for all of the input

@@ -5,15 +5,16 @@ use Prim.Native.Nat.{ℕ}
 use Rattle.lent.specs.Scan.{scan, end_state, tabulate, gathered}
 use Rattle.grouping_marks.specs.Marks.{opened, group_count, group_numbers, place_by_mark, group_places, sizes_from, group_sizes, firsts_from, group_firsts}
 use Rattle.grouping_chart.specs.Object.{is_note, notes, note_idx, note_before, previous_note}
-use Rattle.grouping_hits.specs.RepeatingHitPatterns.{coupled_run, hit_size, hit_marks_after, hit_marks, second_at, second_lengths, matches, nearest_match, interval_at}
-use Rattle.grouping_hits.specs.RepeatingHitPatterns.{intervals}
+use Rattle.grouping_hits.specs.RepeatingHitPatterns.{coupled_run, hit_size, hit_marks_after, hit_marks, second_at, second_lengths}
+use Rattle.grouping_hits.specs.RepeatingHitPatterns.{matches, nearest_match, interval_at, intervals}
 use Rattle.grouping_colour.specs.MonoStreak.{continues, opens_streak, streak_marks, streak_of, streak_lengths, streak_types}
 use Rattle.grouping_colour.specs.AlternatingMonoPattern.{opens_pattern, pattern_marks, coupled_at, coupled}
 use Rattle.grouping_preprocessor.specs.Preprocessor.{patterns_open, first_lengths, streak_counts, pattern_types, coupled_patterns}
 use Rattle.grouping_preprocessor.specs.Preprocessor.{hits_open, hit_sizes, hit_firsts, hit_seconds, hit_intervals, alternating_of, hit_of, interval_of}
 use Rattle.letters_text.specs.Letters.{trimmed, is_letter, kind_of, letter_of, kinds_of, first_bad, reading}
 use Rattle.letters_text.specs.Decimal.{digit_at, decimal}
-use Rattle.letters_text.specs.Lines.{line_head, parting, first_letter, next_letter, lines_after, lines_of, object_at, objects, lines, bad_line, long_line, printed}
+use Rattle.letters_text.specs.Lines.{line_head, parting, first_letter, next_letter, lines_after, lines_of, object_at, objects, lines}
+use Rattle.letters_text.specs.Lines.{bad_line, long_line, printed}
 use Rattle.letters_answer.specs.Output.{columns, letters_output}
 
 record Example : Type 0 where
@@ -44,8 +45,10 @@ examples_right : map (λ (e : Example). letters_output e.input) examples ≡ map
 unfolding examples letters_output columns scan end_state tabulate gathered
     opened group_count group_numbers place_by_mark group_places sizes_from group_sizes firsts_from group_firsts
     is_note notes note_idx note_before previous_note continues opens_streak streak_marks streak_of streak_lengths streak_types
-    opens_pattern pattern_marks coupled_at coupled coupled_run hit_size hit_marks_after hit_marks second_at second_lengths matches nearest_match interval_at intervals
-    patterns_open first_lengths streak_counts pattern_types coupled_patterns hits_open hit_sizes hit_firsts hit_seconds hit_intervals alternating_of hit_of interval_of
+    opens_pattern pattern_marks coupled_at coupled coupled_run hit_size hit_marks_after hit_marks second_at second_lengths
+    matches nearest_match interval_at intervals
+    patterns_open first_lengths streak_counts pattern_types coupled_patterns hits_open hit_sizes hit_firsts hit_seconds hit_intervals
+    alternating_of hit_of interval_of
     trimmed is_letter kind_of letter_of kinds_of first_bad reading digit_at decimal
     line_head parting first_letter next_letter lines_after lines_of object_at objects lines bad_line long_line printed
 examples_right = refl

@@ -27,4 +27,5 @@ pub record InputAnswered (input old new : List ℕ) (count : ℕ) : Type 0 where
   pub places : length input ≡ input_bytes
   pub read : ℕ
   pub within : read ≤ length input
-  pub output : (text : List ℕ) → take (length input) text ≡ take read input → Written (letters_output text) old new count
+  pub output : (text : List ℕ) → take (length input) text ≡ take read input
+      → Written (letters_output text) old new count

@@ -1,11 +1,15 @@
 // Everything that the letters program does but writing its output.
 #![tactic(auto)]
-ghost use Rattle.std.specs.Prelude.{length};
+
+ghost use Rattle.std.specs.Prelude.{◌≡◌, ◌≤◌, Some, IfSome, length, take, drop};
+ghost use Rattle.std.specs.Io.KnownBytes.{Consumes};
+ghost use Rattle.letters_text.specs.Letters.{input_bytes};
 ghost use Rattle.letters_text.specs.Lines.{lines, Written};
 ghost use Rattle.letters_answer.specs.Output.{columns, letters_output, InputAnswered};
 ghost use Rattle.letters_answer.specs.passes.Room.{LettersRoom};
 
 use letters_text::Reading;
+use std::io::Read;
 
 // 1,024 letters, a line feed, and a byte more that tells a longer input.
 pub const INPUT_BYTES: usize = 1026;
@@ -59,12 +63,34 @@ fn answer(text: &[u8], out: &mut [u8; OUTPUT_BYTES]) -> usize
     }
 }
 
-// Reads the input, as much of it as tells all, and answers it as `answer` does.
-// How many bytes there were to read no promise can say: tests/letters sees that none was passed over.
-pub fn answer_input(fd: i32, input: &mut [u8; INPUT_BYTES], out: &mut [u8; OUTPUT_BYTES]) -> usize
-    ensures { InputAnswered input.new out.old out.new result }
+// Reads until `buf` is full, or the input ends or a read fails. So many bytes stand at the front of `buf`.
+fn read_full<R: Read>(reader: &mut R, buf: &mut [u8]) -> usize
+    ensures within { result ≤ length buf.new }
+    ensures bytes { Consumes (R.remaining reader.old) (R.remaining reader.new) (take result buf.new) }
 {
-    let n = io::read_full(fd, input);
+    let mut done = 0;
+    while done < buf.len() {
+        match reader.read(&mut buf[done..]) {
+            Ok(0) | Err(_) => break,
+            Ok(n) => done += n,
+        }
+    }
+    done
+}
+
+// Reads the input, as much of it as tells all, and answers it as `answer` does. A failed read counts as its end.
+// Where the reader's bytes are known, and none of those that tell all are left, all of them are answered.
+// How many bytes standard input has no promise can say: tests/letters sees that none was passed over.
+pub fn answer_input<R: Read>(
+    reader: &mut R,
+    input: &mut [u8; INPUT_BYTES],
+    out: &mut [u8; OUTPUT_BYTES],
+) -> usize
+    ensures answered { InputAnswered input.new out.old out.new result }
+    ensures whole { IfSome (R.remaining reader.old) (λ text. R.remaining reader.new ≡ Some (drop input_bytes text)
+        → Written (letters_output text) out.old out.new result) }
+{
+    let n = read_full(reader, input);
     let text: &[u8] = input;
     answer(&text[..n], out)
 }

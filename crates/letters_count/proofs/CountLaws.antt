@@ -157,7 +157,8 @@ module _ (s : List ℕ) (at : ℕ) where
     first : Means s at (count_by at (get_or s at 0 - 48) (digit_at s (at + 1)))
     first = go (eqb (get_or s at 0) 48) refl (look s (at + 1))
       where
-        go : (b : Bool) → eqb (get_or s at 0) 48 ≡ b → NoDigit s (at + 1) ⊎ Digit s (at + 1) → Means s at (count_by at (get_or s at 0 - 48) (digit_at s (at + 1)))
+        go : (b : Bool) → eqb (get_or s at 0) 48 ≡ b → NoDigit s (at + 1) ⊎ Digit s (at + 1)
+            → Means s at (count_by at (get_or s at 0 - 48) (digit_at s (at + 1)))
         go true e k =
             let f : get_or s at 0 ≡ 48 = eqb-true _ _ e in
             rw (← count_zero at (get_or s at 0 - 48) (digit_at s (at + 1)) (omega arith) (omega arith)) (zeroed f)

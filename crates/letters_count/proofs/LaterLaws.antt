@@ -14,7 +14,7 @@ use Rattle.letters_count.specs.declared.Read.TheVariants.{Done, Refused}
 use Rattle.letters_count.specs.declared.Times.{Times}
 use Rattle.letters_count.specs.declared.Times.TheVariants.{Once, Many, Bad}
 use Rattle.letters_grammar.specs.Reading.{most_objects}
-use Rattle.letters_count.specs.passes.Counts.{from, goes_on, Room, Later, CountRead, count_at}
+use Rattle.letters_count.specs.passes.Counts.{Room, Later, CountRead, count_at}
 use Rattle.letters_count.proofs.CountLaws.{Written, Means, count-means}
 
 -- ---- what is later than a later cursor

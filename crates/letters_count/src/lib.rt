@@ -1,5 +1,6 @@
 // The count behind a letter or a bracket, and what it does: the objects of that item stand so many times.
 #![tactic(auto)]
+
 ghost use Rattle.std.specs.Prelude.{◌≡◌, ◌+◌, ◌-◌, ◌*◌, ◌≤◌, length, take};
 ghost use Rattle.lent.specs.Over.{put, part};
 ghost use Rattle.letters_grammar.specs.Reading.{repeated};

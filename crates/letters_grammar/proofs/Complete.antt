@@ -225,7 +225,8 @@ module _ (M D : ℕ) where
       let q : Bool = exchanged fs in
       let ls : List ℕ = ks ++ exchanged_if q (item_kinds i) in
       let li : length ls ≡ length ks + length (item_kinds i) = length-append ks (exchanged_if q (item_kinds i)) ∙ rw (length_if q (item_kinds i)) in
-      let both : length (item_kinds i ++ sequence_kinds s) ≡ length (item_kinds i) + length (sequence_kinds s) = length-append (item_kinds i) (sequence_kinds s) in
+      let both : length (item_kinds i ++ sequence_kinds s) ≡ length (item_kinds i) + length (sequence_kinds s) =
+      length-append (item_kinds i) (sequence_kinds s) in
       let z : p + length (item_text i) + length (sequence_text s) ≡ p + length (item_text i ++ sequence_text s) =
       omega (arith, length-append (item_text i) (sequence_text s)) in
       rw (append_assoc (item_text i) (sequence_text s) bs) (item_free i (sequence_text s ++ bs) p fs ks)

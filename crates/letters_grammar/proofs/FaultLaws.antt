@@ -164,7 +164,8 @@ module _ (M D : ℕ) (t : List ℕ) where
           let n : Reached (length ls) D t (p + 1) fs k ls = next p fs m ks refl l s (f (length ls) D (omega arith)) in
           record { within = l; adds = adds a; kinds = ls; drill = reached_closed (length ls) D t n e; many = h }
         where
-          adds : (Lettered (get_or t p 0) ⊎ ((is_digit (get_or t p 0) ≡ true) × ((is_digit (get_or t (p + 1) 0) ≡ false) ⊎ (is_tens m ≡ true)))) → AddsObjects t p
+          adds : (Lettered (get_or t p 0) ⊎ ((is_digit (get_or t p 0) ≡ true) × ((is_digit (get_or t (p + 1) 0) ≡ false) ⊎ (is_tens m ≡ true))))
+              → AddsObjects t p
           adds (inl z) = letter (a_letter z)
           adds (inr (d, inl z)) = last d z
           adds (inr (d, inr z)) = second d (reached_tens M D t r z)

@@ -44,7 +44,8 @@ module _ (M D : ℕ) where
         let ls : List ℕ = with_letter q (get_or s at 0) ks in
         place-on M D s at fs (need q) ks l (item_letter M D (get_or s at 0) fs q ks e ∙ objects-few M D fs (after (length ks)) ls h)
 
-    pub need_other : (get_or s at 0 ≡ 126 → ⊥) → (get_or s at 0 ≡ 40 → ⊥) → (Lettered (get_or s at 0) → ⊥) → run M D (drop at s) at fs (need q) ks ≡ refused 12 at
+    pub need_other : (get_or s at 0 ≡ 126 → ⊥) → (get_or s at 0 ≡ 40 → ⊥) → (Lettered (get_or s at 0) → ⊥)
+        → run M D (drop at s) at fs (need q) ks ≡ refused 12 at
     unfolding step
     need_other x y z = place_stops M D s at fs (need q) ks l (item_other M D (get_or s at 0) fs q ks x y z)
 

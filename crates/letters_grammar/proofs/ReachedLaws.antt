@@ -132,7 +132,8 @@ module _ (M D : ℕ) (t : List ℕ) where
   reached_open r = omega (arith, reached_brackets r)
 
   -- what the mode tells of the byte before
-  pub reached_after : {p : ℕ} {fs : List Bracket} {m : Mode} {ks : List ℕ} (i : ℕ) → Reached M D t p fs m ks → m ≡ after i → is_digit (get_or t (p - 1) 0) ≡ false
+  pub reached_after : {p : ℕ} {fs : List Bracket} {m : Mode} {ks : List ℕ} (i : ℕ) → Reached M D t p fs m ks → m ≡ after i
+      → is_digit (get_or t (p - 1) 0) ≡ false
   unfolding Tells
   reached_after i (start a b c d) e = never (cc)
   reached_after {p} i (next q es l js a h r x) e =
@@ -159,10 +160,10 @@ module _ (M D : ℕ) (t : List ℕ) where
     pub kinds : List ℕ
     pub here : Reached M D t q brackets mode kinds
     pub within : q < length t
-    pub brackets′ : List Bracket
-    pub mode′ : Mode
-    pub kinds′ : List ℕ
-    pub on : step_at M D t q brackets mode kinds ≡ moves brackets′ mode′ kinds′
+    pub brackets' : List Bracket
+    pub mode' : Mode
+    pub kinds' : List ℕ
+    pub on : step_at M D t q brackets mode kinds ≡ moves brackets' mode' kinds'
 
   pub passed : {p : ℕ} {fs : List Bracket} {m : Mode} {ks : List ℕ} → Reached M D t p fs m ks → (q : ℕ) → q < p → Passed q
   passed (start a b c d) q h = absurd (omega arith)
@@ -171,6 +172,6 @@ module _ (M D : ℕ) (t : List ℕ) where
       go : (q < o → Passed q) → (z : Bool) → ltb q o ≡ z → Passed q
       go ih true z = ih (ltb-true q o z)
       go ih false z =
-          let x : Passed o = record { brackets = es; mode = l; kinds = js; here = r; within = g; brackets′ = fs; mode′ = m; kinds′ = ks; on = e } in
+          let x : Passed o = record { brackets = es; mode = l; kinds = js; here = r; within = g; brackets' = fs; mode' = m; kinds' = ks; on = e } in
           let y : o ≡ q = omega (arith, ltb-false q o z) in
           rw y at x

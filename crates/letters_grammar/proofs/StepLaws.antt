@@ -1,7 +1,7 @@
 -- What a byte does, told apart by its cause, which is the same whatever the limits are: it is wrong; it turns d and k, opens or closes a bracket, or
 -- adds a letter; it begins a count of two digits, or ends a count. From the cause follows what larger limits, or another byte behind, would change.
 use mathlib.Core.Path.{◌≡◌, refl, ◌∙◌}
-use mathlib.Core.Logic.{◌⊎◌, ⊎_elim}
+use mathlib.Core.Logic.{⊎_elim}
 use mathlib.Core.Bool.{Bool, true, false, not, ◌||◌}
 use mathlib.Core.List.{List, [], ◌∷◌}
 use Prim.Native.Nat.{ℕ, ◌+◌, ◌-◌, ◌*◌, ◌≤◌, ◌<◌}

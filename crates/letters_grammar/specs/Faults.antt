@@ -1,5 +1,6 @@
 -- Where a text is at fault, in the words of request 5/12: by the grammar alone, not by how a text is read.
-use Rattle.std.specs.Prelude.{ℕ, suc, ◌+◌, ◌-◌, ◌≤◌, ◌<◌, ◌≡◌, true, false, cond, List, [], ◌∷◌, ◌++◌, eqb, length, take, get_or, replicate}
+use Rattle.std.specs.Prelude.{ℕ, suc, ◌+◌, ◌-◌, ◌≤◌, ◌<◌, ◌≡◌, true, false, eqb, cond}
+use Rattle.std.specs.Prelude.{List, [], ◌∷◌, ◌++◌, length, take, get_or, replicate}
 use Rattle.letters_grammar.specs.Letters.{opening_byte, closing_byte, is_digit, is_letter}
 use Rattle.letters_grammar.specs.Grammar.{Drill, Viable}
 

@@ -2,7 +2,8 @@
 --   text = sequence; sequence = nothing | item sequence; item = ~ item | primary | primary count;
 --   primary = d | k | n | ( item sequence ); count = 2..9 | 1..9 and then 0..9.
 -- A ~ reaches over one letter or bracket, with its count, and no further; a count over its own letter or bracket alone.
-use Rattle.std.specs.Prelude.{ℕ, zero, suc, ◌+◌, ◌-◌, ◌/◌, ◌%◌, ◌≤◌, ◌<◌, ◌≡◌, cond, List, [], ◌∷◌, ◌++◌, map, eqb, ltb, length}
+use Rattle.std.specs.Prelude.{ℕ, zero, suc, ◌+◌, ◌-◌, ◌/◌, ◌%◌, ◌≤◌, ◌<◌, ◌≡◌, eqb, ltb, cond}
+use Rattle.std.specs.Prelude.{List, [], ◌∷◌, ◌++◌, map, length}
 use Rattle.letters_grammar.specs.Letters.{opening_byte, closing_byte, tilde_byte, zero_byte, exchanged_kind}
 
 -- d, k and n

@@ -2,7 +2,7 @@
 use mathlib.Core.Path.{◌≡◌, ◌∙◌}
 use mathlib.Core.Bool.{Bool, not}
 use mathlib.Core.List.{List, [], ◌∷◌}
-use Prim.Native.Nat.{ℕ, ◌+◌, ◌-◌, ◌≤◌, ◌<◌}
+use Prim.Native.Nat.{ℕ, ◌+◌, ◌≤◌, ◌<◌}
 use native.Mathlib.Numerals.{add-one}
 use native.Mathlib.Omega.{arith}
 use lib.ListN.{length, take, get_or, set, length-set}
@@ -16,7 +16,7 @@ use Rattle.letters_count.specs.declared.Cursor.{Cursor}
 use Rattle.letters_count.specs.declared.Read.{Read}
 use Rattle.letters_count.specs.declared.Read.TheVariants.{Refused}
 use Rattle.letters_grammar.specs.Reading.{most_objects, most_brackets}
-use Rattle.letters_count.specs.passes.Counts.{from, goes_on, Room, Later, CountRead}
+use Rattle.letters_count.specs.passes.Counts.{Room, CountRead}
 use Rattle.letters_shorthand.specs.passes.Readers.{AtLetter, ItemRead}
 use Rattle.letters_count.proofs.LaterLaws.{onward, nearer}
 

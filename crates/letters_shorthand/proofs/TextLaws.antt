@@ -19,7 +19,7 @@ use Rattle.letters_shorthand.specs.declared.Reading.TheVariants as answer
 use Rattle.letters_grammar.specs.Reading.{most_objects, most_brackets}
 use Rattle.letters_shorthand.specs.Input.{most_bytes, trimmed, long, read, input_of, objects_read, answer_of, ReadText}
 use Rattle.letters_shorthand.proofs.InputLaws.{input_long, input_short}
-use Rattle.letters_count.specs.passes.Counts.{from, goes_on, Later}
+use Rattle.letters_count.specs.passes.Counts.{goes_on, Later}
 use Rattle.letters_shorthand.specs.passes.Readers.{Front, Stopped, SequenceRead, finding_of, TextRead}
 
 -- ---- one line feed at the end

@@ -1,5 +1,6 @@
 // Reads drills in shorthand: what an input is, and the kinds of a good text's objects.
 #![tactic(auto)]
+
 ghost use Rattle.letters_shorthand.specs.Input.{trimmed, ReadText};
 ghost use Rattle.letters_shorthand.specs.passes.Readers.{Front};
 

@@ -39,7 +39,8 @@ first_bad (b ∷ bs) = cond (is_letter b) (suc (first_bad bs)) 0
 -- what a trimmed text is: too long, or bad at a place, or so many letters
 unfoldable pub reading : List ℕ → Reading
 unfolding first_bad
-reading t = cond (ltb 1024 (length t)) Long (cond (ltb (first_bad t) (length t)) (Bad (first_bad t)) (Letters (length t)))
+reading t =
+    cond (ltb 1024 (length t)) Long (cond (ltb (first_bad t) (length t)) (Bad (first_bad t)) (Letters (length t)))
 
 -- what the lent kinds hold after a reading: the kinds of the letters over their front, or what they held
 unfoldable pub kinds_after : Reading → List ℕ → List ℕ → List ℕ

@@ -1,5 +1,6 @@
 // The letters program's work on lent slices, all but the encoding: what the text read is, and the text to print.
 #![tactic(auto)]
+
 ghost use Rattle.std.specs.Prelude.{◌≡◌, [], ◌∷◌, ◌+◌, ◌≤◌, ◌<◌, length};
 ghost use Rattle.lent.specs.Over.{over};
 ghost use Rattle.letters_text.specs.Letters.{trimmed, is_letter, kind_of, letter_of, kinds_of, first_bad, ReadText};

@@ -8,24 +8,24 @@ use Rattle.letters_answer.proofs.answer_letters.Statement.{statement}
 use Rattle.letters_answer.proofs.answer_letters.Tie as tie
 
 -- the entry, and where the kinds are encoded
-abbrev start : tie.After-encode-kinds → tie.Start
+abbrev start : tie.After-encode_kinds → tie.Start
 start c = c.before.before.before.before.before.before.before.before.before.before
 
-abbrev encoded : tie.After-write-lines-arg → tie.After-encode-kinds
+abbrev encoded : tie.After-write_lines-arg-1 → tie.After-encode_kinds
 encoded c = c.before.before.before.before.before.before.before.before.before.before.before.before
 
-write-lines-requires : tie.Need-write-lines-requires
+write-lines-requires : tie.Need-write_lines-requires
 write-lines-requires c κs =
     let k = encoded c in
-    lines_fit _ _ k.encode-kinds.ensures.1 (start k).pre
+    lines_fit _ _ k.encode_kinds.ensures.1 (start k).requires
 
 returns : tie.Need-returns
 returns c =
     let w = c.before.before in
-    lines-written _ _ (encoded w.before).encode-kinds.ensures.1 w.write-lines.ensures
+    lines-written _ _ (encoded w.before).encode_kinds.ensures.1 w.write_lines.ensures
 
-pub answer-letters-spec : {M : Type 1} → statement M
-answer-letters-spec =
+pub answer_letters_spec : {M : Type 1} → statement M
+answer_letters_spec =
     tie.close
     (tie.spec
     (λ c. search rules)

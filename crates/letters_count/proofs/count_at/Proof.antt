@@ -5,37 +5,37 @@ use Rattle.letters_count.proofs.DigitLaws.{by_digits, count_once, count_zero, co
 use Rattle.letters_count.proofs.count_at.Statement.{statement}
 use Rattle.letters_count.proofs.count_at.Tie as tie
 
-returns : tie.Need-returns
-returns c = by_digits _ _ _ _ _ c.before.digit_at.ensures refl (count_once _ _ _ c.if1.true)
+returns : tie.Need-returns-then-a-ge10
+returns c = by_digits _ _ _ _ _ c.before.digit_at-a.ensures refl (count_once _ _ _ c.if-a-ge10.true)
 
-returns-2 : tie.Need-returns-2
+returns-2 : tie.Need-returns-then-a-eq0
 returns-2 c =
     let first = c.before.before in
-    by_digits _ _ _ _ _ first.digit_at.ensures refl (count_zero _ _ _ c.before.if1.false c.if2.true)
+    by_digits _ _ _ _ _ first.digit_at-a.ensures refl (count_zero _ _ _ c.before.if-a-ge10.false c.if-a-eq0.true)
 
-returns-3 : tie.Need-returns-3
+returns-3 : tie.Need-returns-then-b-lt10
 returns-3 c =
     let second = c.before in
     let first = second.before.before.before in
-    by_digits _ _ _ _ _ first.digit_at.ensures second.digit-at2.ensures
-    (count_two _ _ _ second.before.before.if1.false second.before.if2.false c.if3.true)
+    by_digits _ _ _ _ _ first.digit_at-a.ensures second.digit_at-b.ensures
+    (count_two _ _ _ second.before.before.if-a-ge10.false second.before.if-a-eq0.false c.if-b-lt10.true)
 
-returns-4 : tie.Need-returns-4
+returns-4 : tie.Need-returns-then-a-eq1
 returns-4 c =
     let second = c.before.before in
     let first = second.before.before.before in
-    by_digits _ _ _ _ _ first.digit_at.ensures second.digit-at2.ensures
-    (count_short _ _ _ second.before.before.if1.false second.before.if2.false c.before.if3.false c.if4.true)
+    by_digits _ _ _ _ _ first.digit_at-a.ensures second.digit_at-b.ensures
+    (count_short _ _ _ second.before.before.if-a-ge10.false second.before.if-a-eq0.false c.before.if-b-lt10.false c.if-a-eq1.true)
 
-returns-5 : tie.Need-returns-5
+returns-5 : tie.Need-returns
 returns-5 c =
     let second = c.before.before in
     let first = second.before.before.before in
-    by_digits _ _ _ _ _ first.digit_at.ensures second.digit-at2.ensures
-    (count_one _ _ _ second.before.before.if1.false second.before.if2.false c.before.if3.false c.if4.false)
+    by_digits _ _ _ _ _ first.digit_at-a.ensures second.digit_at-b.ensures
+    (count_one _ _ _ second.before.before.if-a-ge10.false second.before.if-a-eq0.false c.before.if-b-lt10.false c.if-a-eq1.false)
 
-pub count-at-spec : {M : Type 1} → statement M
-count-at-spec =
+pub count_at_spec : {M : Type 1} → statement M
+count_at_spec =
     tie.close
     (tie.spec
     (λ c κs. search rules)

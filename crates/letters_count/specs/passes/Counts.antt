@@ -1,7 +1,8 @@
 -- What a reader asks, and what it promises of where it stopped; and the count at a place.
 use Rattle.std.specs.Prelude.{ℕ, ◌+◌, ◌-◌, ◌*◌, ◌≤◌, ◌≡◌, cond, List, eqb, ltb, leb, length, take, drop, get_or}
 use Rattle.letters_grammar.specs.Letters.{zero_byte, is_digit}
-use Rattle.letters_grammar.specs.Reading.{Bracket, Mode, free, after, Finding, refused, run, most_objects, most_brackets}
+use Rattle.letters_grammar.specs.Reading.{Bracket, Mode, free, after, Finding, refused, run}
+use Rattle.letters_grammar.specs.Reading.{most_objects, most_brackets}
 use Rattle.letters_count.specs.declared.Cursor.{Cursor}
 use Rattle.letters_count.specs.declared.Read.{Read}
 use Rattle.letters_count.specs.declared.Read.TheVariants.{Done, Refused}

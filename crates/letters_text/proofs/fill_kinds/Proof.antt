@@ -8,30 +8,30 @@ use Rattle.letters_text.proofs.LetterLaws.{length-kinds, kind_at}
 use Rattle.letters_text.proofs.fill_kinds.Statement.{statement}
 use Rattle.letters_text.proofs.fill_kinds.Tie as tie
 
-abbrev invariant-loop : tie.invariant-loop
+abbrev invariant-loop : tie.invariant-loop-i
 invariant-loop t kinds₀ i₀ kinds i = Fill (kinds_of t) (length t) 0 kinds₀ kinds i
 
-abbrev decreases-loop : tie.decreases-loop
+abbrev decreases-loop : tie.decreases-loop-i
 decreases-loop t kinds₀ i₀ kinds i = length t - i
 
-loop-holds : tie.Need-loop-init invariant-loop decreases-loop
+loop-holds : tie.Need-loop-i-init invariant-loop decreases-loop
 loop-holds c = fill_start_front _ _ _ (length-kinds _) c.before.before.requires
 
-loop-again : tie.Need-loop-preserved invariant-loop decreases-loop
+loop-again : tie.Need-loop-i-preserved invariant-loop decreases-loop
 loop-again c =
     fill_turn_front 0
-    c.before.before.before.loop.invariant
-    c.before.before.loop-test.true
-    (kind_at _ _ _ c.before.before.loop-test.true c.kind-of.ensures)
+    c.before.before.before.loop-i.invariant
+    c.before.before.loop-i-test.true
+    (kind_at _ _ _ c.before.before.loop-i-test.true c.kind_of.ensures)
 
-same_length : tie.Need-same-length invariant-loop decreases-loop
-same_length c = c.before.loop.invariant.long
+same_length : tie.Need-shape_of-kinds invariant-loop decreases-loop
+same_length c = c.before.loop-i.invariant.long
 
 returns : tie.Need-returns invariant-loop decreases-loop
-returns c = fill_end_front c.before.loop.invariant c.loop-test.false
+returns c = fill_end_front c.before.loop-i.invariant c.loop-i-test.false
 
-pub fill-kinds-spec : {M : Type 1} → statement M
-fill-kinds-spec =
+pub fill_kinds_spec : {M : Type 1} → statement M
+fill_kinds_spec =
     tie.close
     (tie.spec
     invariant-loop

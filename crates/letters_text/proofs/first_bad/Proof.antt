@@ -6,34 +6,34 @@ use Rattle.letters_text.proofs.LetterLaws.{LettersBefore, bad_start, bad_later, 
 use Rattle.letters_text.proofs.first_bad.Statement.{statement}
 use Rattle.letters_text.proofs.first_bad.Tie as tie
 
-abbrev invariant-loop : tie.invariant-loop
+abbrev invariant-loop : tie.invariant-loop-place
 invariant-loop t place₀ place = LettersBefore t place
 
-abbrev decreases-loop : tie.decreases-loop
+abbrev decreases-loop : tie.decreases-loop-place
 decreases-loop t place₀ place = length t - place
 
-loop-holds : tie.Need-loop-init invariant-loop decreases-loop
+loop-holds : tie.Need-loop-place-init invariant-loop decreases-loop
 loop-holds c = bad_start _
 
-loop-again : tie.Need-loop-preserved invariant-loop decreases-loop
+loop-again : tie.Need-loop-place-preserved invariant-loop decreases-loop
 loop-again c =
     bad_later
-    c.before.before.before.before.loop.invariant
-    c.before.before.before.loop-test.true
-    c.before.is-letter.ensures c.if1.true
+    c.before.before.before.before.loop-place.invariant
+    c.before.before.before.loop-place-test.true
+    c.before.is_letter.ensures c.if-is_letter.true
 
-returns : tie.Need-returns invariant-loop decreases-loop
+returns : tie.Need-returns-else-is_letter invariant-loop decreases-loop
 returns c =
     bad_here
-    c.before.before.before.before.loop.invariant
-    c.before.before.before.loop-test.true
-    c.before.is-letter.ensures c.if1.false
+    c.before.before.before.before.loop-place.invariant
+    c.before.before.before.loop-place-test.true
+    c.before.is_letter.ensures c.if-is_letter.false
 
-returns-2 : tie.Need-returns-2 invariant-loop decreases-loop
-returns-2 c = bad_none c.before.loop.invariant c.loop-test.false
+returns-2 : tie.Need-returns invariant-loop decreases-loop
+returns-2 c = bad_none c.before.loop-place.invariant c.loop-place-test.false
 
-pub first-bad-spec : {M : Type 1} → statement M
-first-bad-spec =
+pub first_bad_spec : {M : Type 1} → statement M
+first_bad_spec =
     tie.close
     (tie.spec
     invariant-loop

@@ -9,8 +9,8 @@ returns : tie.Need-returns
 unfolding object_at
 returns c = refl
 
-pub object-at-spec : {M : Type 1} → statement M
-object-at-spec =
+pub object_at_spec : {M : Type 1} → statement M
+object_at_spec =
     tie.close
     (tie.spec
     (λ c. omega arith)

@@ -6,10 +6,10 @@ use Rattle.letters_text.proofs.LinesLaws.{first_length}
 use Rattle.letters_text.proofs.put_first.Statement.{statement}
 use Rattle.letters_text.proofs.put_first.Tie as tie
 
-put-head-requires : tie.Need-put-head-requires
+put-head-requires : tie.Need-put_head-to-requires
 put-head-requires c κs = omega (arith, first_length c.before.before.args.o)
 
-put-byte-requires : tie.Need-put-byte-requires
+put-byte-requires : tie.Need-put_byte-requires
 put-byte-requires c κs =
     let start = c.before.before.before.before.before.before.before in
     omega (arith, first_length start.args.o)
@@ -18,8 +18,8 @@ returns : tie.Need-returns
 unfolding first_letter
 returns c =
     let letter = c.before.before.before in
-    wrote_then letter.before.before.before.before.put-head.ensures letter.letter-of.ensures c.before.before.put_byte.ensures
+    wrote_then letter.before.before.before.before.put_head-to.ensures letter.letter_of.ensures c.before.before.put_byte.ensures
 
-pub put-first-spec : {M : Type 1} → statement M
-put-first-spec =
+pub put_first_spec : {M : Type 1} → statement M
+put_first_spec =
     tie.close (tie.spec put-head-requires (λ c κs. tt) put-byte-requires (λ c. omega arith) returns)
