@@ -22,7 +22,7 @@ use Rattle.call_rhythm.specs.passes.Tables.{TablesRoom, notes_writes}
 use Rattle.call_rhythm.proofs.TablesLaws.{groups-few, length_first_objects, length-group-intervals, first_object-below, notes_left}
 use Rattle.evaluator_rhythm.specs.RepeatedInterval.{repeated_interval_penalty}
 use Rattle.call_record.specs.Record.{record_at}
-use Rattle.call_record.specs.Call.{Memory, memory, cleared}
+use Rattle.call_record.specs.Call.{memory, cleared}
 use Rattle.call_record.specs.passes.Found.{GroupRoom, located_at, locate_writes, found_at, find_writes}
 use Rattle.call_record.specs.declared.GroupRecord.{GroupRecord}
 use Rattle.call_record.specs.declared.found.LocatedGroup.{LocatedGroup}

@@ -13,7 +13,7 @@ use lib.Ieee.{Float, nan}
 use lib.Ieee.Fits.{and_l, and_r}
 use Rattle.numeric.specs.TotalOrder.{total_order}
 use Rattle.numeric_sort.specs.Ordered.{insert, ordered}
-use Rattle.numeric_sort.specs.passes.Heap.{swapped, Shuffled, same, more, Two}
+use Rattle.numeric_sort.specs.passes.Heap.{swapped, Shuffled, more, Two}
 use Rattle.numeric_sort.specs.passes.Sort.{neighbours, rising}
 use Rattle.numeric_sort.proofs.InsertLaws.{rank_le, insert_here, Numbers, none, also}
 use Rattle.numeric_sort.proofs.ShuffleLaws.{length-shuffled, numbers-shuffled, ordered-shuffled}

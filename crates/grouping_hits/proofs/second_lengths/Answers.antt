@@ -1,4 +1,3 @@
-use Prim.Native.Nat.{◌-◌}
 use lib.ListN.{length-set}
 use Rattle.lent.proofs.FillLaws.{fill_end}
 use Rattle.grouping_hits.proofs.HitLaws.{seconds-start, seconds_turn}

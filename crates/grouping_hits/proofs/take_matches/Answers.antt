@@ -1,4 +1,3 @@
-use Prim.Native.Nat.{◌-◌}
 use native.Mathlib.Omega.{arith}
 use Rattle.lent.proofs.FillLaws.{fill_end}
 use Rattle.grouping_hits.proofs.IntervalLaws.{taken_from, taken_none, taken_turn}

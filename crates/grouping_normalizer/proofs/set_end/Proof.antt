@@ -4,7 +4,6 @@ use native.Mathlib.Omega.{arith}
 use mathlib.Core.Path.{sym, ◌∙◌}
 use lib.ListN.{length}
 use borrow.Author.Rules.{rules}
-use borrow.Author.Tests.{not-true, not-false}
 use Rattle.grouping_normalizer.proofs.SetLaws.{Running, running-start, running_turn, running_stop, running-end}
 use Rattle.grouping_normalizer.proofs.set_end.Statement.{statement}
 use Rattle.grouping_normalizer.proofs.set_end.Tie as tie

@@ -1,4 +1,3 @@
-use Prim.Native.Nat.{◌-◌}
 use mathlib.Core.Path.{◌∙◌}
 use Rattle.lent.proofs.FillLaws.{fill_end}
 use Rattle.lent.proofs.StoreLaws.{table_start, table_turn}

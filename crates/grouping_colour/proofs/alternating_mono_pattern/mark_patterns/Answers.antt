@@ -1,4 +1,3 @@
-use Prim.Native.Nat.{◌-◌}
 use Rattle.lent.proofs.FillLaws.{fill_end}
 use Rattle.grouping_colour.specs.AlternatingMonoPattern.{pattern_marks}
 use Rattle.lent.proofs.StoreLaws.{fill_apart, table_start, table_turn}

@@ -1,4 +1,3 @@
-use Prim.Native.Nat.{◌-◌}
 use native.Mathlib.Numerals.{add-one}
 use native.Mathlib.Omega.{arith}
 use Rattle.grouping_same_rhythm.proofs.OwnsReach.{reaching_start, reaching_open, reaching_turn, reaching_end}

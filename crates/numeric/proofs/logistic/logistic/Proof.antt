@@ -1,6 +1,5 @@
 -- `logistic::logistic` meets its contract: the slice is the list of the bit patterns, each read as a float.
 use mathlib.Core.Path.{◌≡◌, refl, sym, ap, ◌∙◌}
-use mathlib.Core.List.{List}
 use borrow.Author.Rules.{rules}
 use native.Mathlib.Omega.{arith}
 use lib.ListN.{length, get_or-eq_default}
