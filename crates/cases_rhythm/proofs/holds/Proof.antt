@@ -16,7 +16,9 @@ call-holds-requires c κs =
 
 returns-2 : tie.Need-returns-then-rhythm_formed
 unfolding RhythmHolds
-returns-2 c = well_formed c.before.before.before.if-n-gt-MOST_OBJECTS.false c.before.before.rhythm_formed.ensures c.before.if-rhythm_formed.true c.call_holds.ensures
+returns-2 c =
+    well_formed c.before.before.before.if-n-gt-MOST_OBJECTS.false c.before.before.rhythm_formed.ensures c.before.if-rhythm_formed.true
+    c.call_holds.ensures
 
 returns-3 : tie.Need-returns
 unfolding RhythmHolds
