@@ -1,8 +1,9 @@
 -- The cases of a digit, and of a count by its digits.
-use mathlib.Core.Path.{◌≡◌, ◌∙◌}
+use mathlib.Core.Path.{◌≡◌, refl, ◌∙◌}
 use mathlib.Core.Bool.{true, false}
 use mathlib.Core.List.{List}
 use Prim.Native.Nat.{ℕ, ◌+◌, ◌-◌, ◌*◌, ◌≤◌, ◌<◌}
+use native.Mathlib.Omega.{arith}
 use borrow.Author.Tests.{lt-ltb, le-ltb, le-leb, lt-leb, eq-eqb, ne_eqb}
 use lib.ListN.{length, get_or}
 use Rattle.letters_grammar.specs.Letters.{is_digit}
@@ -53,3 +54,8 @@ module _ (p a b : ℕ) where
 pub by_digits : (s : List ℕ) (p a b : ℕ) (r : Times) → a ≡ digit_at s p → b ≡ digit_at s (p + 1) → r ≡ count_by p a b → r ≡ count_at s p
 unfolding count_at
 by_digits s p a b r x y e = e ∙ rw (x, y)
+
+-- a first digit 0 is refused
+pub zero_refused : (s : List ℕ) (p : ℕ) → digit_at s p ≡ 0 → Bad p ≡ count_at s p
+zero_refused s p e =
+    by_digits s p (digit_at s p) (digit_at s (p + 1)) (Bad p) refl refl (count_zero p (digit_at s p) (digit_at s (p + 1)) (omega arith) e)

@@ -53,6 +53,7 @@ fn digit_at(s: &[u8], at: usize) -> usize
 }
 
 // The count at a place: a first digit is no 0, and a lone one is no 1.
+#[tactic(auto, using(crate::proofs::DigitLaws::zero_refused))]
 fn count_at(s: &[u8], at: usize) -> Times
     requires { at ≤ length s.now }
     ensures { result ≡ count_at s.now at }
