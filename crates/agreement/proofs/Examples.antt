@@ -17,7 +17,8 @@ use Rattle.grouping_chart.specs.Settings.{base_settings}
 use Rattle.grouping_hits.specs.RepeatingHitPatterns.{coupled_run, hit_size, hit_marks_after, hit_marks}
 use Rattle.grouping_colour.specs.MonoStreak.{continues, opens_streak, streak_marks, streak_of, streak_lengths, streak_types}
 use Rattle.grouping_colour.specs.AlternatingMonoPattern.{opens_pattern, pattern_marks, coupled_at, coupled}
-use Rattle.grouping_preprocessor.specs.Preprocessor.{patterns_open, first_lengths, streak_counts, pattern_types, coupled_patterns, hits_open, alternating_of, hit_of}
+use Rattle.grouping_preprocessor.specs.Preprocessor.{patterns_open, first_lengths, streak_counts, pattern_types, coupled_patterns, hits_open, alternating_of}
+use Rattle.grouping_preprocessor.specs.Preprocessor.{hit_of}
 use Rattle.evaluator_values.specs.Colour.{values_of}
 use Rattle.call_colour.specs.Stretch.{has_note, stretch_refusal, GoodStretch, chart_mean}
 use Rattle.agreement.specs.CommonTail.{SameLast}

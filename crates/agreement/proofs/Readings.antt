@@ -75,7 +75,8 @@ module _ {A : Type 0} (numbers : List A → List ℕ) (reading : Reading A) (bef
       let e₁ = all_rest _ _ e in
       let e₂ = all_rest _ _ e₁ in
       let inside : offset < length tail = ltb-true _ _ (all_first _ _ e) in
-      let none = found_none i (λ (j : ℕ). eqb (get_or (numbers (before ++ tail)) j 0) (get_or (numbers (before ++ tail)) i 0)) (not-true _ (all_first _ _ e₂)) in
+      let none = found_none i (λ (j : ℕ). eqb (get_or (numbers (before ++ tail)) j 0) (get_or (numbers (before ++ tail)) i 0)) (not-true _ (all_first _ _ e₂))
+      in
       let earlier = any_found _ _ (not-false _ (not-true _ (all_first _ _ (all_rest _ _ e₂)))) in
       let far : Counterparts (length (before ++ tail)) (length (before' ++ tail)) i i' = omega (arith, length-append before tail, length-append before' tail) in
       let same = claim (before ++ tail) (before' ++ tail) (length tail) i i' same_tail far (all_first _ _ e₁) in

@@ -25,8 +25,10 @@ use Rattle.grouping_hits.specs.RepeatingHitPatterns.{coupled_run, hit_size, hit_
 use Rattle.grouping_hits.specs.RepeatingHitPatterns.{matches, nearest_match, interval_at, intervals}
 use Rattle.grouping_colour.specs.MonoStreak.{continues, opens_streak, streak_marks, streak_of, streak_lengths, streak_types}
 use Rattle.grouping_colour.specs.AlternatingMonoPattern.{opens_pattern, pattern_marks, coupled_at, coupled}
-use Rattle.grouping_preprocessor.specs.Preprocessor.{patterns_open, first_lengths, streak_counts, pattern_types, coupled_patterns, hits_open, hit_count, hit_sizes}
-use Rattle.grouping_preprocessor.specs.Preprocessor.{hit_firsts, hit_seconds, hit_intervals, streak_place_of, alternating_of, pattern_place_of, hit_of, interval_of}
+use Rattle.grouping_preprocessor.specs.Preprocessor.{patterns_open, first_lengths, streak_counts, pattern_types, coupled_patterns, hits_open, hit_count}
+use Rattle.grouping_preprocessor.specs.Preprocessor.{hit_sizes}
+use Rattle.grouping_preprocessor.specs.Preprocessor.{hit_firsts, hit_seconds, hit_intervals, streak_place_of, alternating_of, pattern_place_of, hit_of}
+use Rattle.grouping_preprocessor.specs.Preprocessor.{interval_of}
 use Rattle.grouping_interval.specs.Notes.{of_notes}
 use Rattle.evaluator_colour.specs.Formulas.{hit_value, alt_value, mono_value, add_if, object_sum}
 use Rattle.evaluator_colour.specs.RatioPenalty.{lowered, ratio_penalty}
@@ -153,12 +155,19 @@ stretched e = shown (stretch_outcome base_settings (chart e.ratio e.kinds) e.a e
 -- every one of the two lists comes out as it says
 pub examples_right : (map coloured examples ≡ map (λ (e : Example). e.outcome) examples)
     × (map stretched stretches ≡ map (λ (e : StretchExample). e.outcome) stretches)
-unfolding examples stretches coloured stretched chart lent shown answered colour_outcome stretch_outcome refused_then stretch_refusal has_note chart_tenths tenths_of
-    chart_mean average_of stretch_values of_notes sum_from part of_int any_short short_refusal verdict equally_long first_refused object_refusal time_good ratio_good within
-    filled colour_values colour_at standing_at is_first over tabulate scan end_state gathered opened group_count group_numbers place_by_mark group_places sizes_from
-    group_sizes firsts_from group_firsts is_note notes note_idx note_before previous_note continues opens_streak streak_marks streak_of streak_lengths streak_types
-    opens_pattern pattern_marks coupled_at coupled coupled_run hit_size hit_marks_after hit_marks second_at second_lengths matches nearest_match interval_at intervals
-    patterns_open first_lengths streak_counts pattern_types coupled_patterns hits_open hit_count hit_sizes hit_firsts hit_seconds hit_intervals streak_place_of alternating_of
-    pattern_place_of hit_of interval_of object_sum hit_value alt_value mono_value add_if ratio_penalty lowered eight_tenths logistic_at table_bits is_near round add sub mul
+unfolding examples stretches coloured stretched chart lent shown answered colour_outcome stretch_outcome refused_then stretch_refusal has_note chart_tenths
+    tenths_of
+    chart_mean average_of stretch_values of_notes sum_from part of_int any_short short_refusal verdict equally_long first_refused object_refusal time_good
+    ratio_good within
+    filled colour_values colour_at standing_at is_first over tabulate scan end_state gathered opened group_count group_numbers place_by_mark group_places
+    sizes_from
+    group_sizes firsts_from group_firsts is_note notes note_idx note_before previous_note continues opens_streak streak_marks streak_of streak_lengths
+    streak_types
+    opens_pattern pattern_marks coupled_at coupled coupled_run hit_size hit_marks_after hit_marks second_at second_lengths matches nearest_match interval_at
+    intervals
+    patterns_open first_lengths streak_counts pattern_types coupled_patterns hits_open hit_count hit_sizes hit_firsts hit_seconds hit_intervals streak_place_of
+    alternating_of
+    pattern_place_of hit_of interval_of object_sum hit_value alt_value mono_value add_if ratio_penalty lowered eight_tenths logistic_at table_bits is_near round
+    add sub mul
     div le of_bits to_bits
 examples_right = (refl, refl)

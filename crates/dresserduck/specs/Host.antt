@@ -43,7 +43,8 @@ stretched_of (stretching.Refused number place) =
     record { refusal = number; place = place.0; mean = of_bits binary64 0; tenths = pos 0 }
 
 unfoldable pub grouped_of : Grouping → Grouped
-grouped_of (grouping.Done groups patterns) = record { refusal = 0; place = 0; groups = groups; patterngroups = patterns }
+grouped_of (grouping.Done groups patterns) = record
+    { refusal = 0; place = 0; groups = groups; patterngroups = patterns }
 grouped_of (grouping.Refused number place) = record { refusal = number; place = place.0; groups = 0; patterngroups = 0 }
 
 -- an own interval, absent or not, and its bits

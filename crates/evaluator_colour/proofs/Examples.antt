@@ -28,7 +28,8 @@ hundredth = round binary64 false 1 100
 
 -- ---- the scope's example d, whose idx is 0: by the definitions, and term by term
 shown_d : to_bits binary64 (mul binary64 (object_sum (standing 17 0 0 true true true)) (ratio_penalty hundredth 0 one64 one64)) ≡ 0x4013ee42c8384268
-unfolding object_sum hit_value alt_value mono_value add_if logistic_at table_bits ratio_penalty lowered hundredth is_near of_bits to_bits round add sub mul div le
+unfolding object_sum hit_value alt_value mono_value add_if logistic_at table_bits ratio_penalty lowered hundredth is_near of_bits to_bits round add sub mul div
+    le
 shown_d = refl
 
 -- T(0) × (T(0) × 2) × 0.5 and T(0) × 2 and 2, summed in this order

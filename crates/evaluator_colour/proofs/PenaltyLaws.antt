@@ -44,5 +44,6 @@ one_number : Number one64
 unfolding fits
 one_number = record { is_finite = tt; is_held = tt }
 
-pub own-near : (tolerance p : Float) → T (le zero64 tolerance) → T (le least_ratio p) → T (le p greatest_ratio) → is_near tolerance one64 (div binary64 p p) ≡ true
+pub own-near : (tolerance p : Float) → T (le zero64 tolerance) → T (le least_ratio p) → T (le p greatest_ratio)
+    → is_near tolerance one64 (div binary64 p p) ≡ true
 own-near tolerance p t lo hi = ap (is_near tolerance one64) (range_quotient p lo hi) ∙ near_self tolerance one_number t

@@ -48,7 +48,8 @@ larger x y = cond (le y x) x y
 
 -- 1.0 less twice the duration's part of the window, and 0.5 at least
 unfoldable pub duration_penalty : Float → Float → Float
-duration_penalty duration window = larger (sub binary64 one64 (div binary64 (mul binary64 duration two64) window)) half64
+duration_penalty duration window = larger (sub binary64 one64 (div binary64 (mul binary64 duration two64) window))
+    half64
 
 -- of a group with this many notes, from its first start to its last: with six notes the longer walk is left out
 unfoldable pub repeated_interval_penalty : Float → Recent → ℕ → Float → Float → Float

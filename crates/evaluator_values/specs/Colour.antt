@@ -6,7 +6,8 @@ use Rattle.lent.specs.Scan.{tabulate}
 use Rattle.grouping_chart.specs.Chart.{Chart}
 use Rattle.grouping_chart.specs.Settings.{Settings}
 use Rattle.grouping_colour.specs.MonoStreak.{streak_of}
-use Rattle.grouping_preprocessor.specs.Preprocessor.{streak_place_of, alternating_of, pattern_place_of, hit_of, interval_of}
+use Rattle.grouping_preprocessor.specs.Preprocessor.{streak_place_of, alternating_of, pattern_place_of, hit_of}
+use Rattle.grouping_preprocessor.specs.Preprocessor.{interval_of}
 use Rattle.evaluator_colour.specs.declared.Standing.{Standing}
 use Rattle.evaluator_colour.specs.Formulas.{object_sum}
 use Rattle.evaluator_colour.specs.RatioPenalty.{ratio_penalty}

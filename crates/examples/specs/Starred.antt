@@ -14,7 +14,8 @@ bits_of_one = 0x3ff0_0000_0000_0000
 -- six answers, each with a place to spare, and the work slices cleared as far as n objects need
 unfoldable pub encoding : ℕ → ℕ → List ℕ → List ℕ → List ℕ → List ℕ → List ℕ → List ℕ → List (List ℕ)
 encoding n hits streak streak_place pattern pattern_place hit interval =
-    (0 ∷ hits ∷ []) ∷ spare streak ∷ spare streak_place ∷ spare pattern ∷ spare pattern_place ∷ spare hit ∷ spare interval
+    (0 ∷ hits ∷ []) ∷ spare streak ∷ spare streak_place ∷ spare pattern ∷ spare pattern_place ∷ spare hit ∷ spare
+    interval
     ∷ (replicate (8 * n) 0 ++ (77 ∷ [])) ∷ (replicate n 0 ++ (bits_of_one ∷ [])) ∷ []
   where
     spare : List ℕ → List ℕ

@@ -81,7 +81,8 @@ module _ (front back : List ℕ) (u : Uneven front back) where
       → group_firsts (pattern_marks (front ++ back)) (xs ++ ys) ≡ group_firsts (pattern_marks front) xs ++ group_firsts (pattern_marks back) ys
   listed_cut xs ys e f =
       rw (pattern_marks-cut front back u)
-      (firsts-cut (pattern_marks front) (pattern_marks back) xs ys (pattern_marks-opening back) (length-pattern_marks front ∙ e) (length-pattern_marks back ∙ f))
+      (firsts-cut (pattern_marks front) (pattern_marks back) xs ys (pattern_marks-opening back) (length-pattern_marks front ∙ e)
+      (length-pattern_marks back ∙ f))
 
 -- ---- coupled patterns
 module _ (ls ls' cs cs' ts ts' : List ℕ) (e : length cs ≡ length ls) (f : length ts ≡ length ls) where

@@ -25,7 +25,8 @@ after_seen : (s : Seen) (ks : List ℕ) → end_state seen_next s ks ≡ seen_af
 after_seen s [] = after_none seen_next s ∙ sym (seen_after_none s)
 after_seen s (k ∷ ks) = after_first seen_next s k ks ∙ after_seen (seen_next s k) ks ∙ sym (seen_after_first s k ks)
 
-get_or_seen : (s : Seen) (ks : List ℕ) (i : ℕ) → i < length ks → get_or (scan seen_next opens_seen s ks) i 0 ≡ opens_seen (seen_after s (take i ks)) (get_or ks i 0)
+get_or_seen : (s : Seen) (ks : List ℕ) (i : ℕ) → i < length ks
+    → get_or (scan seen_next opens_seen s ks) i 0 ≡ opens_seen (seen_after s (take i ks)) (get_or ks i 0)
 get_or_seen s ks i h = rw (get_or-scan seen_next opens_seen s ks i 0 0 h, after_seen s (take i ks))
 
 opens_seen_lem : (kinds : List ℕ) (i : ℕ) → opens_streak kinds i ≡ opens_seen (seen_after seen₀ (take i kinds)) (get_or kinds i 0)

@@ -55,7 +55,8 @@ module _ (w : List ℕ) (lengths marks m i : ℕ) (t : Pair w lengths marks m) w
   inside : i + 1 < m → i + 1 < length (part lengths m w)
   inside h = omega (arith, long)
 
-  pub second-inside : i + 1 < m → cond (eqb (get_or w (marks + (i + 1)) 0) 0) (get_or w (lengths + (i + 1)) 0) 0 ≡ second_at (part lengths m w) (part marks m w) i
+  pub second-inside : i + 1 < m → cond (eqb (get_or w (marks + (i + 1)) 0) 0) (get_or w (lengths + (i + 1)) 0) 0 ≡ second_at (part lengths m w) (part marks m w)
+      i
   unfolding second_at
   second-inside h = rw (lt-ltb _ _ (inside h), read_at marks m w (i + 1) (marks + (i + 1)) h refl, read_at lengths m w (i + 1) (lengths + (i + 1)) h refl)
 

@@ -28,7 +28,8 @@ grown_from margin v at h =
     rw (drop-cons v at nan h) (grown margin v at h)
 
 -- on what stands from `at` on, and on how many values there are
-pub end_same : (margin : Float) (xs ys : List Float) (at : ℕ) → length xs ≡ length ys → drop at xs ≡ drop at ys → group_end margin xs at ≡ group_end margin ys at
+pub end_same : (margin : Float) (xs ys : List Float) (at : ℕ) → length xs ≡ length ys → drop at xs ≡ drop at ys
+    → group_end margin xs at ≡ group_end margin ys at
 end_same margin xs ys at l e = by (ltb at (length xs)) refl
   where
     by : (b : Bool) → ltb at (length xs) ≡ b → group_end margin xs at ≡ group_end margin ys at

@@ -155,7 +155,8 @@ module _ (margin : Float) (values : List Float) (at : ℕ) where
   unfolding marks_from
   marks_at h =
       ap (marks_from margin (ltb 2 (length values))) (drop-cons values at nan h)
-      ∙ by (ltb 2 (length values)) (get_or values at nan) _ _ (grown h) (marks_grow margin (ltb 2 (length values)) (get_or values at nan) (drop (suc at) values))
+      ∙ by (ltb 2 (length values)) (get_or values at nan) _ _ (grown h)
+      (marks_grow margin (ltb 2 (length values)) (get_or values at nan) (drop (suc at) values))
     where
       by : (many : Bool) (x : Float) (g end : ℕ) → end ≡ suc at + g
           → marks_after margin many x (drop (suc at) values) ≡ replicate g 0 ++ marks_from margin many (drop g (drop (suc at) values))

@@ -151,7 +151,8 @@ module _ (ks : List ℕ) (i : ℕ) where
   objects-step b h e = rw (drop-cons ks i 0 h, e, add-one i)
 
   pub of_notes-step : (b : Bool) (ds : List Float) → i < length ks → length ds ≡ length ks → is_note (get_or ks i 0) ≡ b
-      → of_notes (drop i ks) (drop i ds) ≡ cond b (get_or ds i nan ∷ of_notes (drop (i + 1) ks) (drop (i + 1) ds)) (of_notes (drop (i + 1) ks) (drop (i + 1) ds))
+      → of_notes (drop i ks) (drop i ds) ≡ cond b (get_or ds i nan ∷ of_notes (drop (i + 1) ks) (drop (i + 1) ds))
+      (of_notes (drop (i + 1) ks) (drop (i + 1) ds))
   unfolding of_notes
   of_notes-step b ds h l e = rw (drop-cons ks i 0 h, drop-cons ds i nan (omega arith), e, add-one i)
 

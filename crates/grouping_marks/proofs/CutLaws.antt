@@ -36,7 +36,8 @@ unfolding sizes_from
 sizes_from_lem p [] m ms z = rw (ne_eqb m 0 z)
 sizes_from_lem p (f ∷ fs) m ms z = by (eqb f 0) (sizes_from_lem (p + 1) fs m ms z) (sizes_from_lem 1 fs m ms z)
   where
-    by : (b : Bool) → sizes_from (p + 1) (fs ++ m ∷ ms) ≡ sizes_from (p + 1) fs ++ sizes_from 1 ms → sizes_from 1 (fs ++ m ∷ ms) ≡ sizes_from 1 fs ++ sizes_from 1 ms
+    by : (b : Bool) → sizes_from (p + 1) (fs ++ m ∷ ms) ≡ sizes_from (p + 1) fs ++ sizes_from 1 ms
+        → sizes_from 1 (fs ++ m ∷ ms) ≡ sizes_from 1 fs ++ sizes_from 1 ms
         → cond b (sizes_from (p + 1) (fs ++ m ∷ ms)) (p ∷ sizes_from 1 (fs ++ m ∷ ms)) ≡ cond b (sizes_from (p + 1) fs) (p ∷ sizes_from 1 fs) ++ sizes_from 1 ms
     by true u v = u
     by false u v = rw v

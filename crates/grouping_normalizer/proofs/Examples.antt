@@ -43,7 +43,8 @@ examples =
 
 -- every list comes out as it says
 examples_right : map (λ (e : Example). bits (normalized margin e.deltas)) examples ≡ map (λ (e : Example). e.normal) examples
-unfolding examples margin whole bits normalized normal_of middle_of middle holds sets sets_after distinct unrepeated alike ordered insert total_order is_near abs_of
+unfolding examples margin whole bits normalized normal_of middle_of middle holds sets sets_after distinct unrepeated alike ordered insert total_order is_near
+    abs_of
     add sub div le lt eq of_int to_bits round
 examples_right = refl
 

@@ -70,14 +70,16 @@ module _ {margin : Float} {values : List Float} {at last : ℕ} (x : Running mar
   ends : last + 1 ≡ set_end margin values at → SetEnd margin values at (last + 1)
   ends e = record { position = e; on = omega (arith, x.from); upto = omega (arith, x.inside) }
 
-  pub running_turn : last + 1 < length values → is_near margin (get_or values (last + 1) nan) (get_or values at nan) ≡ true → Running margin values at (last + 1)
+  pub running_turn : last + 1 < length values → is_near margin (get_or values (last + 1) nan) (get_or values at nan) ≡ true
+      → Running margin values at (last + 1)
   running_turn h e = record {
     from = omega (arith, x.from);
     inside = h;
     same = omega (arith, running-near margin (get_or values at nan) values (last + 1) h e, x.same);
   }
 
-  pub running_stop : last + 1 < length values → is_near margin (get_or values (last + 1) nan) (get_or values at nan) ≡ false → SetEnd margin values at (last + 1)
+  pub running_stop : last + 1 < length values → is_near margin (get_or values (last + 1) nan) (get_or values at nan) ≡ false
+      → SetEnd margin values at (last + 1)
   running_stop h e = ends (omega (arith, running_far margin (get_or values at nan) values (last + 1) h e, x.same))
 
   pub running-end : length values ≤ last + 1 → SetEnd margin values at (last + 1)

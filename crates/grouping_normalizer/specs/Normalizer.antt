@@ -1,7 +1,8 @@
 -- What each delta of one group counts as (scope: delta_time_normalizer.rs). The deltas that differ are put in order and
 -- cut into sets, each of those near its first value; a delta counts as the middle of its set. What is near is told by a
 -- margin, 5.0 in every call.
-use Rattle.std.specs.Prelude.{◌-◌, ◌/◌, ◌%◌, ◌≡◌, Bool, false, cond, ◌&&◌, ◌||◌, List, [], ◌∷◌, ◌++◌, map, eqb, length, get_or, Float}
+use Rattle.std.specs.Prelude.{◌-◌, ◌/◌, ◌%◌, ◌≡◌, Bool, false, cond, ◌&&◌, ◌||◌, List, [], ◌∷◌, ◌++◌, map, eqb, length}
+use Rattle.std.specs.Prelude.{get_or, Float}
 use Rattle.std.specs.Float.{nan, binary64}
 use Rattle.std.specs.Float.Ieee.{add, div}
 use Rattle.numeric.specs.Constants.{two64}

@@ -14,7 +14,8 @@ use Rattle.grouping_hits.proofs.LengthLaws.{length-hit_marks}
 use Rattle.grouping_hits.proofs.RangeLaws.{interval_range, interval_byte}
 use Rattle.grouping_colour.specs.MonoStreak.{streak_marks, streak_of, streak_lengths}
 use Rattle.grouping_preprocessor.specs.Preprocessor.{patterns_open, first_lengths, streak_counts, pattern_types, coupled_patterns, hits_open, hit_count}
-use Rattle.grouping_preprocessor.specs.Preprocessor.{hit_sizes, hit_firsts, hit_seconds, hit_intervals, streak_place_of, alternating_of, pattern_place_of, hit_of}
+use Rattle.grouping_preprocessor.specs.Preprocessor.{hit_sizes, hit_firsts, hit_seconds, hit_intervals, streak_place_of, alternating_of, pattern_place_of}
+use Rattle.grouping_preprocessor.specs.Preprocessor.{hit_of}
 use Rattle.grouping_preprocessor.specs.Preprocessor.{interval_of}
 use Rattle.grouping_colour.proofs.LengthLaws.{length-pattern_marks, length-coupled}
 use Rattle.grouping_colour.proofs.StreakListLaws.{length-streak_of, length-streak_lengths, streak-below}

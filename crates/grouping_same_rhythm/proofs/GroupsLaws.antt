@@ -18,7 +18,8 @@ pub length-starts : (starts : List Float) (objects : List ℕ) → length (start
 unfolding starts_of
 length-starts starts objects = length-map objects (λ (i : ℕ). get_or starts i nan)
 
-start_at_lem : (starts : List Float) (objects : List ℕ) (k : ℕ) → k < length objects → get_or (starts_of starts objects) k nan ≡ get_or starts (get_or objects k 0) nan
+start_at_lem : (starts : List Float) (objects : List ℕ) (k : ℕ) → k < length objects
+    → get_or (starts_of starts objects) k nan ≡ get_or starts (get_or objects k 0) nan
 unfolding starts_of
 start_at_lem starts objects k h = get_or-map (λ (i : ℕ). get_or starts i nan) objects k 0 nan h
 

@@ -57,7 +57,8 @@ module _ {A : Type 0} where
   fill_end {g} {n} {to} {w₀} {w} {i} x h = x.written ∙ put_all to g w₀ i (omega arith)
 
   -- what is not written yet is as it was
-  pub fill_unread : {g : List A} {n to : ℕ} {w₀ w : List A} {i : ℕ} (j : ℕ) (d : A) → Fill g n to w₀ w i → (j < to) ⊎ (to + i ≤ j) → get_or w j d ≡ get_or w₀ j d
+  pub fill_unread : {g : List A} {n to : ℕ} {w₀ w : List A} {i : ℕ} (j : ℕ) (d : A) → Fill g n to w₀ w i → (j < to) ⊎ (to + i ≤ j)
+      → get_or w j d ≡ get_or w₀ j d
   fill_unread {g} {n} {to} {w₀} {w} {i} j d x h = rw x.written (unread to g w₀ i j d (omega arith) (omega arith) h)
 
   -- a loop that has stored j elements and reads element i of m places of the same slice, as `Room` allows

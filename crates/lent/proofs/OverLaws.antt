@@ -116,7 +116,8 @@ module _ {A : Type 0} where
   get_or-put_before a new old j d r h =
       sym (get_or-take a (put a new old) j d h) ∙ ap (λ (l : List A). get_or l j d) (take-put a a new old (omega arith) r) ∙ get_or-take a old j d h
 
-  pub get_or-put_after : (a : ℕ) (new old : List A) (j : ℕ) (d : A) → a + length new ≤ length old → a + length new ≤ j → get_or (put a new old) j d ≡ get_or old j d
+  pub get_or-put_after : (a : ℕ) (new old : List A) (j : ℕ) (d : A) → a + length new ≤ length old → a + length new ≤ j
+      → get_or (put a new old) j d ≡ get_or old j d
   unfolding put
   get_or-put_after zero new old j d r h = get_or-over_past new old j d (omega arith) (omega arith)
   get_or-put_after (suc a) new [] j d r h = absurd (omega arith)

@@ -115,7 +115,8 @@ module _ {old values : List Float} {root end at : ℕ} (s : Sinking old values r
   }
 
   -- the later child is not behind
-  pub sinking_rest : {child : ℕ} → LaterChild values at end child → total_order (get_or values child nan) (get_or values at nan) ≡ true → Sunk old values root end
+  pub sinking_rest : {child : ℕ} → LaterChild values at end child → total_order (get_or values child nan) (get_or values at nan) ≡ true
+      → Sunk old values root end
   sinking_rest {child} k e = record {
     shuffled = s.shuffled;
     heap = record {

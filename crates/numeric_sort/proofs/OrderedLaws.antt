@@ -58,7 +58,8 @@ numbers-ordered none = none
 numbers-ordered (also p n) = numbers-insert p (numbers-ordered n)
 
 -- v in the place of another value
-replaced : {xs : List Float} {v : Float} (i : ℕ) → Numbers xs → Number v → i < length xs → insert (get_or xs i nan) (ordered (set xs i v)) ≡ insert v (ordered xs)
+replaced : {xs : List Float} {v : Float} (i : ℕ) → Numbers xs → Number v → i < length xs
+    → insert (get_or xs i nan) (ordered (set xs i v)) ≡ insert v (ordered xs)
 unfolding ordered
 replaced i none q h = absurd (not-suc-le-zero h)
 replaced zero (also p n) q h = insert_commute p q (numbers-ordered n)

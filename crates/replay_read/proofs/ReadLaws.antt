@@ -1,17 +1,18 @@
 -- A case that was read is what its head says, and each case that was read is counted.
-use mathlib.Core.Path.{◌≡◌, refl, sym, ap, ◌∙◌}
+use mathlib.Core.Path.{◌≡◌, refl, sym, ◌∙◌}
 use mathlib.Core.List.{List, []}
 use Prim.Native.Nat.{ℕ, ◌≤◌}
 use native.Mathlib.Omega.{arith}
 use Rattle.vectors.specs.Case.{head_of}
 use Rattle.vectors.specs.declared.case.Head.{Head}
 use Rattle.replay_cases.specs.Cases.{follows_in}
-use Rattle.replay_cases.specs.Count.{at_start, after_case, ended_with, After, spare_of}
+use Rattle.replay_cases.specs.Count.{at_start, After, spare_of}
 use Rattle.replay_cases.specs.declared.Next.{Next}
 use Rattle.replay_cases.specs.declared.Next.TheVariants.{Body, Part}
 use Rattle.replay_cases.specs.declared.count.Replay.{Replay}
 use Rattle.replay_cases.specs.declared.count.Replayed.{Replayed}
 use Rattle.replay_cases.specs.declared.count.Replayed.TheVariants.{End}
+use Rattle.replay_cases.proofs.CountLaws.{end_none}
 use Rattle.replay_read.specs.Read.{ChartRead, PartRead, CaseRead, Counted, FileRead}
 use Rattle.replay_read.specs.Read.CaseRead.{of_chart, of_part, ended}
 use Rattle.replay_read.specs.Read.Counted.{none, more}
@@ -38,7 +39,6 @@ module _ {call : ℕ} {r : Replay} {body : List ℕ} where
 
 -- a file of which nothing was read: it ended where it began
 pub nothing_read : {r s : Replay} (call : ℕ) → r ≡ at_start → After r End s → FileRead call s
-unfolding after_case ended_with
 nothing_read call e z =
     let first : CaseRead call _ [] [] [] [] End = ended in
-    counted_all (counted-more (counted_none e) first z) (omega (arith, ap (λ (x : Replay). x.left) z.counted))
+    counted_all (counted-more (counted_none e) first z) (end_none _ z.counted)

@@ -16,7 +16,8 @@ use Rattle.grouping_hits.specs.RepeatingHitPatterns.{coupled_run, hit_size, hit_
 use Rattle.grouping_hits.specs.RepeatingHitPatterns.{nearest_match, interval_at, intervals}
 use Rattle.grouping_colour.specs.MonoStreak.{continues, opens_streak, streak_marks, streak_of, streak_lengths, streak_types}
 use Rattle.grouping_colour.specs.AlternatingMonoPattern.{opens_pattern, pattern_marks, coupled_at, coupled}
-use Rattle.grouping_preprocessor.specs.Preprocessor.{patterns_open, first_lengths, streak_counts, pattern_types, coupled_patterns, hits_open, hit_sizes, hit_firsts}
+use Rattle.grouping_preprocessor.specs.Preprocessor.{patterns_open, first_lengths, streak_counts, pattern_types, coupled_patterns, hits_open, hit_sizes}
+use Rattle.grouping_preprocessor.specs.Preprocessor.{hit_firsts}
 use Rattle.grouping_preprocessor.specs.Preprocessor.{hit_seconds, hit_intervals, alternating_of, hit_of, interval_of}
 use Rattle.agreement.specs.passes.Tests.{all_true, any_below}
 use Rattle.agreement.specs.passes.LandmarkTest.{LevelLists, levels_of, Conditions, tail_note_before, object_serves, streak_serves, pattern_serves, plain}
@@ -172,6 +173,8 @@ record TooEarly : Type 0 where
 too_early : TooEarly
 unfolding long runs scan end_state tabulate gathered opened group_numbers place_by_mark group_sizes sizes_from group_firsts firsts_from
     is_note notes note_idx note_before previous_note continues opens_streak streak_marks streak_of streak_lengths streak_types
-    opens_pattern pattern_marks coupled_at coupled coupled_run hit_size hit_marks_after hit_marks second_at second_lengths matches nearest_match interval_at intervals
-    patterns_open first_lengths streak_counts pattern_types coupled_patterns hits_open hit_sizes hit_firsts hit_seconds hit_intervals alternating_of hit_of interval_of
+    opens_pattern pattern_marks coupled_at coupled coupled_run hit_size hit_marks_after hit_marks second_at second_lengths matches nearest_match interval_at
+    intervals
+    patterns_open first_lengths streak_counts pattern_types coupled_patterns hits_open hit_sizes hit_firsts hit_seconds hit_intervals alternating_of hit_of
+    interval_of
 too_early = record { second_of_three = refl; second_of_three_behind_d = refl; fifteenth = refl; fifteenth_behind_d = refl }

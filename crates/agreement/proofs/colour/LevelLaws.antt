@@ -220,7 +220,8 @@ pub record Uncoupled (marks types : List ℕ) (q p : ℕ) : Type 0 where
 
 back_firsts_long : (marks : List ℕ) (q : ℕ) → length (back_firsts marks q) ≡ group_count (back_marks marks q)
 unfolding back_firsts back_marks
-back_firsts_long marks q = length-firsts (pattern_marks (back_lengths marks q)) (back_lengths marks q) (omega (arith, length-pattern_marks (back_lengths marks q)))
+back_firsts_long marks q = length-firsts (pattern_marks (back_lengths marks q)) (back_lengths marks q)
+    (omega (arith, length-pattern_marks (back_lengths marks q)))
 
 back_marks_long : (marks : List ℕ) (q : ℕ) → length (back_marks marks q) ≡ group_count marks - q
 unfolding back_marks back_lengths

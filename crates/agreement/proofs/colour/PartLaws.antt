@@ -88,7 +88,8 @@ split_from {xs} {at} {c} s i l h =
 
 -- a place behind the cut, in a level whose marks are cut there
 place-behind : {places marks idx numbers : List ℕ} {at : ℕ} (front back : List ℕ) → gathered (group_places marks) idx ≡ places → marks ≡ front ++ back
-    → Opening back → Split idx at (length front) numbers → (j : ℕ) → j < length numbers → get_or places (at + j) 0 ≡ get_or (group_places back) (get_or numbers j 0) 0
+    → Opening back → Split idx at (length front) numbers → (j : ℕ) → j < length numbers
+    → get_or places (at + j) 0 ≡ get_or (group_places back) (get_or numbers j 0) 0
 place-behind {idx = idx} {at = at} front back looked whole o s j h =
     rw (← looked, whole, places-cut front back o) (split_looked s (group_places front) (group_places back) (length-places front) j h)
 

@@ -2,7 +2,8 @@
 -- being the search limit, their intervals; and with these all that a colour value hangs on.
 use Rattle.std.specs.Prelude.{ℕ, ◌+◌, ◌-◌, ◌≤◌, ◌<◌, ◌≡◌, List, eqb, length, drop, get_or}
 use Rattle.grouping_colour.specs.MonoStreak.{streak_of}
-use Rattle.grouping_preprocessor.specs.Preprocessor.{alternating_of, hit_of, streak_place_of, pattern_place_of, interval_of}
+use Rattle.grouping_preprocessor.specs.Preprocessor.{alternating_of, hit_of, streak_place_of, pattern_place_of}
+use Rattle.grouping_preprocessor.specs.Preprocessor.{interval_of}
 use Rattle.grouping_preprocessor.specs.Preprocessor.{hit_count, hit_sizes, hit_firsts, hit_seconds}
 
 -- objects a + j and b + j are of the group of the object before both or neither

@@ -13,7 +13,8 @@ fill_chart-requires c =
     let a = c.args in
     let ch = chart a.kind.now a.start.now a.delta.now a.ratio.now in
     let m = memory a.value.now a.work.now a.scratch.now in
-    chart_room c.base.result ch m (is_permitted c.base.ensures) (verdict-judged ch (answer_lengths m) _ _ (short_joined (size ch) _ _) c.judge.ensures c.in-Accepted.is)
+    chart_room c.base.result ch m (is_permitted c.base.ensures)
+    (verdict-judged ch (answer_lengths m) _ _ (short_joined (size ch) _ _) c.judge.ensures c.in-Accepted.is)
 
 pub returns-in-Refused : goal.returns-in-Refused
 unfolding colour_outcome

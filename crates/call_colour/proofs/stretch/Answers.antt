@@ -37,7 +37,8 @@ mean-mean-requires c =
     let ch = chart a.kind.now a.start.now a.delta.now a.ratio.now in
     let m = memory a.value.now a.work.now a.scratch.now in
     let judged = verdict-judged ch (answer_lengths m) _ _ (short_joined (size ch) _ _) c.judge-verdict.ensures refl in
-    stretch_room c.base.result (is_permitted c.base.ensures) ch m _ _ (both-accepted _ _ (told ch m _ _ judged c.stretch_verdict.ensures c.in-Accepted.is)) _ c.fill_chart.ensures
+    stretch_room c.base.result (is_permitted c.base.ensures) ch m _ _ (both-accepted _ _ (told ch m _ _ judged c.stretch_verdict.ensures c.in-Accepted.is)) _
+    c.fill_chart.ensures
 
 pub tenths-requires : goal.tenths-requires
 tenths-requires c =
@@ -45,7 +46,8 @@ tenths-requires c =
     let ch = chart a.kind.now a.start.now a.delta.now a.ratio.now in
     let m = memory a.value.now a.work.now a.scratch.now in
     let judged = verdict-judged ch (answer_lengths m) _ _ (short_joined (size ch) _ _) c.judge-verdict.ensures refl in
-    mean_in_range c.base.result (is_permitted c.base.ensures) ch m _ _ (both-accepted _ _ (told ch m _ _ judged c.stretch_verdict.ensures c.in-Accepted.is)) _ c.fill_chart.ensures _
+    mean_in_range c.base.result (is_permitted c.base.ensures) ch m _ _ (both-accepted _ _ (told ch m _ _ judged c.stretch_verdict.ensures c.in-Accepted.is)) _
+    c.fill_chart.ensures _
     c.mean-mean.ensures
 
 pub returns-in-Refused : goal.returns-in-Refused

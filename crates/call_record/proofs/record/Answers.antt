@@ -30,14 +30,16 @@ returns-then-number-ne0 c =
     let ch = chart a.kind.now a.start.now a.delta.now a.ratio.now in
     let m = memory a.work.now a.scratch.now in
     at_base ch a.g a.window m
-    (number_refused c.base-s.result ch m a.g a.window (verdict-judged ch (answer_lengths m) _ _ (none_asked (size ch)) c.judge.ensures c.in-Accepted.is) c.record_refusal-number.ensures c.if-number-ne0.true) c.base-s.ensures
+    (number_refused c.base-s.result ch m a.g a.window (verdict-judged ch (answer_lengths m) _ _ (none_asked (size ch)) c.judge.ensures c.in-Accepted.is)
+    c.record_refusal-number.ensures c.if-number-ne0.true) c.base-s.ensures
 
 pub make_record-requires : goal.make_record-requires
 make_record-requires c =
     let a = c.args in
     let ch = chart a.kind.now a.start.now a.delta.now a.ratio.now in
     let m = memory a.work.now a.scratch.now in
-    group_room c.base-s.result ch m a.g a.window (verdict-judged ch (answer_lengths m) _ _ (none_asked (size ch)) c.judge.ensures c.in-Accepted.is) c.record_refusal-number.ensures c.if-number-ne0.false
+    group_room c.base-s.result ch m a.g a.window (verdict-judged ch (answer_lengths m) _ _ (none_asked (size ch)) c.judge.ensures c.in-Accepted.is)
+    c.record_refusal-number.ensures c.if-number-ne0.false
 
 pub returns-in-Refused : goal.returns-in-Refused
 returns-in-Refused c =
@@ -53,5 +55,6 @@ returns-else-number-ne0 c =
     let m = memory a.work.now a.scratch.now in
     let made = c.make_record.ensures in
     at_base ch a.g a.window m
-    (outcome-done c.base-s.result ch m a.g a.window (verdict-judged ch (answer_lengths m) _ _ (none_asked (size ch)) c.judge.ensures c.in-Accepted.is) c.record_refusal-number.ensures
+    (outcome-done c.base-s.result ch m a.g a.window (verdict-judged ch (answer_lengths m) _ _ (none_asked (size ch)) c.judge.ensures c.in-Accepted.is)
+    c.record_refusal-number.ensures
     c.if-number-ne0.false _ _ made.made made.cleared) c.base-s.ensures

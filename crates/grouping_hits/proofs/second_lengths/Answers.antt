@@ -1,3 +1,4 @@
+-- What the checker asks of `second_lengths` and does not find by itself.
 use lib.ListN.{length-set}
 use Rattle.lent.proofs.FillLaws.{fill_end}
 use Rattle.grouping_hits.proofs.HitLaws.{seconds-start, seconds_turn}

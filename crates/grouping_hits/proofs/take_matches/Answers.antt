@@ -1,3 +1,4 @@
+-- What the checker asks of `take_matches` and does not find by itself.
 use native.Mathlib.Omega.{arith}
 use Rattle.lent.proofs.FillLaws.{fill_end}
 use Rattle.grouping_hits.proofs.IntervalLaws.{taken_from, taken_none, taken_turn}

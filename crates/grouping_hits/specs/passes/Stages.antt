@@ -15,7 +15,8 @@ opens_hit stage coupled = cond (eqb stage 0) 1 0
 
 -- what each hit pattern has after a pass that looks k back: k where it matches the one k before it, else what it had
 unfoldable pub match_taken_at : ℕ → List ℕ → List ℕ → List ℕ → List ℕ → ℕ → ℕ
-match_taken_at k sizes firsts seconds had h = cond (leb k h && matches sizes firsts seconds (h - k) h) k (get_or had h 0)
+match_taken_at k sizes firsts seconds had h = cond (leb k h && matches sizes firsts seconds (h - k) h) k
+    (get_or had h 0)
 
 unfoldable pub matches_taken : ℕ → List ℕ → List ℕ → List ℕ → List ℕ → List ℕ
 matches_taken k sizes firsts seconds had = tabulate (match_taken_at k sizes firsts seconds had) (length sizes)

@@ -78,7 +78,8 @@ pub record Hits (limit n p : ℕ) (lengths flags w₀ w : List ℕ) (h : ℕ) : 
   pub few : h ≤ p
   pub numbers : part n p w ≡ group_numbers (hit_marks flags)
   pub places : part (2 * n) p w ≡ group_places (hit_marks flags)
-  pub interval : part (7 * n) h w ≡ intervals_by limit lengths (second_lengths lengths (hit_marks flags)) (hit_marks flags)
+  pub interval : part (7 * n) h w ≡ intervals_by limit lengths (second_lengths lengths (hit_marks flags))
+      (hit_marks flags)
   pub kept : Kept n w₀ w
 
 abbrev pub HitsFound : ℕ → ℕ → ℕ → List ℕ → List ℕ → ℕ → Type 0

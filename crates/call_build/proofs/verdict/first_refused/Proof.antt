@@ -65,7 +65,8 @@ loop-again c =
     record {
       within = omega arith;
       same =
-          sym (first_later _ _ _ _ t.loop-at.at.0 nan (built-lengths _ (raw_of (start t))) _ (inside o) (found o) c.if-number-ne0.false) ∙ t.loop-at.invariant.same;
+          sym (first_later _ _ _ _ t.loop-at.at.0 nan (built-lengths _ (raw_of (start t))) _ (inside o) (found o) c.if-number-ne0.false) ∙
+          t.loop-at.invariant.same;
     }
 
 returns-2 : tie.Need-returns invariant-loop decreases-loop

@@ -20,7 +20,8 @@ check-objects-requires c κs = record { size = c.before.before.before.before.bef
 returns-4 : tie.Need-returns
 returns-4 c =
     let t = c.before.before in
-    objects-judged _ _ _ t.before.before.if-kind-gt16386.false t.before.if-time-kind.false t.beside_refusal-beside.ensures c.before.if-beside-ne0.false c.check_objects.ensures
+    objects-judged _ _ _ t.before.before.if-kind-gt16386.false t.before.if-time-kind.false t.beside_refusal-beside.ensures c.before.if-beside-ne0.false
+    c.check_objects.ensures
 
 pub judge_spec : {M : Type 1} → statement M
 judge_spec =

@@ -8,7 +8,8 @@ pub overflow_add-n : goal.overflow_add-n
 overflow_add-n c =
     let l = c.locate-located in
     let e = l.ensures in
-    let x : LocatedIs c.args.margin c.args.kind.now c.args.start.now c.args.delta.now c.args.g c.args.work.now l.new.work c.args.scratch.now l.new.scratch l.result =
+    let x : LocatedIs c.args.margin c.args.kind.now c.args.start.now c.args.delta.now c.args.g c.args.work.now l.new.work c.args.scratch.now l.new.scratch
+    l.result =
     record { room = c.requires; at = e.found; noted = e.work; settled = e.scratch; past = e.rest; same = l.auto.scratch } in
     omega (arith, groups-small x)
 
@@ -16,7 +17,8 @@ pub slice_bounds-fill_intervals-end : goal.slice_bounds-fill_intervals-end
 slice_bounds-fill_intervals-end c =
     let l = c.locate-located in
     let e = l.ensures in
-    let x : LocatedIs c.args.margin c.args.kind.now c.args.start.now c.args.delta.now c.args.g c.args.work.now l.new.work c.args.scratch.now l.new.scratch l.result =
+    let x : LocatedIs c.args.margin c.args.kind.now c.args.start.now c.args.delta.now c.args.g c.args.work.now l.new.work c.args.scratch.now l.new.scratch
+    l.result =
     record { room = c.requires; at = e.found; noted = e.work; settled = e.scratch; past = e.rest; same = l.auto.scratch } in
     region_inside x
 
@@ -24,7 +26,8 @@ pub fill_intervals-requires : goal.fill_intervals-requires
 fill_intervals-requires c =
     let l = c.locate-located in
     let e = l.ensures in
-    let x : LocatedIs c.args.margin c.args.kind.now c.args.start.now c.args.delta.now c.args.g c.args.work.now l.new.work c.args.scratch.now l.new.scratch l.result =
+    let x : LocatedIs c.args.margin c.args.kind.now c.args.start.now c.args.delta.now c.args.g c.args.work.now l.new.work c.args.scratch.now l.new.scratch
+    l.result =
     record { room = c.requires; at = e.found; noted = e.work; settled = e.scratch; past = e.rest; same = l.auto.scratch } in
     intervals_room x
 
@@ -32,7 +35,8 @@ pub offset_bounds-scratch-g : goal.offset_bounds-scratch-g
 offset_bounds-scratch-g c =
     let l = c.locate-located in
     let e = l.ensures in
-    let x : LocatedIs c.args.margin c.args.kind.now c.args.start.now c.args.delta.now c.args.g c.args.work.now l.new.work c.args.scratch.now l.new.scratch l.result =
+    let x : LocatedIs c.args.margin c.args.kind.now c.args.start.now c.args.delta.now c.args.g c.args.work.now l.new.work c.args.scratch.now l.new.scratch
+    l.result =
     record { room = c.requires; at = e.found; noted = e.work; settled = e.scratch; past = e.rest; same = l.auto.scratch } in
     omega (arith, group-below x, groups-small x)
 
@@ -40,7 +44,8 @@ pub bounds-scratch-g : goal.bounds-scratch-g
 bounds-scratch-g c =
     let l = c.locate-located in
     let e = l.ensures in
-    let x : LocatedIs c.args.margin c.args.kind.now c.args.start.now c.args.delta.now c.args.g c.args.work.now l.new.work c.args.scratch.now l.new.scratch l.result =
+    let x : LocatedIs c.args.margin c.args.kind.now c.args.start.now c.args.delta.now c.args.g c.args.work.now l.new.work c.args.scratch.now l.new.scratch
+    l.result =
     record { room = c.requires; at = e.found; noted = e.work; settled = e.scratch; past = e.rest; same = l.auto.scratch } in
     omega (arith, group-below x, intervals-inside x c.fill_intervals.ensures)
 
@@ -48,7 +53,8 @@ pub slice_bounds-pattern_at-end : goal.slice_bounds-pattern_at-end
 slice_bounds-pattern_at-end c =
     let l = c.locate-located in
     let e = l.ensures in
-    let x : LocatedIs c.args.margin c.args.kind.now c.args.start.now c.args.delta.now c.args.g c.args.work.now l.new.work c.args.scratch.now l.new.scratch l.result =
+    let x : LocatedIs c.args.margin c.args.kind.now c.args.start.now c.args.delta.now c.args.g c.args.work.now l.new.work c.args.scratch.now l.new.scratch
+    l.result =
     record { room = c.requires; at = e.found; noted = e.work; settled = e.scratch; past = e.rest; same = l.auto.scratch } in
     intervals-inside x c.fill_intervals.ensures
 
@@ -56,7 +62,8 @@ pub slice_bounds-pattern_at-end-2 : goal.slice_bounds-pattern_at-end-2
 slice_bounds-pattern_at-end-2 c =
     let l = c.locate-located in
     let e = l.ensures in
-    let x : LocatedIs c.args.margin c.args.kind.now c.args.start.now c.args.delta.now c.args.g c.args.work.now l.new.work c.args.scratch.now l.new.scratch l.result =
+    let x : LocatedIs c.args.margin c.args.kind.now c.args.start.now c.args.delta.now c.args.g c.args.work.now l.new.work c.args.scratch.now l.new.scratch
+    l.result =
     record { room = c.requires; at = e.found; noted = e.work; settled = e.scratch; past = e.rest; same = l.auto.scratch } in
     intervals-counted x c.fill_intervals.ensures
 
@@ -64,7 +71,8 @@ pub pattern_at-pattern-requires : goal.pattern_at-pattern-requires
 pattern_at-pattern-requires c =
     let l = c.locate-located in
     let e = l.ensures in
-    let x : LocatedIs c.args.margin c.args.kind.now c.args.start.now c.args.delta.now c.args.g c.args.work.now l.new.work c.args.scratch.now l.new.scratch l.result =
+    let x : LocatedIs c.args.margin c.args.kind.now c.args.start.now c.args.delta.now c.args.g c.args.work.now l.new.work c.args.scratch.now l.new.scratch
+    l.result =
     record { room = c.requires; at = e.found; noted = e.work; settled = e.scratch; past = e.rest; same = l.auto.scratch } in
     omega (arith, group-below x, intervals-counted x c.fill_intervals.ensures)
 
@@ -72,6 +80,13 @@ pub returns : goal.returns
 returns c =
     let l = c.locate-located in
     let e = l.ensures in
-    let x : LocatedIs c.args.margin c.args.kind.now c.args.start.now c.args.delta.now c.args.g c.args.work.now l.new.work c.args.scratch.now l.new.scratch l.result =
+    let x : LocatedIs c.args.margin c.args.kind.now c.args.start.now c.args.delta.now c.args.g c.args.work.now l.new.work c.args.scratch.now l.new.scratch
+    l.result =
     record { room = c.requires; at = e.found; noted = e.work; settled = e.scratch; past = e.rest; same = l.auto.scratch } in
-    record { found = found x c.fill_intervals.ensures _ c.pattern_at-pattern.ensures; work = x.noted; scratch = scratch-found x c.fill_intervals.ensures; rest = past_found x c.fill_intervals.ensures }
+    record {
+      found = found x c.fill_intervals.ensures _ c.pattern_at-pattern.ensures;
+      work = x.noted;
+      scratch = scratch-found x c.fill_intervals.ensures;
+      rest =
+          past_found x c.fill_intervals.ensures;
+    }

@@ -34,7 +34,8 @@ start c = c.before.before.before.before.before
 returns : tie.Need-returns-then-number-ne0 invariant-loop decreases-loop
 returns c =
     let t = head c.before in
-    first_here _ _ _ _ t.loop-at.at.0 _ (start t).requires _ (omega arith) c.before.object_refusal-number.ensures c.if-number-ne0.true ∙ t.loop-at.invariant.same
+    first_here _ _ _ _ t.loop-at.at.0 _ (start t).requires _ (omega arith) c.before.object_refusal-number.ensures c.if-number-ne0.true ∙
+    t.loop-at.invariant.same
 
 loop-again : tie.Need-loop-at-preserved invariant-loop decreases-loop
 loop-again c =
@@ -42,7 +43,8 @@ loop-again c =
     record {
       within = omega arith;
       same =
-          sym (first_later _ _ _ _ t.loop-at.at.0 _ (start t).requires _ (omega arith) c.before.object_refusal-number.ensures c.if-number-ne0.false) ∙ t.loop-at.invariant.same;
+          sym (first_later _ _ _ _ t.loop-at.at.0 _ (start t).requires _ (omega arith) c.before.object_refusal-number.ensures c.if-number-ne0.false) ∙
+          t.loop-at.invariant.same;
     }
 
 returns-2 : tie.Need-returns invariant-loop decreases-loop

@@ -1,3 +1,4 @@
+-- What the checker asks of `flag_coupled` and does not find by itself.
 use mathlib.Core.Path.{◌∙◌}
 use Rattle.lent.proofs.FillLaws.{fill_end}
 use Rattle.lent.proofs.StoreLaws.{table_start, table_turn}

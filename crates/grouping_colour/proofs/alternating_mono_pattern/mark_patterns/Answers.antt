@@ -1,3 +1,4 @@
+-- What the checker asks of `mark_patterns` and does not find by itself.
 use Rattle.lent.proofs.FillLaws.{fill_end}
 use Rattle.grouping_colour.specs.AlternatingMonoPattern.{pattern_marks}
 use Rattle.lent.proofs.StoreLaws.{fill_apart, table_start, table_turn}

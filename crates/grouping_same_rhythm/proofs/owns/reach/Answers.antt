@@ -1,3 +1,4 @@
+-- What the checker asks of `reach` and does not find by itself.
 use native.Mathlib.Numerals.{add-one}
 use native.Mathlib.Omega.{arith}
 use Rattle.grouping_same_rhythm.proofs.OwnsReach.{reaching_start, reaching_open, reaching_turn, reaching_end}

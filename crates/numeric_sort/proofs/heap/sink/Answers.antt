@@ -1,3 +1,4 @@
+-- What the checker asks of `sink` and does not find by itself.
 use native.Mathlib.Omega.{arith}
 use mathlib.Core.Path.{sym, ◌∙◌}
 use Rattle.numeric_sort.proofs.OrderedLaws.{slice_numbers, all_finite}
