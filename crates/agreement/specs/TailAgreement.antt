@@ -2,7 +2,7 @@
 --
 -- Two charts are accepted, and their last m objects are alike. What stands before these may change how the first of
 -- them are grouped. But some places of the common tail are landmarks, and from a landmark on both charts get the same
--- answers. This file is the claim whole: demand 3 (scope: "Landmarks"). `tails-agree`, in proofs/TailsAgree.antt,
+-- answers. This file is the claim whole: demand 3 (scope: "Landmarks"). `tails_agree`, in proofs/TailsAgree.antt,
 -- proves it of every two such charts, for every set of settings.
 use Rattle.std.specs.Prelude.{ℕ, ◌+◌, ◌≤◌, ◌<◌, ◌⊎◌}
 use Rattle.grouping_chart.specs.Chart.{Chart, size}

@@ -1,4 +1,4 @@
--- Sizes: the mean of every stretch of an accepted chart is finite, no NaN, and at most `largestColour` in size. So it has tenths.
+-- Sizes: the mean of every stretch of an accepted chart is finite, no NaN, and at most `largest_colour` in size. So it has tenths.
 -- A sum of m values is at most m times that, so divided by m it is at most that again.
 use mathlib.Core.Path.{◌≡◌}
 use mathlib.Core.Bool.{not}

@@ -1,4 +1,4 @@
--- Sizes: every colour value of an accepted chart is finite, no NaN, and at most `largestColour` in size.
+-- Sizes: every colour value of an accepted chart is finite, no NaN, and at most `largest_colour` in size.
 use mathlib.Core.Path.{◌≡◌}
 use mathlib.Core.Bool.{not}
 use Prim.Native.Nat.{ℕ, ◌-◌, ◌<◌}

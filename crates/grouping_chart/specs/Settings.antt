@@ -1,6 +1,6 @@
 -- The four numbers by which the calls on a chart group and score (scope: interval_grouping.rs,
 -- repeating_hit_patterns.rs, evaluators/rhythm.rs, evaluators/color.rs). The definitions of what a call answers have
--- them as a parameter; the promises of the calls name `baseSettings`.
+-- them as a parameter; the promises of the calls name `base_settings`.
 use Rattle.std.specs.Prelude.{false, ◌≤◌, T, pos, Float}
 use Rattle.std.specs.Float.{fin, binary64}
 use Rattle.std.specs.Float.Ieee.{of_bits}
@@ -15,7 +15,7 @@ use Rattle.grouping_chart.specs.declared.settings.Settings as declared
 abbrev pub Settings : Type 0
 Settings = declared.Settings
 
--- 5.0, 16, 0.1 and 0.01: `base-is`, in proofs/BaseLaws.antt, says that the bits are these
+-- 5.0, 16, 0.1 and 0.01: `base_is`, in proofs/BaseLaws.antt, says that the bits are these
 abbrev pub base_settings : Settings
 base_settings = record {
   margin = of_bits binary64 0x4014_0000_0000_0000;

@@ -1,5 +1,5 @@
 -- What may be cited of where a group ends: it depends on what stands from the group's first value on, and the groups' items and their count unroll from end to
--- end, since the marks of one group, by `marks-at`, are 1 and zeros up to its end.
+-- end, since the marks of one group, by `marks_at`, are 1 and zeros up to its end.
 use mathlib.Core.Path.{◌≡◌, refl, sym, ap, ◌∙◌}
 use mathlib.Core.Bool.{Bool, true, false}
 use mathlib.Core.List.{List, [], ◌∷◌, ◌++◌}

@@ -1,5 +1,5 @@
 -- Where the group that starts at a position ends (scope: interval_grouping.rs), for the walk from group to group.
--- The law that ties it to the marks is `marks-at`, in proofs/GroupLaws.antt.
+-- The law that ties it to the marks is `marks_at`, in proofs/GroupLaws.antt.
 use Rattle.std.specs.Prelude.{ℕ, suc, ◌+◌, ◌-◌, Bool, cond, List, [], ◌∷◌, ltb, length, drop, get_or, Float}
 use Rattle.std.specs.Float.{nan}
 use Rattle.numeric.specs.Near.{is_near}

@@ -1,4 +1,4 @@
--- The sets of the normaliser, by where each ends: `sets-at`. With it the walk from set to set, and the loops that look for a set's end and for a value.
+-- The sets of the normaliser, by where each ends: `sets_at`. With it the walk from set to set, and the loops that look for a set's end and for a value.
 use mathlib.Core.Path.{◌≡◌, refl, sym, ◌∙◌}
 use mathlib.Core.Bool.{Bool, true, false, cond, ◌||◌}
 use mathlib.Core.List.{List, [], ◌∷◌, ◌++◌, append-nil}

@@ -1,11 +1,11 @@
 -- What sorting a set again does: nothing (request 3/12). The source sorts each set before it takes the middle, and
--- `normalOf` does not. Two lists are equal where they have equal values at every place, and equal finite values have
+-- `normal_of` does not. Two lists are equal where they have equal values at every place, and equal finite values have
 -- the same bits: −0 is not +0.
 use Rattle.std.specs.Prelude.{ℕ, ◌≡◌, List, [], map, take, drop, get_or, Float}
 use Rattle.numeric_sort.specs.Ordered.{ordered}
 use Rattle.grouping_normalizer.specs.Normalizer.{distinct, sets, middle_of, normal_of}
 
--- It holds of finite deltas (`sorted-again`, in proofs/SortedLaws.antt), for every margin, a NaN or a negative one too.
+-- It holds of finite deltas (`sorted_again`, in proofs/SortedLaws.antt), for every margin, a NaN or a negative one too.
 pub record SortedAgain (deltas : List Float) : Type 0 where
   -- the distinct values at any neighbouring places, `size` of them from place `at` on
   pub places : (at size : ℕ)

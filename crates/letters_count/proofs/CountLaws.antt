@@ -1,4 +1,4 @@
--- What the count at a place does to the reading: the byte there, and the one behind it, by the cases of `countAt`.
+-- What the count at a place does to the reading: the byte there, and the one behind it, by the cases of `count_at`.
 use mathlib.Core.Path.{◌≡◌, refl, ◌∙◌}
 use mathlib.Core.Logic.{◌⊎◌, inl, inr}
 use mathlib.Core.Bool.{Bool, true, false, ◌||◌}

@@ -26,8 +26,8 @@ off_tenfold nan t = 0
 off_tenfold (inf s) t = 0
 off_tenfold (fin s m e) t = nat_abs (with_sign s (10 * (m * up e)) -ℤ t *ℤ pos (down e))
 
--- |10 x − t| ≤ 1/2, and t is even where they are equal. It holds of `tenthsOf x` (`tenths-nearest`) and of no other
--- whole number (`tenths-only`, both in proofs/tenths/Nearest.antt).
+-- |10 x − t| ≤ 1/2, and t is even where they are equal. It holds of `tenths_of x` (`tenths_nearest`) and of no other
+-- whole number (`tenths_only`, both in proofs/tenths/Nearest.antt).
 pub record NearestTenths (x : Float) (t : ℤ) : Type 0 where
   pub is_finite : T (finite x)
   pub within : 2 * off_tenfold x t ≤ den x

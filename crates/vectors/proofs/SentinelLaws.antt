@@ -57,6 +57,6 @@ columns-told = tells_as (λ p. record { first = p.0; second = p.1 }) (λ p. (p.f
 
 pub cleared-told : {n : ℕ} {work : List ℕ} {scratch : List Float} {r : Bool}
     → Tells r (FrontHeld (replicate (8 * n) 0) number_sentinel work
-        × FrontHeld (replicate n 0) (to_bits binary64 float_sentinel) (map (to_bits binary64) scratch))
+    × FrontHeld (replicate n 0) (to_bits binary64 float_sentinel) (map (to_bits binary64) scratch))
     → Tells r (Cleared n work scratch)
 cleared-told = tells_as (λ p. record { numbers = p.0; floats = p.1 }) (λ p. (p.numbers, p.floats))

@@ -1,5 +1,5 @@
 -- The landmark of colour/Landmark.antt as a test that computes: the object of (a), the streak of (b) and the pattern of
--- (c) are searched for. `test-landmark` and `landmark-test`, in proofs/colour/LandmarkLaws.antt, say that it finds
+-- (c) are searched for. `test_landmark` and `landmark_test`, in proofs/colour/LandmarkLaws.antt, say that it finds
 -- exactly these. What makes each of the three serve is a parameter, so that other conditions can be tried.
 use Rattle.std.specs.Prelude.{ℕ, ◌+◌, ◌-◌, Bool, not, List, [], ◌∷◌, eqb, leb, ltb, length, get_or}
 use Rattle.grouping_marks.specs.Marks.{group_count, group_numbers}

@@ -1,4 +1,4 @@
--- The landmark of rhythm/Landmark.antt as a test that computes. `test-landmark` and `landmark-test`, in
+-- The landmark of rhythm/Landmark.antt as a test that computes. `test_landmark` and `landmark_test`, in
 -- proofs/rhythm/LandmarkLaws.antt, say that it finds exactly these.
 use Rattle.std.specs.Prelude.{ℕ, ◌+◌, ◌-◌, Bool, not, List, [], ◌∷◌, leb, ltb, length, get_or, Float}
 use Rattle.std.specs.Float.{nan}

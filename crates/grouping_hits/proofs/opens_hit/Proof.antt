@@ -1,4 +1,4 @@
--- Each path ends in the case of `opensHit` that its test names.
+-- Each path ends in the case of `opens_hit` that its test names.
 use Rattle.grouping_hits.proofs.HitLaws.{opens_at_0, opens_not}
 use Rattle.grouping_hits.proofs.opens_hit.Statement.{statement}
 use Rattle.grouping_hits.proofs.opens_hit.Tie as tie

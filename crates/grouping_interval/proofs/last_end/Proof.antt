@@ -1,4 +1,4 @@
--- Each path ends in the case of `endAfter` that its tests name.
+-- Each path ends in the case of `end_after` that its tests name.
 use mathlib.Core.Path.{sym, ◌∙◌}
 use mathlib.Core.Bool.{true, false}
 use Rattle.grouping_interval.proofs.GroupLaws.{end_none, end_last}

@@ -1,4 +1,4 @@
--- Each path ends in the case of `placeByMark` that its test names.
+-- Each path ends in the case of `place_by_mark` that its test names.
 use borrow.Author.Tests.{eq-eqb, ne_eqb}
 use Rattle.grouping_marks.specs.Marks.{place_by_mark}
 use Rattle.grouping_marks.proofs.place_by_mark.Statement.{statement}

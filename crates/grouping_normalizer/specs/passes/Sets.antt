@@ -1,4 +1,4 @@
--- Where a set of the normaliser ends. The law that ties it to the sets is `sets-at`, in proofs/SetLaws.antt.
+-- Where a set of the normaliser ends. The law that ties it to the sets is `sets_at`, in proofs/SetLaws.antt.
 use Rattle.std.specs.Prelude.{◌≡◌, ℕ, suc, ◌+◌, ◌≤◌, ◌<◌, cond, List, [], ◌∷◌, length, drop, get_or, Float}
 use Rattle.std.specs.Float.{nan}
 use Rattle.numeric.specs.Near.{is_near}

@@ -1,6 +1,6 @@
 -- A natural number for each finite value that fits, in the total order: `key`.
 -- A value that is not negative has `mid` plus its size in units of the smallest value, and a negative one lies as far below.
--- `keyed`: total_order x y is the test key x ≤ key y. `key-inj`: two values with one key are one value.
+-- `keyed`: total_order x y is the test key x ≤ key y. `key_inj`: two values with one key are one value.
 use mathlib.Core.Path.{◌≡◌, refl, sym, ap, ◌∙◌}
 use mathlib.Core.Logic.{inl, inr}
 use mathlib.Core.Bool.{Bool, true, false, not, ◌&&◌, ◌||◌}

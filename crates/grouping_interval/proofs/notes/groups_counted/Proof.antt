@@ -1,4 +1,4 @@
--- Each arm is the case of `groupsCounted` that its tests name.
+-- Each arm is the case of `groups_counted` that its tests name.
 use native.Mathlib.Omega.{arith}
 use mathlib.Core.Path.{sym, ◌∙◌}
 use mathlib.Core.Bool.{true, false}
