@@ -38,6 +38,7 @@ tests/host/run.sh
 (cd bindings/rust && cargo test --release --offline --quiet)
 tests/examples/run.sh
 tests/original/run.sh compare 7 300000
+(cd tests/letters && cargo test --release --offline --quiet)
 tests/letters/run.sh
 tests/replay/run.sh
 if command -v python3 > /dev/null; then

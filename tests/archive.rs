@@ -1,4 +1,4 @@
-// Links libtest_host.a, which `rt lib` in crates/test_host writes: for the build.rs of tests/numeric and tests/grouping.
+// Links libtest_host.a, which `rt lib` in crates/test_host writes: for the build.rs of tests/numeric, tests/grouping and tests/letters.
 
 use std::env;
 use std::path::{Path, PathBuf};

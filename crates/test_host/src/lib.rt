@@ -1,4 +1,4 @@
-// `numeric`, `group_by_interval` and the normaliser under C names, for tests alone.
+// `numeric`, `group_by_interval`, the normaliser and the reading of drills under C names, for tests alone.
 #![tactic(auto)]
 
 ghost use Rattle.std.specs.Prelude.{◌≡◌};
@@ -13,6 +13,11 @@ ghost use Rattle.numeric_sort.specs.Ordered.{AllFinite};
 ghost use Rattle.grouping_normalizer.specs.Normalizer.{NormalOf};
 ghost use Rattle.grouping_interval.specs.GroupByInterval.{GroupedByInterval};
 ghost use Rattle.grouping_interval.specs.passes.Rooms.{ValuesRoom};
+ghost use Rattle.lent.specs.Over.{over};
+ghost use Rattle.letters_shorthand.specs.Input.{trimmed, input_of, objects_read, answer_of};
+ghost use Rattle.test_host.specs.Told.{told_of};
+
+use letters_shorthand::Reading;
 
 #[unsafe(no_mangle)]
 pub extern "C" fn numeric_near(a: f64, b: f64, margin: f64) -> bool
@@ -83,4 +88,43 @@ pub extern "C" fn grouping_normal_of(deltas: &mut [f64], margin: f64, x: f64) ->
     ensures { NormalOf margin deltas.old deltas.new x result }
 {
     grouping_normalizer::normal_of(deltas, margin, x)
+}
+
+// An input: 0, 1 for one that is too long, or the refusal's number; its place; how many objects were read.
+#[repr(C)]
+#[derive(Clone, Copy)]
+pub struct LettersRead {
+    pub number: u64,
+    pub place: usize,
+    pub objects: usize,
+}
+
+fn told(reading: Reading) -> LettersRead
+    ensures { result ≡ told_of reading }
+{
+    match reading {
+        Reading::Long => LettersRead {
+            number: 1,
+            place: 0,
+            objects: 0,
+        },
+        Reading::Refused(number, place) => LettersRead {
+            number,
+            place,
+            objects: 0,
+        },
+        Reading::Objects(objects) => LettersRead {
+            number: 0,
+            place: 0,
+            objects,
+        },
+    }
+}
+
+#[unsafe(no_mangle)]
+pub extern "C" fn letters_read(text: &[u8], kinds: &mut [u8; 1024]) -> LettersRead
+    ensures answer { result ≡ told_of (answer_of (input_of (trimmed text.now))) }
+    ensures kinds { kinds.new ≡ over (objects_read (input_of (trimmed text.now))) kinds.old }
+{
+    told(letters_shorthand::read_input(text, kinds))
 }

@@ -1,0 +1,2 @@
+-- What the exports for tests hand over.
+pub mod Told

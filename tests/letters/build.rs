@@ -1,0 +1,7 @@
+//! Links libtest_host.a.
+
+include!("../archive.rs");
+
+fn main() {
+    link();
+}
