@@ -41,11 +41,7 @@ tests/original/run.sh compare 7 300000
 (cd tests/letters && cargo test --release --offline --quiet)
 tests/letters/run.sh
 tests/replay/run.sh
-if command -v python3 > /dev/null; then
-    tools/picture.py --check
-    tools/figures.py --check
-else
-    echo "no Python here: the picture and the figures of the documents are not made anew"
-fi
+tools/picture.py --check
+tools/figures.py --check
 
 echo "$verdict"
