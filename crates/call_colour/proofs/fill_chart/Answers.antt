@@ -9,7 +9,7 @@ fill_values-requires c =
     let room = c.requires in
     record {
       sources =
-          record { steps = c.table-table.ensures; tabled = tabled room.regions c.encode_levels-k.ensures.tables; ratio = room.ratio };
+          record { tabled = tabled room.regions c.encode_levels-k.ensures.tables; ratio = room.ratio };
       room = room.values;
     }
 
