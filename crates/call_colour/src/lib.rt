@@ -48,8 +48,8 @@ fn fill_chart(
     let k = grouping_preprocessor::encode_levels(kind, work, s.limit as u16);
     let table = numeric::logistic::table();
     evaluator_values::fill_values(&table, kind, ratio, work, k, s.tolerance, value);
-    fill::clear(work, 8 * n);
-    fill::clear_floats(scratch, n);
+    fill::front(work, 8 * n, 0);
+    fill::front(scratch, n, 0.0);
 }
 
 pub fn colour(
