@@ -1,7 +1,7 @@
 -- The loop of `read_full`: the bytes at the buffer's front are those that the reader gave.
 use Rattle.std.proofs.Common.{◌≡◌, ◌≤◌, ◌-◌, length, take}
 use Rattle.std.specs.Io.KnownBytes.{Consumes}
-use Rattle.letters_answer.proofs.read_full.Given as goal
+use Rattle.reading.proofs.read_full.Given as goal
 
 abbrev pub invariant-loop-done : goal.invariant-loop-done
 invariant-loop-done g l =
