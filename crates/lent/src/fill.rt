@@ -1,7 +1,7 @@
 // Filling a lent slice from its front: copies, look-ups and one value over and over.
 ghost use Rattle.std.specs.Prelude.{◌≡◌, ℕ, ◌+◌, ◌<◌, ◌≤◌, length, get_or, map, replicate};
 ghost use Rattle.lent.specs.Over.{over, put};
-ghost use Rattle.lent.specs.Scan.{gathered};
+ghost use Rattle.lent.specs.Scan.{gathered, tabulate};
 ghost use Rattle.lent.specs.passes.Bounds.{AllBelow};
 
 use crate::narrow::Narrow;
@@ -23,6 +23,18 @@ pub fn gather<T: Narrow>(table: &[u16], idx: &[u16], out: &mut [T])
 {
     for (i, j) in idx.iter().enumerate() {
         out[i] = T::narrow(table[*j as usize]);
+    }
+}
+
+// Sets each of the first n places to what f gives for it.
+pub fn by_place<T: Copy, F: Fn(usize) -> T>(n: usize, out: &mut [T], f: F)
+    requires room { n ≤ length out.old }
+    requires callable { (i : ℕ) → i < n → F.pre f i }
+    ensures { (value : ℕ → T) → ((i : ℕ) (given : T) → i < n → F.post f i given → given ≡ value i)
+        → out.new ≡ over (tabulate value n) out.old }
+{
+    for i in 0..n {
+        out[i] = f(i);
     }
 }
 
