@@ -14,18 +14,6 @@ pub fn copy<T: Copy>(src: &[T], out: &mut [T])
     out[..n].copy_from_slice(src);
 }
 
-// What the table has at each number, as numbers of the slice's width.
-pub fn gather<T: Narrow>(table: &[u16], idx: &[u16], out: &mut [T])
-    requires room { length idx.now ≤ length out.old }
-    requires inside { AllBelow idx.now (length table.now) }
-    requires fit { (i : ℕ) → i < length table.now → T.Fits (get_or table.now i 0) }
-    ensures { out.new ≡ over (map T.narrowed (gathered table.now idx.now)) out.old }
-{
-    for (i, j) in idx.iter().enumerate() {
-        out[i] = T::narrow(table[*j as usize]);
-    }
-}
-
 // Sets each of the first n places to what f gives for it.
 pub fn by_place<T: Copy, F: Fn(usize) -> T>(n: usize, out: &mut [T], f: F)
     requires room { n ≤ length out.old }
@@ -43,9 +31,17 @@ pub fn front<T: Copy>(s: &mut [T], n: usize, value: T)
     requires { n ≤ length s.old }
     ensures { s.new ≡ over (replicate n value) s.old }
 {
-    for i in 0..n {
-        s[i] = value;
-    }
+    by_place(n, s, |_| value);
+}
+
+// What the table has at each number, as numbers of the slice's width.
+pub fn gather<T: Narrow>(table: &[u16], idx: &[u16], out: &mut [T])
+    requires room { length idx.now ≤ length out.old }
+    requires inside { AllBelow idx.now (length table.now) }
+    requires fit { (i : ℕ) → i < length table.now → T.Fits (get_or table.now i 0) }
+    ensures { out.new ≡ over (map T.narrowed (gathered table.now idx.now)) out.old }
+{
+    by_place(idx.len(), out, |i| T::narrow(table[idx[i] as usize]));
 }
 
 // Stores v in m places from `to` on.
