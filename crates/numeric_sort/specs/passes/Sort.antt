@@ -6,4 +6,5 @@ use Rattle.numeric.specs.TotalOrder.{total_order}
 
 -- x is less where y does not stand at or before it, and equal where each stands at or before the other
 abbrev pub comparison : Float → Float → Ordering
-comparison x y = if is_nan x || is_nan y then bool_cmp (is_nan x) (is_nan y) else bool_cmp (total_order y x) (total_order x y)
+comparison x y =
+    if is_nan x || is_nan y then bool_cmp (is_nan x) (is_nan y) else bool_cmp (total_order y x) (total_order x y)
