@@ -14,6 +14,7 @@ use grouping_chart::room::judge;
 use grouping_chart::settings;
 use grouping_chart::settings::Settings;
 use lent::fill;
+use numeric::logistic::LogisticTable;
 
 pub mod stretches;
 
@@ -46,10 +47,10 @@ fn fill_chart(
 {
     let n = kind.len();
     let k = grouping_preprocessor::encode_levels(kind, work, s.limit as u16);
-    let table = numeric::logistic::table();
+    let table = LogisticTable::new();
     evaluator_values::fill_values(&table, kind, ratio, work, k, s.tolerance, value);
-    fill::clear(work, 8 * n);
-    fill::clear_floats(scratch, n);
+    fill::front(work, 8 * n, 0);
+    fill::front(scratch, n, 0.0);
 }
 
 pub fn colour(

@@ -5,6 +5,7 @@ use mathlib.Core.List.{List, [], ◌∷◌, ◌++◌, map}
 use Prim.Native.Nat.{ℕ, zero, suc, ◌+◌, ◌≤◌, ◌<◌}
 use native.Mathlib.Nat.{le_of_suc-le-suc, not-suc-le-zero, eq-or-lt_of_le, zero-add}
 use native.Mathlib.Numerals.{add-one}
+use Rattle.std.proofs.lemmas.List.{map-id}
 use native.Mathlib.Omega.{arith}
 use lib.ListN.{length, take, drop, get_or, length-drop, set, length-set, length-append, get_or-append, length-map}
 use lib.Seq.{get_or_at, drop-cons}
@@ -117,3 +118,7 @@ length-gathered table idx = length-map idx (λ (j : ℕ). get_or table j 0)
 pub get_or-gathered : (table idx : List ℕ) (i : ℕ) → i < length idx → get_or (gathered table idx) i 0 ≡ get_or table (get_or idx i 0) 0
 unfolding gathered
 get_or-gathered table idx i h = get_or-map (λ (j : ℕ). get_or table j 0) idx i 0 0 h
+
+-- numbers that are looked up to a slice of any width are what the table has
+pub as_wide : (xs old : List ℕ) {new : List ℕ} → new ≡ over (map (λ (x : ℕ). x) xs) old → new ≡ over xs old
+as_wide xs old e = e ∙ ap (λ (l : List ℕ). over l old) (map-id xs)

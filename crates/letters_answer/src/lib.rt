@@ -1,8 +1,7 @@
 // Everything that the letters program does but writing its output.
 #![tactic(auto)]
 
-ghost use Rattle.std.specs.Prelude.{◌≡◌, ◌≤◌, Some, IfSome, length, take, drop};
-ghost use Rattle.std.specs.Io.KnownBytes.{Consumes};
+ghost use Rattle.std.specs.Prelude.{◌≡◌, Some, IfSome, length, drop};
 ghost use Rattle.letters_text.specs.Letters.{input_bytes};
 ghost use Rattle.letters_text.specs.Lines.{lines, Written};
 ghost use Rattle.letters_answer.specs.Output.{columns, letters_output, InputAnswered};
@@ -63,21 +62,6 @@ fn answer(text: &[u8], out: &mut [u8; OUTPUT_BYTES]) -> usize
     }
 }
 
-// Reads until `buf` is full, or the input ends or a read fails. So many bytes stand at the front of `buf`.
-fn read_full<R: Read>(reader: &mut R, buf: &mut [u8]) -> usize
-    ensures within { result ≤ length buf.new }
-    ensures bytes { Consumes (R.remaining reader.old) (R.remaining reader.new) (take result buf.new) }
-{
-    let mut done = 0;
-    while done < buf.len() {
-        match reader.read(&mut buf[done..]) {
-            Ok(0) | Err(_) => break,
-            Ok(n) => done += n,
-        }
-    }
-    done
-}
-
 // Reads the input, as much of it as tells all, and answers it as `answer` does. A failed read counts as its end.
 // Where the reader's bytes are known, and none of those that tell all are left, all of them are answered.
 // How many bytes standard input has no promise can say: tests/letters sees that none was passed over.
@@ -90,7 +74,7 @@ pub fn answer_input<R: Read>(
     ensures whole { IfSome (R.remaining reader.old) (λ text. R.remaining reader.new ≡ Some (drop input_bytes text)
         → Written (letters_output text) out.old out.new result) }
 {
-    let n = read_full(reader, input);
+    let n = reading::read_full(reader, input);
     let text: &[u8] = input;
     answer(&text[..n], out)
 }
