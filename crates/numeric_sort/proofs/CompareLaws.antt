@@ -1,8 +1,8 @@
 -- `comparison` compares by two keys in turn, the number with the NaN last and then the sign, and so it is a strict weak order. Of two finite values the one
 -- that is not less stands at or behind the other.
-use mathlib.Core.Path.{◌≡◌, refl, sym, ap, ◌∙◌, subst}
+use mathlib.Core.Path.{◌≡◌, refl, sym, ◌∙◌, subst}
 use mathlib.Core.Logic.{◌⊎◌, ⊎_elim}
-use mathlib.Core.Bool.{Bool, true, false, not, ◌&&◌, ◌||◌, cond, true≢false}
+use mathlib.Core.Bool.{Bool, true, false, not, ◌||◌, cond, true≢false}
 use lib.Dec.{T}
 use lib.Ieee.{Float, nan, inf, fin, lt, eq, is_nan}
 use Rattle.std.specs.Cmp.{IsStrictWeakOrder, bool_cmp_total}
@@ -10,7 +10,7 @@ use Rattle.std.specs.Float.{NotNan}
 use Rattle.std.specs.Ordering.{is_lt, bool_cmp, nan_last_cmp, ordering_then, then_cmp, on}
 use Rattle.std.specs.declared.cmp.Ordering.{Ordering}
 use Rattle.std.specs.declared.cmp.Ordering.TheVariants.{Less, Equal, Greater}
-use Rattle.std.proofs.lemmas.Float.{nan_last, floats_per, lt_irrefl, lt_trans, eq-not_lt, eq_flip, lt-or-eq, le_of_not-lt}
+use Rattle.std.proofs.lemmas.Float.{nan_last, lt_irrefl, lt_trans, eq-not_lt, eq_flip, lt-or-eq, le_of_not-lt, T_from_true, T_from_false}
 use Rattle.std.proofs.lemmas.List.Sorted.{ranks_by, sorted_far}
 use Rattle.std.specs.List.Sorted.{IsPermutation, IsSortedBy}
 use mathlib.Core.List.{List}
@@ -22,6 +22,7 @@ use Rattle.numeric_sort.proofs.ShuffleLaws.{numbers-shuffled, ordered-shuffled}
 use Rattle.std.proofs.lemmas.Cmp.{then_total, on_total}
 use Rattle.numeric.specs.TotalOrder.{total_order, negative}
 use Rattle.numeric.proofs.Values.{Number, number_no_nan}
+use Rattle.numeric.proofs.order.Arms.{less, equal, neither}
 use Rattle.numeric.proofs.order.Laws.{total}
 use Rattle.numeric_sort.specs.passes.Sort.{comparison}
 
@@ -38,29 +39,28 @@ signs false true = refl
 signs true false = refl
 signs true true = refl
 
--- l, g and e: the first of two numbers is less than, greater than or equal to the second; s and t: their signs
-keys : (l g e : Bool) → (T l → T g → ⊥) → (T e → T l → ⊥) → (T e → T g → ⊥) → (T (not l) → T (not g) → T e) → (s t : Bool)
-    → bool_cmp (g || (e && (t || not s))) (l || (e && (s || not t))) ≡ ordering_then (cond l Less (cond g Greater Equal)) (bool_cmp (not s) (not t))
-keys true true e a b c d s t = absurd (a tt tt)
-keys true false true a b c d s t = absurd (b tt tt)
-keys true false false a b c d s t = refl
-keys false true true a b c d s t = absurd (c tt tt)
-keys false true false a b c d s t = refl
-keys false false true a b c d s t = signs s t
-keys false false false a b c d s t = absurd (d tt tt)
+on_true : (b : Bool) → T b → b ≡ true
+on_true true h = refl
+on_true false h = absurd h
 
+-- of numbers: one is less, or they are equal and their signs tell
 numbers : (x y : Float) → NotNan x → NotNan y
     → bool_cmp (total_order y x) (total_order x y) ≡ ordering_then (cond (lt x y) Less (cond (lt y x) Greater Equal)) (bool_cmp (plus x) (plus y))
-unfolding total_order
-numbers x y p q =
-    ap (λ e. bool_cmp (lt y x || (e && (negative y || not (negative x)))) (total_order x y)) (floats_per.symm y x)
-    ∙ keys (lt x y) (lt y x) (eq x y) (λ h k. lt_irrefl x (lt_trans x y x h k)) (eq-not_lt x y) (λ e. eq-not_lt y x (eq_flip x y e))
-    (λ h k. ⊎_elim (λ a. absurd (both (lt y x) a k)) (λ e. eq_flip y x e) (lt-or-eq y x (le_of_not-lt x y p q h)))
-    (negative x) (negative y)
+numbers x y p q = by (lt x y) (lt y x) refl refl
   where
-    both : (b : Bool) → T b → T (not b) → ⊥
-    both true h k = k
-    both false h k = h
+    off : (b : Bool) → ¬ (T b) → b ≡ false
+    off true n = absurd (n tt)
+    off false n = refl
+
+    by : (l g : Bool) → lt x y ≡ l → lt y x ≡ g
+        → bool_cmp (total_order y x) (total_order x y) ≡ ordering_then (cond l Less (cond g Greater Equal)) (bool_cmp (plus x) (plus y))
+    by true true e f = absurd (lt_irrefl x (lt_trans x y x (T_from_true _ e) (T_from_true _ f)))
+    by true false e f = rw (← less x y e, ← neither y x f (off (eq y x) (λ h. eq-not_lt x y (eq_flip y x h) (T_from_true _ e))))
+    by false true e f = rw (← less y x f, ← neither x y e (off (eq x y) (λ h. eq-not_lt y x (eq_flip x y h) (T_from_true _ f))))
+    by false false e f =
+        let h : T (eq x y) =
+        ⊎_elim (λ a. absurd (subst T f a)) (λ a. eq_flip y x a) (lt-or-eq y x (le_of_not-lt x y p q (T_from_false _ e))) in
+        rw (equal x y e (on_true (eq x y) h), equal y x f (on_true (eq y x) (eq_flip x y h))) (signs (negative x) (negative y))
 
 comparison_by_keys : (x y : Float) → comparison x y ≡ by_keys x y
 unfolding is_nan

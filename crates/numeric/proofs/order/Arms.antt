@@ -23,7 +23,7 @@ pub neither : (x y : Float) → lt x y ≡ false → eq x y ≡ false → false 
 unfolding total_order
 neither x y h k = rw (h, k)
 
-equal : (x y : Float) → lt x y ≡ false → eq x y ≡ true → total_order x y ≡ (negative x || not (negative y))
+pub equal : (x y : Float) → lt x y ≡ false → eq x y ≡ true → total_order x y ≡ (negative x || not (negative y))
 unfolding total_order
 equal x y h k = rw (h, k)
 
