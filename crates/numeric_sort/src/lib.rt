@@ -19,7 +19,7 @@ fn compare(a: &f64, b: &f64) -> Ordering
     }
 }
 
-// Puts the values in total order.
+// Puts the values in total order. That they are finite is a clause here and above: a type for it would hold a `&mut`.
 pub fn sort(values: &mut [f64])
     requires { AllFinite values.old }
     ensures { values.new ≡ ordered values.old }
