@@ -11,7 +11,8 @@ use lib.Ieee.{Float, nan, binary64, div}
 use Rattle.numeric.specs.Constants.{one64}
 use Rattle.lent.specs.Over.{part}
 use Rattle.grouping_marks.specs.Parted.{parted}
-use Rattle.lent.proofs.OverLaws.{length-part, get_or-part, lent-part}
+use Rattle.lent.proofs.OverLaws.{lent-part}
+use Rattle.lent.proofs.PieceLaws.{part_pieces}
 use Rattle.grouping_interval.specs.IntervalGrouping.{interval_marks}
 use Rattle.grouping_interval.specs.GroupEnd.{group_end}
 use Rattle.grouping_interval.specs.passes.MarkPass.{marks_from}
@@ -22,32 +23,17 @@ use Rattle.grouping_same_rhythm.specs.declared.patterns.Pattern.{Pattern}
 
 -- ---- a pattern's interval
 
-interval-second : (l : List Float) → 1 < length l → get_or l 1 nan ≡ pattern_interval l
+pub interval-second : (l : List Float) → 1 < length l → get_or l 1 nan ≡ pattern_interval l
 unfolding pattern_interval
 interval-second [] h = absurd (omega arith)
 interval-second (first ∷ []) h = absurd (omega arith)
 interval-second (first ∷ second ∷ intervals) h = refl
 
-interval_only : (l : List Float) → length l ≡ 1 → get_or l 0 nan ≡ pattern_interval l
+pub interval_only : (l : List Float) → length l ≡ 1 → get_or l 0 nan ≡ pattern_interval l
 unfolding pattern_interval
 interval_only [] h = absurd (omega arith)
 interval_only (first ∷ []) h = refl
 interval_only (first ∷ second ∷ intervals) h = absurd (omega arith)
-
-module _ (intervals : List Float) (at end : ℕ) (h : at < end) (u : end ≤ length intervals) where
-  long : length (part at (end - at) intervals) ≡ end - at
-  long = length-part at (end - at) intervals (omega arith)
-
-  -- of two groups or more
-  pub interval_two : at + 1 < end → get_or intervals (at + 1) nan ≡ pattern_interval (part at (end - at) intervals)
-  interval_two t = sym (get_or-part at (end - at) intervals 1 nan (omega arith)) ∙ interval-second (part at (end - at) intervals) (omega (arith, long))
-
-  -- of one group
-  pub interval_one : end ≤ at + 1 → get_or intervals at nan ≡ pattern_interval (part at (end - at) intervals)
-  interval_one t =
-      let z : at ≡ at + 0 = omega arith in
-      (rw (← z) at (sym (get_or-part at (end - at) intervals 0 nan (omega arith))))
-      ∙ interval_only (part at (end - at) intervals) (omega (arith, long))
 
 -- ---- the walk
 
@@ -128,10 +114,18 @@ module _ {margin : Float} {intervals : List Float} {g number before at end : ℕ
   pattern_first h e = rw (number_is h, e)
 
   -- a later one, by its interval and that of the pattern before
-  pub pattern-later : g < end → (number ≡ 0 → ⊥) → (this previous : Float) → this ≡ pattern_interval (part at (end - at) intervals)
-      → previous ≡ pattern_interval (part before (at - before) intervals)
+  pub pattern-later : g < end → (number ≡ 0 → ⊥) → (this previous : Float) → this ≡ pattern_interval (take (end - at) (drop at intervals))
+      → previous ≡ pattern_interval (take (at - before) (drop before intervals))
       → ◌≡◌ {A = Pattern} (record { number = number; ratio = div binary64 this previous }) (pattern_of margin intervals g)
   unfolding pattern_of
   pattern-later h n this previous t p =
-      rw (number_is h, t, p, ← found_lies.groups, ← (x.previous n).groups)
+      rw (
+        number_is h,
+        t,
+        p,
+        part_pieces at (end - at) intervals,
+        part_pieces before (at - before) intervals,
+        ← found_lies.groups,
+        ← (x.previous n).groups,
+      )
       (rw (ratio-later (patterns margin intervals) number n))

@@ -3,10 +3,10 @@ use mathlib.Core.Path.{sym, ap}
 use Rattle.dresserduck.specs.Host.{has_own}
 use Rattle.dresserduck.proofs.has_own.Goals as goal
 
-pub returns-in-Absent : goal.returns-in-Absent
+pub returns-in-None : goal.returns-in-None
 unfolding has_own
-returns-in-Absent c = ap has_own (sym c.in-Absent.is)
+returns-in-None c = ap has_own (sym c.in-None.is)
 
-pub returns-in-Millis : goal.returns-in-Millis
+pub returns-in-Some : goal.returns-in-Some
 unfolding has_own
-returns-in-Millis c = ap has_own (sym c.in-Millis.is)
+returns-in-Some c = ap has_own (sym c.in-Some.is)

@@ -3,10 +3,10 @@ use mathlib.Core.Path.{sym, ap, ◌∙◌}
 use Rattle.dresserduck.specs.Host.{own_bits}
 use Rattle.dresserduck.proofs.own_bits.Goals as goal
 
-pub returns-in-Absent : goal.returns-in-Absent
+pub returns-in-None : goal.returns-in-None
 unfolding own_bits
-returns-in-Absent c = ap own_bits (sym c.in-Absent.is)
+returns-in-None c = ap own_bits (sym c.in-None.is)
 
-pub returns-in-Millis : goal.returns-in-Millis
+pub returns-in-Some : goal.returns-in-Some
 unfolding own_bits
-returns-in-Millis c = c.bits.ensures ∙ ap own_bits (sym c.in-Millis.is)
+returns-in-Some c = c.bits.ensures ∙ ap own_bits (sym c.in-Some.is)
