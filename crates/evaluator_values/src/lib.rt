@@ -10,6 +10,7 @@ ghost use Rattle.evaluator_values.specs.passes.Tables.{ObjectIn, NumbersAt, Sour
 use evaluator_colour::Standing;
 use grouping_chart::object::ObjectIndex;
 use grouping_preprocessor::Levels;
+use lent::fill;
 use numeric::logistic::LogisticTable;
 
 // An object's group number on each level.
@@ -117,7 +118,7 @@ pub fn fill_values(
     ensures { value.new
         ≡ over (colour_values k.limit tolerance kind.now ratio.now) value.old }
 {
-    for i in 0..kind.len() {
-        value[i] = value_at(table, kind, ratio, w, k, tolerance, ObjectIndex(i));
-    }
+    fill::by_place(kind.len(), value, |i| {
+        value_at(table, kind, ratio, w, k, tolerance, ObjectIndex(i))
+    });
 }

@@ -8,7 +8,7 @@ use native.Mathlib.Numerals.{add-one}
 use Rattle.std.proofs.lemmas.List.{map-id}
 use native.Mathlib.Omega.{arith}
 use lib.ListN.{length, take, drop, get_or, length-drop, set, length-set, length-append, get_or-append, length-map}
-use lib.Seq.{get_or_at, drop-cons}
+use lib.Seq.{get_or_at, drop-cons, ext_get_or}
 use Rattle.lent.specs.Over.{over, put, part}
 use Rattle.lent.specs.Scan.{tabulate, gathered}
 use Rattle.lent.proofs.OverLaws.{put_front, put_nothing, put-kept, put_all, store, unread, get_or-part}
@@ -96,6 +96,12 @@ module _ {B : Type 0} (f : ℕ → B) where
       (λ e. get_or_at (tabulate f n) (f n) [] d i (length-tabulate n ∙ sym e) ∙ ap f (sym e))
       (λ l. get_or-append (tabulate f n) (f n ∷ []) d i (rw length-tabulate l) ∙ get_or-tabulate n i d l)
       (eq-or-lt_of_le (le_of_suc-le-suc h))
+
+-- a list is made by what stands at each place
+pub tabulate_places : {B : Type 0} (xs : List B) (d : B) (n : ℕ) → length xs ≡ n → tabulate (λ i. get_or xs i d) n ≡ xs
+tabulate_places xs d n e =
+    ext_get_or d _ xs (length-tabulate (λ i. get_or xs i d) n ∙ sym e)
+    (λ i h. get_or-tabulate (λ j. get_or xs j d) n i d (omega (arith, length-tabulate (λ j. get_or xs j d) n)))
 
 -- functions that are equal below n make equal lists
 pub tabulate-agree : {B : Type 0} (f g : ℕ → B) (n : ℕ) → ((i : ℕ) → i < n → f i ≡ g i) → tabulate f n ≡ tabulate g n

@@ -1,7 +1,7 @@
 // Filling a lent slice from its front: copies, look-ups and one value over and over.
 ghost use Rattle.std.specs.Prelude.{◌≡◌, ℕ, ◌+◌, ◌<◌, ◌≤◌, length, get_or, map, replicate};
 ghost use Rattle.lent.specs.Over.{over, put};
-ghost use Rattle.lent.specs.Scan.{gathered};
+ghost use Rattle.lent.specs.Scan.{gathered, tabulate};
 ghost use Rattle.lent.specs.passes.Bounds.{AllBelow};
 
 use crate::narrow::Narrow;
@@ -14,15 +14,15 @@ pub fn copy<T: Copy>(src: &[T], out: &mut [T])
     out[..n].copy_from_slice(src);
 }
 
-// What the table has at each number, as numbers of the slice's width.
-pub fn gather<T: Narrow>(table: &[u16], idx: &[u16], out: &mut [T])
-    requires room { length idx.now ≤ length out.old }
-    requires inside { AllBelow idx.now (length table.now) }
-    requires fit { (i : ℕ) → i < length table.now → T.Fits (get_or table.now i 0) }
-    ensures { out.new ≡ over (map T.narrowed (gathered table.now idx.now)) out.old }
+// Sets each of the first n places to what f gives for it.
+pub fn by_place<T: Copy, F: Fn(usize) -> T>(n: usize, out: &mut [T], f: F)
+    requires room { n ≤ length out.old }
+    requires callable { (i : ℕ) → i < n → F.pre f i }
+    ensures { (value : ℕ → T) → ((i : ℕ) (given : T) → i < n → F.post f i given → given ≡ value i)
+        → out.new ≡ over (tabulate value n) out.old }
 {
-    for (i, j) in idx.iter().enumerate() {
-        out[i] = T::narrow(table[*j as usize]);
+    for i in 0..n {
+        out[i] = f(i);
     }
 }
 
@@ -31,9 +31,17 @@ pub fn front<T: Copy>(s: &mut [T], n: usize, value: T)
     requires { n ≤ length s.old }
     ensures { s.new ≡ over (replicate n value) s.old }
 {
-    for i in 0..n {
-        s[i] = value;
-    }
+    by_place(n, s, |_| value);
+}
+
+// What the table has at each number, as numbers of the slice's width.
+pub fn gather<T: Narrow>(table: &[u16], idx: &[u16], out: &mut [T])
+    requires room { length idx.now ≤ length out.old }
+    requires inside { AllBelow idx.now (length table.now) }
+    requires fit { (i : ℕ) → i < length table.now → T.Fits (get_or table.now i 0) }
+    ensures { out.new ≡ over (map T.narrowed (gathered table.now idx.now)) out.old }
+{
+    by_place(idx.len(), out, |i| T::narrow(table[idx[i] as usize]));
 }
 
 // Stores v in m places from `to` on.

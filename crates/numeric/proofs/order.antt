@@ -1,4 +1,5 @@
 -- The module `order`: the answers of `total_order`, a number for each value in its order, and the order's laws.
 pub mod Rank
 pub mod Laws
-pub mod Arms
+mod Arms
+pub mod Keys

@@ -4,13 +4,11 @@ use mathlib.Core.Path.{◌≡◌, refl, sym, ◌∙◌, subst}
 use mathlib.Core.Logic.{◌⊎◌, ⊎_elim}
 use mathlib.Core.Bool.{Bool, true, false, not, ◌||◌, cond, true≢false}
 use lib.Dec.{T}
-use lib.Ieee.{Float, nan, inf, fin, lt, eq, is_nan}
+use lib.Ieee.{Float, nan, inf, fin, is_nan}
 use Rattle.std.specs.Cmp.{IsStrictWeakOrder, bool_cmp_total}
-use Rattle.std.specs.Float.{NotNan}
-use Rattle.std.specs.Ordering.{is_lt, bool_cmp, nan_last_cmp, ordering_then, then_cmp, on}
+use Rattle.std.specs.Ordering.{is_lt, bool_cmp, nan_last_cmp, then_cmp, on}
 use Rattle.std.specs.declared.cmp.Ordering.{Ordering}
-use Rattle.std.specs.declared.cmp.Ordering.TheVariants.{Less, Equal, Greater}
-use Rattle.std.proofs.lemmas.Float.{nan_last, lt_irrefl, lt_trans, eq-not_lt, eq_flip, lt-or-eq, le_of_not-lt, T_from_true, T_from_false}
+use Rattle.std.proofs.lemmas.Float.{nan_last}
 use Rattle.std.proofs.lemmas.List.Sorted.{ranks_by, sorted_far}
 use Rattle.std.specs.List.Sorted.{IsPermutation, IsSortedBy}
 use mathlib.Core.List.{List}
@@ -20,47 +18,15 @@ use Rattle.numeric_sort.proofs.InsertLaws.{Numbers}
 use Rattle.numeric_sort.proofs.OrderedLaws.{number_at, ordered_same}
 use Rattle.numeric_sort.proofs.ShuffleLaws.{numbers-shuffled, ordered-shuffled}
 use Rattle.std.proofs.lemmas.Cmp.{then_total, on_total}
-use Rattle.numeric.specs.TotalOrder.{total_order, negative}
+use Rattle.numeric.specs.TotalOrder.{total_order}
+use Rattle.numeric.proofs.order.Keys.{plus, compared_by_keys}
 use Rattle.numeric.proofs.Values.{Number, number_no_nan}
-use Rattle.numeric.proofs.order.Arms.{less, equal, neither}
 use Rattle.numeric.proofs.order.Laws.{total}
 use Rattle.numeric_sort.specs.passes.Sort.{comparison}
-
-abbrev plus : Float → Bool
-plus x = not (negative x)
 
 -- the order by the two keys
 abbrev by_keys : Float → Float → Ordering
 by_keys = then_cmp nan_last_cmp (on plus bool_cmp)
-
-signs : (s t : Bool) → bool_cmp (t || not s) (s || not t) ≡ bool_cmp (not s) (not t)
-signs false false = refl
-signs false true = refl
-signs true false = refl
-signs true true = refl
-
-on_true : (b : Bool) → T b → b ≡ true
-on_true true h = refl
-on_true false h = absurd h
-
--- of numbers: one is less, or they are equal and their signs tell
-numbers : (x y : Float) → NotNan x → NotNan y
-    → bool_cmp (total_order y x) (total_order x y) ≡ ordering_then (cond (lt x y) Less (cond (lt y x) Greater Equal)) (bool_cmp (plus x) (plus y))
-numbers x y p q = by (lt x y) (lt y x) refl refl
-  where
-    off : (b : Bool) → ¬ (T b) → b ≡ false
-    off true n = absurd (n tt)
-    off false n = refl
-
-    by : (l g : Bool) → lt x y ≡ l → lt y x ≡ g
-        → bool_cmp (total_order y x) (total_order x y) ≡ ordering_then (cond l Less (cond g Greater Equal)) (bool_cmp (plus x) (plus y))
-    by true true e f = absurd (lt_irrefl x (lt_trans x y x (T_from_true _ e) (T_from_true _ f)))
-    by true false e f = rw (← less x y e, ← neither y x f (off (eq y x) (λ h. eq-not_lt x y (eq_flip y x h) (T_from_true _ e))))
-    by false true e f = rw (← less y x f, ← neither x y e (off (eq x y) (λ h. eq-not_lt y x (eq_flip x y h) (T_from_true _ f))))
-    by false false e f =
-        let h : T (eq x y) =
-        ⊎_elim (λ a. absurd (subst T f a)) (λ a. eq_flip y x a) (lt-or-eq y x (le_of_not-lt x y p q (T_from_false _ e))) in
-        rw (equal x y e (on_true (eq x y) h), equal y x f (on_true (eq y x) (eq_flip x y h))) (signs (negative x) (negative y))
 
 comparison_by_keys : (x y : Float) → comparison x y ≡ by_keys x y
 unfolding is_nan
@@ -68,11 +34,11 @@ comparison_by_keys nan nan = refl
 comparison_by_keys nan (inf t) = refl
 comparison_by_keys nan (fin t n d) = refl
 comparison_by_keys (inf s) nan = refl
-comparison_by_keys (inf s) (inf t) = numbers (inf s) (inf t) tt tt
-comparison_by_keys (inf s) (fin t n d) = numbers (inf s) (fin t n d) tt tt
+comparison_by_keys (inf s) (inf t) = compared_by_keys (inf s) (inf t) tt tt
+comparison_by_keys (inf s) (fin t n d) = compared_by_keys (inf s) (fin t n d) tt tt
 comparison_by_keys (fin s m e) nan = refl
-comparison_by_keys (fin s m e) (inf t) = numbers (fin s m e) (inf t) tt tt
-comparison_by_keys (fin s m e) (fin t n d) = numbers (fin s m e) (fin t n d) tt tt
+comparison_by_keys (fin s m e) (inf t) = compared_by_keys (fin s m e) (inf t) tt tt
+comparison_by_keys (fin s m e) (fin t n d) = compared_by_keys (fin s m e) (fin t n d) tt tt
 
 pub comparison_ranks : IsStrictWeakOrder (λ x y. is_lt (comparison x y))
 comparison_ranks =

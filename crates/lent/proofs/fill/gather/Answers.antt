@@ -1,26 +1,21 @@
--- A turn stores what the table has at number i.
-use Rattle.std.proofs.Common.{sym, ◌∙◌, ap, arith}
-use lib.ListN.{length-map}
+-- Each place takes what the table has at its number.
+use Rattle.std.proofs.Common.{◌≡◌, sym, ap, ◌∙◌, map, arith, rules}
+use lib.ListN.{length-map, get_or}
+use Rattle.lent.specs.Over.{over}
 use Rattle.lent.specs.Scan.{gathered}
-use Rattle.lent.proofs.FillLaws.{fill_start_front, fill_turn_front, fill_end_front, length-gathered, get_or-gathered, get_or-map}
+use Rattle.lent.proofs.FillLaws.{length-gathered, get_or-gathered, get_or-map, tabulate_places}
 use Rattle.lent.proofs.fill.gather.Goals as goal
 
-pub loop-i-init : goal.loop-i-init
-loop-i-init g c =
-    let table = c.args.table.now in
-    let idx = c.args.idx.now in
-    fill_start_front _ _ _ (length-map (gathered table idx) g.T.Narrow.narrowed ∙ length-gathered table idx) c.requires.room
-
-pub loop-i-preserved : goal.loop-i-preserved
-loop-i-preserved g c =
+pub returns : goal.returns
+returns g c =
     let f = g.T.Narrow.narrowed in
     let table = c.args.table.now in
     let idx = c.args.idx.now in
-    let i = c.loop-i.i in
-    let d = c.narrow.result in
-    let here = get_or-map f (gathered table idx) i 0 d (omega (arith, length-gathered table idx)) in
-    fill_turn_front d c.loop-i.invariant c.loop-i-test.true
-    (c.narrow.ensures ∙ ap f (sym (get_or-gathered table idx i c.loop-i-test.true)) ∙ sym here)
-
-pub returns : goal.returns
-returns g c = fill_end_front c.loop-i.invariant c.loop-i-test.false
+    let found = gathered table idx in
+    let values = map f found in
+    let d = f 0 in
+    c.by_place.ensures (λ i. get_or values i d)
+    (λ i given h e.
+        let is : given ≡ f (get_or table (get_or idx i 0) 0) = search rules in
+        is ∙ ap f (sym (get_or-gathered table idx i h)) ∙ sym (get_or-map f found i 0 d (omega (arith, length-gathered table idx))))
+    ∙ ap (λ l. over l c.args.out.now) (tabulate_places values d _ (length-map found f ∙ length-gathered table idx))

@@ -1,18 +1,17 @@
--- Answer by answer.
-use lib.Ieee.{of_bits}
-use Rattle.numeric.proofs.order.Arms.{less, zeros, equal-apart, neither}
+-- Of equal values the signs tell.
+use Rattle.std.proofs.Common.{◌∙◌}
+use mathlib.Core.Bool.{◌||◌}
+use Rattle.numeric.proofs.order.Arms.{left_number, right_number, equal, unequal}
 use Rattle.numeric.proofs.order.total_order.Goals as goal
 
+pub is_sign_negative-requires : goal.is_sign_negative-requires
+is_sign_negative-requires c = left_number c.args.a c.args.b c.if-a-b.true
+
+pub is_sign_positive-requires : goal.is_sign_positive-requires
+is_sign_positive-requires c = right_number c.args.a c.args.b c.if-a-b.true
+
 pub returns-then-a-b : goal.returns-then-a-b
-returns-then-a-b c = less c.args.a c.args.b c.if-a-b.true
-
-pub returns-then-a : goal.returns-then-a
-unfolding of_bits
-returns-then-a c = zeros c.args.a c.args.b c.if-a-b.false c.if-a-b-2.true c.if-a.true
-
-pub returns-then-a-b-2 : goal.returns-then-a-b-2
-unfolding of_bits
-returns-then-a-b-2 c = equal-apart c.args.a c.args.b c.if-a-b.false c.if-a-b-2.true c.if-a.false
+returns-then-a-b c = (λ i. c.is_sign_negative.ensures i || c.is_sign_positive.ensures i) ∙ equal c.args.a c.args.b c.if-a-b.true
 
 pub returns : goal.returns
-returns c = neither c.args.a c.args.b c.if-a-b.false c.if-a-b-2.false
+returns c = unequal c.args.a c.args.b c.if-a-b.false
