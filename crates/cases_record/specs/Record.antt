@@ -6,7 +6,7 @@ use Rattle.std.specs.Float.Ieee.{to_bits, of_bits}
 use Rattle.grouping_chart.specs.Chart.{Chart}
 use Rattle.grouping_chart.specs.Outcome.{Outcome}
 use Rattle.grouping_chart.specs.Settings.{base_settings}
-use Rattle.std.specs.Prelude.{Option, None, Some}
+use Rattle.std.specs.Prelude.{Option, None, Some, Float}
 use Rattle.call_record.specs.Call.{Memory, record_outcome}
 use Rattle.call_record.specs.declared.GroupRecord.{GroupRecord}
 use Rattle.call_record.specs.declared.Recording.{Recording}

@@ -48,3 +48,17 @@ module _ (threshold : Float) (owns : List Float) (i : ℕ) where
   pub pair_none : length owns ≤ i → some_pair threshold (drop i owns) ≡ false
   unfolding some_pair
   pair_none h = rw (drop_of_length-le owns h)
+
+-- ---- of four, by the tests in their order: the newest with each older one, then what is left
+
+four_or : (p q r u : Bool) → (p || (q || (r || false))) || u ≡ p || (q || (r || u))
+four_or true q r u = refl
+four_or false true r u = refl
+four_or false false true u = refl
+four_or false false false u = refl
+
+module _ (threshold a b c d : Float) where
+  pub four_tested : (p q r u : Bool) → similar threshold a b ≡ p → similar threshold a c ≡ q → similar threshold a d ≡ r
+      → some_pair threshold (b ∷ c ∷ d ∷ []) ≡ u → p || (q || (r || u)) ≡ some_pair threshold (a ∷ b ∷ c ∷ d ∷ [])
+  unfolding some_pair similar_to
+  four_tested p q r u h k l m = rw (h, k, l, ← m) (sym (four_or p q r (some_pair threshold (b ∷ c ∷ d ∷ []))))

@@ -1,6 +1,6 @@
 -- The own interval case by case: of few notes and of more, snapped, and set against another. Each case is what a match or a test hands over.
 use mathlib.Core.Path.{◌≡◌, refl, ap, ◌∙◌}
-use mathlib.Core.Bool.{true, false}
+use mathlib.Core.Bool.{Bool, cond}
 use mathlib.Core.List.{List, [], ◌∷◌}
 use Prim.Native.Nat.{◌≤◌, ◌<◌}
 use native.Mathlib.Omega.{arith}
@@ -38,29 +38,26 @@ modal_more margin (d₁ ∷ d₂ ∷ rest) deltas second normal r h n s e = reco
 -- ---- snapped
 
 module _ (margin : Float) (own previous : Option Float) where
-  pub snap_none : own ≡ None → own ≡ snapped margin own previous
+  pub snap_absent : own ≡ None → None ≡ snapped margin own previous
   unfolding snapped
-  snap_none p = rw p
+  snap_absent p = rw p
 
-  pub snap_first : (x : Float) → own ≡ Some x → previous ≡ None → own ≡ snapped margin own previous
+  pub snap_first : (x : Float) → own ≡ Some x → previous ≡ None → Some x ≡ snapped margin own previous
   unfolding snapped
   snap_first x p q = rw (p, q)
 
   -- by what the test found
-  pub snap_near : (x y : Float) → own ≡ Some x → previous ≡ Some y → is_near margin x y ≡ true → Some y ≡ snapped margin own previous
+  pub snap_both : (x y : Float) (b : Bool) → own ≡ Some x → previous ≡ Some y → is_near margin x y ≡ b
+      → cond b (Some y) (Some x) ≡ snapped margin own previous
   unfolding snapped
-  snap_near x y p q e = rw (p, q, e)
-
-  pub snap_far : (x y : Float) → own ≡ Some x → previous ≡ Some y → is_near margin x y ≡ false → own ≡ snapped margin own previous
-  unfolding snapped
-  snap_far x y p q e = rw (p, q, e)
+  snap_both x y b p q e = rw (p, q, e)
 
 -- ---- set against another
 
 module _ (own previous : Option Float) where
-  pub ratio_none : own ≡ None → one64 ≡ ratio_of own previous
+  pub ratio_absent : own ≡ None → one64 ≡ ratio_of own previous
   unfolding ratio_of
-  ratio_none p = rw p
+  ratio_absent p = rw p
 
   pub ratio_first : (x : Float) → own ≡ Some x → previous ≡ None → one64 ≡ ratio_of own previous
   unfolding ratio_of

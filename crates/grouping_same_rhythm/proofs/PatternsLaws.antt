@@ -11,7 +11,7 @@ use lib.Ieee.{Float, nan, binary64, div}
 use Rattle.numeric.specs.Constants.{one64}
 use Rattle.lent.specs.Over.{part}
 use Rattle.grouping_marks.specs.Parted.{parted}
-use Rattle.lent.proofs.OverLaws.{lent-part}
+use Rattle.lent.proofs.OverLaws.{length-part, get_or-part, lent-part}
 use Rattle.lent.proofs.PieceLaws.{part_pieces}
 use Rattle.grouping_interval.specs.IntervalGrouping.{interval_marks}
 use Rattle.grouping_interval.specs.GroupEnd.{group_end}
@@ -34,6 +34,21 @@ unfolding pattern_interval
 interval_only [] h = absurd (omega arith)
 interval_only (first ∷ []) h = refl
 interval_only (first ∷ second ∷ intervals) h = absurd (omega arith)
+
+module _ (intervals : List Float) (at end : ℕ) (h : at < end) (u : end ≤ length intervals) where
+  long : length (part at (end - at) intervals) ≡ end - at
+  long = length-part at (end - at) intervals (omega arith)
+
+  -- of two groups or more
+  pub interval_two : at + 1 < end → get_or intervals (at + 1) nan ≡ pattern_interval (part at (end - at) intervals)
+  interval_two t = sym (get_or-part at (end - at) intervals 1 nan (omega arith)) ∙ interval-second (part at (end - at) intervals) (omega (arith, long))
+
+  -- of one group
+  pub interval_one : end ≤ at + 1 → get_or intervals at nan ≡ pattern_interval (part at (end - at) intervals)
+  interval_one t =
+      let z : at ≡ at + 0 = omega arith in
+      (rw (← z) at (sym (get_or-part at (end - at) intervals 0 nan (omega arith))))
+      ∙ interval_only (part at (end - at) intervals) (omega (arith, long))
 
 -- ---- the walk
 
