@@ -9,7 +9,7 @@ cd "$(dirname "$0")/../.."
 (cd crates/grouping_normalizer && rt lib)
 
 # so that an array would be seen: the table of numeric is one
-if ! grep -q '^"numeric::logistic::table" array' <<< "$(tests/grouping/functions.py numeric)"; then
+if ! grep -q '^"numeric::logistic::LogisticTable::new" array' <<< "$(tests/grouping/functions.py numeric)"; then
     echo "functions.py does not show the array of numeric's table" >&2
     exit 1
 fi

@@ -16,7 +16,6 @@ use grouping_chart::refusal::Verdict;
 use grouping_chart::room::judge;
 use grouping_chart::settings;
 use grouping_chart::settings::Settings;
-use grouping_same_rhythm::own::Own;
 use lent::fill;
 use numeric::canonical::canonical;
 
@@ -29,7 +28,7 @@ pub mod found;
 pub struct GroupRecord {
     pub first: ObjectIndex,
     pub notes: usize,
-    pub own: Own,
+    pub own: Option<f64>,
     pub ratio: f64,
     pub interval: f64,
     pub penalty: f64,

@@ -10,8 +10,7 @@ use Rattle.grouping_chart.specs.Chart.{Chart}
 use Rattle.grouping_chart.specs.Outcome.{Outcome}
 use Rattle.grouping_chart.specs.Settings.{base_settings}
 use Rattle.grouping_chart.specs.declared.object.ObjectIndex.{ObjectIndex}
-use Rattle.grouping_same_rhythm.specs.declared.own.Own.{Own}
-use Rattle.grouping_same_rhythm.specs.declared.own.Own.TheVariants.{Absent, Millis}
+use Rattle.std.specs.Prelude.{Option, None, Some}
 use Rattle.call_record.specs.Call.{Memory, record_outcome}
 use Rattle.call_record.specs.declared.GroupRecord.{GroupRecord}
 use Rattle.call_record.specs.declared.Recording.{Recording}
@@ -30,12 +29,12 @@ use Rattle.cases_record.specs.Record.{record_lent, asked_outcome, OwnIs, PlacesA
 
 -- ---- the fields
 
-module _ (part : List ℕ) (own : Own) {given : ℕ} (q : given ≡ pair_at part 8) where
-  pub own_absent : {word : ℕ} {r : Bool} → own ≡ Absent → word ≡ word_at part 18 → r ≡ (eqb given 0 && eqb word 0) → Tells r (OwnIs part own)
+module _ (part : List ℕ) (own : Option Float) {given : ℕ} (q : given ≡ pair_at part 8) where
+  pub own_absent : {word : ℕ} {r : Bool} → own ≡ None → word ≡ word_at part 18 → r ≡ (eqb given 0 && eqb word 0) → Tells r (OwnIs part own)
   unfolding OwnIs
   own_absent e w c = tells_of (OwnIs part) (sym e) (tells_both _ _ c (tells_eqb_as q refl) (tells_eqb_as w refl))
 
-  pub own-millis : (x : Float) {b r : Bool} → own ≡ Millis x → Tells b (to_bits binary64 x ≡ word_at part 18) → r ≡ (eqb given 1 && b)
+  pub own-millis : (x : Float) {b r : Bool} → own ≡ Some x → Tells b (to_bits binary64 x ≡ word_at part 18) → r ≡ (eqb given 1 && b)
       → Tells r (OwnIs part own)
   unfolding OwnIs
   own-millis x e t c = tells_of (OwnIs part) (sym e) (tells_both _ _ c (tells_eqb_as q refl) t)

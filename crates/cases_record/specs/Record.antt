@@ -6,8 +6,7 @@ use Rattle.std.specs.Float.Ieee.{to_bits, of_bits}
 use Rattle.grouping_chart.specs.Chart.{Chart}
 use Rattle.grouping_chart.specs.Outcome.{Outcome}
 use Rattle.grouping_chart.specs.Settings.{base_settings}
-use Rattle.grouping_same_rhythm.specs.declared.own.Own.{Own}
-use Rattle.grouping_same_rhythm.specs.declared.own.Own.TheVariants.{Absent, Millis}
+use Rattle.std.specs.Prelude.{Option, None, Some, Float}
 use Rattle.call_record.specs.Call.{Memory, record_outcome}
 use Rattle.call_record.specs.declared.GroupRecord.{GroupRecord}
 use Rattle.call_record.specs.declared.Recording.{Recording}
@@ -23,9 +22,9 @@ unfoldable pub record_lent : ℕ → ℕ → Memory
 record_lent n spare = record { work = work_lent n spare; scratch = floats_lent n spare }
 
 -- the group's own interval: 1 and its bits, or 0 and 0 where there is none
-unfoldable pub OwnIs : List ℕ → Own → Type 0
-OwnIs part Absent = (pair_at part 8 ≡ 0) × (word_at part 18 ≡ 0)
-OwnIs part (Millis x) = (pair_at part 8 ≡ 1) × (to_bits binary64 x ≡ word_at part 18)
+unfoldable pub OwnIs : List ℕ → Option Float → Type 0
+OwnIs part None = (pair_at part 8 ≡ 0) × (word_at part 18 ≡ 0)
+OwnIs part (Some x) = (pair_at part 8 ≡ 1) × (to_bits binary64 x ≡ word_at part 18)
 
 -- every field, floats by their bits
 pub record PlacesAre (part : List ℕ) (r : GroupRecord) : Type 0 where

@@ -14,7 +14,6 @@ ghost use Rattle.cases_record.specs.Record.{record_lent, asked_outcome, OwnIs, P
 ghost use Rattle.cases_record.specs.Record.{RecordIs, RecordStored, RecordHolds};
 
 use call_record::{GroupRecord, Recording};
-use grouping_same_rhythm::own::Own;
 use numeric::canonical::bits;
 use vectors::case::Head;
 use vectors::form::{RECORD, part_formed};
@@ -39,12 +38,12 @@ fn number_holds(part: &[u8], at: usize, x: usize) -> bool
 }
 
 // Whether the own interval is that of the part: 1 and its bits, or 0 and 0 where it is absent.
-fn own_holds(part: &[u8], own: Own) -> bool
+fn own_holds(part: &[u8], own: Option<f64>) -> bool
     ensures { Tells result (OwnIs part.now own) }
 {
     match own {
-        Own::Absent => both(case::pair_at(part, 8) == 0, case::word_at(part, 18) == 0),
-        Own::Millis(x) => both(case::pair_at(part, 8) == 1, bits_hold(part, 18, x)),
+        None => both(case::pair_at(part, 8) == 0, case::word_at(part, 18) == 0),
+        Some(x) => both(case::pair_at(part, 8) == 1, bits_hold(part, 18, x)),
     }
 }
 

@@ -12,8 +12,7 @@ use Rattle.call_colour.specs.declared.Colouring.{Colouring}
 use Rattle.call_colour.specs.declared.Colouring.TheVariants as colouring
 use Rattle.call_colour.specs.declared.Stretching.{Stretching}
 use Rattle.call_colour.specs.declared.Stretching.TheVariants as stretching
-use Rattle.grouping_same_rhythm.specs.declared.own.Own.{Own}
-use Rattle.grouping_same_rhythm.specs.declared.own.Own.TheVariants.{Absent, Millis}
+use Rattle.std.specs.Prelude.{Option, None, Some, Float}
 use Rattle.call_rhythm.specs.declared.Grouping.{Grouping}
 use Rattle.call_rhythm.specs.declared.Grouping.TheVariants as grouping
 use Rattle.call_record.specs.declared.Recording.{Recording}
@@ -48,13 +47,13 @@ grouped_of (grouping.Done groups patterns) = record
 grouped_of (grouping.Refused number place) = record { refusal = number; place = place.0; groups = 0; patterngroups = 0 }
 
 -- an own interval, absent or not, and its bits
-unfoldable pub has_own : Own → ℕ
-has_own Absent = 0
-has_own (Millis x) = 1
+unfoldable pub has_own : Option Float → ℕ
+has_own None = 0
+has_own (Some x) = 1
 
-unfoldable pub own_bits : Own → ℕ
-own_bits Absent = 0
-own_bits (Millis x) = to_bits binary64 x
+unfoldable pub own_bits : Option Float → ℕ
+own_bits None = 0
+own_bits (Some x) = to_bits binary64 x
 
 -- a float leaves as its bits: a NaN as 7FF8000000000000
 unfoldable pub recorded_of : Recording → Recorded

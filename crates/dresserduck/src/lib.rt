@@ -20,7 +20,6 @@ use call_colour::{Colouring, Stretching};
 use call_encode::Encoding;
 use call_record::Recording;
 use call_rhythm::Grouping;
-use grouping_same_rhythm::own::Own;
 use numeric::canonical::bits;
 
 // dresserduck_built in the header.
@@ -302,22 +301,18 @@ pub struct Recorded {
     pub patternratiobits: u64,
 }
 
-fn has_own(own: Own) -> u64
+#[tactic(auto, unfolding(crate::specs::Host::has_own))]
+fn has_own(own: Option<f64>) -> u64
     ensures { result ≡ has_own own }
 {
-    match own {
-        Own::Absent => 0,
-        Own::Millis(_) => 1,
-    }
+    u64::from(own.is_some())
 }
 
-fn own_bits(own: Own) -> u64
+#[tactic(auto, unfolding(crate::specs::Host::own_bits))]
+fn own_bits(own: Option<f64>) -> u64
     ensures { result ≡ own_bits own }
 {
-    match own {
-        Own::Absent => 0,
-        Own::Millis(x) => bits(x),
-    }
+    own.map_or(0, bits)
 }
 
 fn recorded_of(answer: Recording) -> Recorded

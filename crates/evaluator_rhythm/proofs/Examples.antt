@@ -7,8 +7,7 @@ use lib.IntN.{pos}
 use lib.Ieee.{Float, binary64, round, sub, div, le, of_int, to_bits}
 use Rattle.numeric.specs.Constants.{eight_tenths}
 use Rattle.numeric.specs.Near.{is_near}
-use Rattle.grouping_same_rhythm.specs.declared.own.Own.{Own}
-use Rattle.grouping_same_rhythm.specs.declared.own.Own.TheVariants.{Absent, Millis}
+use Rattle.std.specs.Prelude.{Option, None, Some}
 use Rattle.evaluator_rhythm.specs.RepeatedInterval.{present, similar, similar_to, some_pair, walk_penalty}
 
 -- 0.1, the f64 nearest to 1 / 10
@@ -16,11 +15,11 @@ tenth : Float
 tenth = round binary64 false 1 10
 
 -- a whole number of milliseconds
-millis : ℕ → Own
-millis n = Millis (of_int binary64 (pos n))
+millis : ℕ → Option Float
+millis n = Some (of_int binary64 (pos n))
 
 record Example : Type 0 where
-  owns : List Own
+  owns : List (Option Float)
   penalty : ℕ
 
 examples : List Example
@@ -31,7 +30,7 @@ examples =
     ∷ record { owns = millis 100 ∷ millis 150 ∷ millis 110 ∷ []; penalty = 0x3fe9_9999_9999_999a }
     -- fewer than three groups, and one whose own interval is absent
     ∷ record { owns = millis 100 ∷ millis 100 ∷ []; penalty = 0x3ff0_0000_0000_0000 }
-    ∷ record { owns = millis 100 ∷ Absent ∷ millis 100 ∷ millis 100 ∷ []; penalty = 0x3ff0_0000_0000_0000 }
+    ∷ record { owns = millis 100 ∷ None ∷ millis 100 ∷ millis 100 ∷ []; penalty = 0x3ff0_0000_0000_0000 }
     -- zeros are not similar: 0 ÷ 0 is a NaN
     ∷ record { owns = millis 0 ∷ millis 0 ∷ millis 0 ∷ []; penalty = 0x3ff0_0000_0000_0000 }
     ∷ []

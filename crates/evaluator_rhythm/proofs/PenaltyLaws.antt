@@ -14,7 +14,7 @@ use Rattle.numeric.specs.Constants.{half64, one64, thousand64, eight_tenths}
 use Rattle.numeric.proofs.Values.{number_no_nan}
 use Rattle.numeric.proofs.ConstantLaws.{eight_tenths_bounded}
 use Rattle.numeric.proofs.Bounded.{Bounded, AtLeast, bounded_number, cond_bounded, sub_bounded, mul_bounded, div_bounded}
-use Rattle.grouping_same_rhythm.specs.declared.own.Own.{Own}
+use Rattle.std.specs.Prelude.{Option}
 use Rattle.grouping_same_rhythm.specs.declared.owns.Recent.{Recent}
 use Rattle.evaluator_rhythm.specs.RepeatedInterval.{present, some_pair, walk_penalty, newest_first, smaller, larger, duration_penalty}
 use Rattle.evaluator_rhythm.specs.RepeatedInterval.{repeated_interval_penalty}
@@ -23,7 +23,7 @@ use Rattle.evaluator_rhythm.specs.RepeatedInterval.{repeated_interval_penalty}
 one_bounded : Bounded one64 1
 one_bounded = leb→le 1 1 tt
 
-walk_bounded : (threshold : Float) (k : ℕ) (owns : List Own) → Bounded (walk_penalty threshold k owns) 1
+walk_bounded : (threshold : Float) (k : ℕ) (owns : List (Option Float)) → Bounded (walk_penalty threshold k owns) 1
 unfolding walk_penalty
 walk_bounded threshold k owns =
     let xs = present (take k owns) in

@@ -10,43 +10,42 @@ use lib.ListN.{length, get_or, take}
 use lib.Ieee.{Float}
 use Rattle.lent.proofs.NeverLaws.{never}
 use Rattle.numeric.specs.Constants.{one64, eight_tenths}
-use Rattle.grouping_same_rhythm.specs.declared.own.Own.{Own}
-use Rattle.grouping_same_rhythm.specs.declared.own.Own.TheVariants.{Absent, Millis}
+use Rattle.std.specs.Prelude.{Option, None, Some}
 use Rattle.evaluator_rhythm.specs.RepeatedInterval.{present, some_pair, walk_penalty}
 
 -- of k own intervals at most k exist
-present-most : (k : ℕ) (owns : List Own) → length (present (take k owns)) ≤ k
+present-most : (k : ℕ) (owns : List (Option Float)) → length (present (take k owns)) ≤ k
 unfolding present
 present-most zero owns = omega arith
 present-most (suc k) [] = omega arith
-present-most (suc k) (Absent ∷ owns) = let h = present-most k owns in omega arith
-present-most (suc k) (Millis x ∷ owns) = let h = present-most k owns in omega arith
+present-most (suc k) (None ∷ owns) = let h = present-most k owns in omega arith
+present-most (suc k) (Some x ∷ owns) = let h = present-most k owns in omega arith
 
 -- and fewer where one of them is absent, or the list ends before k
-present-fewer : (k j : ℕ) (owns : List Own) → j < k → get_or owns j Absent ≡ Absent → length (present (take k owns)) < k
+present-fewer : (k j : ℕ) (owns : List (Option Float)) → j < k → get_or owns j None ≡ None → length (present (take k owns)) < k
 unfolding present
 present-fewer zero j owns h e = omega arith
 present-fewer (suc k) j [] h e = omega arith
-present-fewer (suc k) j (Absent ∷ owns) h e = let g = present-most k owns in omega arith
-present-fewer (suc k) zero (Millis x ∷ owns) h e = never (cc)
-present-fewer (suc k) (suc j) (Millis x ∷ owns) h e = let g = present-fewer k j owns (omega arith) e in omega arith
+present-fewer (suc k) j (None ∷ owns) h e = let g = present-most k owns in omega arith
+present-fewer (suc k) zero (Some x ∷ owns) h e = never (cc)
+present-fewer (suc k) (suc j) (Some x ∷ owns) h e = let g = present-fewer k j owns (omega arith) e in omega arith
 
-pub walk_absent : (threshold : Float) (k j : ℕ) (owns : List Own) → j < k → get_or owns j Absent ≡ Absent → one64 ≡ walk_penalty threshold k owns
+pub walk_absent : (threshold : Float) (k j : ℕ) (owns : List (Option Float)) → j < k → get_or owns j None ≡ None → one64 ≡ walk_penalty threshold k owns
 unfolding walk_penalty
 walk_absent threshold k j owns h e = rw (lt-ltb (length (present (take k owns))) k (present-fewer k j owns h e))
 
 -- own intervals that all exist, with their numbers of milliseconds
-pub data Existing : List Own → List Float → Type 0 where
+pub data Existing : List (Option Float) → List Float → Type 0 where
   none : Existing [] []
-  next : {own : Own} {owns : List Own} {x : Float} {xs : List Float} → own ≡ Millis x → Existing owns xs → Existing (own ∷ owns) (x ∷ xs)
+  next : {own : Option Float} {owns : List (Option Float)} {x : Float} {xs : List Float} → own ≡ Some x → Existing owns xs → Existing (own ∷ owns) (x ∷ xs)
 
-present_all : {owns : List Own} {xs : List Float} → Existing owns xs → present owns ≡ xs
+present_all : {owns : List (Option Float)} {xs : List Float} → Existing owns xs → present owns ≡ xs
 unfolding present
 present_all none = refl
 present_all (next {own} {owns} {x} {xs} h r) = rw (h, present_all r)
 
 -- b is what the search for a similar pair found
-pub walk_existing : (threshold : Float) (k : ℕ) (owns : List Own) {xs : List Float} {b : Bool} → Existing (take k owns) xs → length xs ≡ k
+pub walk_existing : (threshold : Float) (k : ℕ) (owns : List (Option Float)) {xs : List Float} {b : Bool} → Existing (take k owns) xs → length xs ≡ k
     → b ≡ some_pair threshold xs → cond b eight_tenths one64 ≡ walk_penalty threshold k owns
 unfolding walk_penalty
 walk_existing threshold k owns {xs} {b} r l h = rw (present_all r, le-ltb (length xs) k (le_of_eq (sym l)), ← h)

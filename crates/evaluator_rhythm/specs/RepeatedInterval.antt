@@ -6,15 +6,14 @@ use Rattle.std.specs.Float.{binary64}
 use Rattle.std.specs.Float.Ieee.{sub, mul, div, le}
 use Rattle.numeric.specs.Constants.{half64, one64, two64, eight_tenths}
 use Rattle.numeric.specs.Near.{is_near}
-use Rattle.grouping_same_rhythm.specs.declared.own.Own.{Own}
-use Rattle.grouping_same_rhythm.specs.declared.own.Own.TheVariants.{Absent, Millis}
+use Rattle.std.specs.Prelude.{Option, None, Some}
 use Rattle.grouping_same_rhythm.specs.declared.owns.Recent.{Recent}
 
 -- the own intervals that exist
-unfoldable pub present : List Own → List Float
+unfoldable pub present : List (Option Float) → List Float
 present [] = []
-present (Absent ∷ owns) = present owns
-present (Millis x ∷ owns) = x ∷ present owns
+present (None ∷ owns) = present owns
+present (Some x ∷ owns) = x ∷ present owns
 
 -- the quotient of two own intervals is near 1.0
 unfoldable pub similar : Float → Float → Float → Bool
@@ -31,13 +30,13 @@ some_pair threshold [] = false
 some_pair threshold (newer ∷ older) = similar_to threshold newer older || some_pair threshold older
 
 -- the walk over k own intervals, the newest first: where one of them is missing there is nothing to repeat
-unfoldable pub walk_penalty : Float → ℕ → List Own → Float
+unfoldable pub walk_penalty : Float → ℕ → List (Option Float) → Float
 walk_penalty threshold k owns =
     let walked = present (take k owns) in
     cond (ltb (length walked) k) one64 (cond (some_pair threshold walked) eight_tenths one64)
 
 -- a group's own interval and those of the three groups before it
-unfoldable pub newest_first : Recent → List Own
+unfoldable pub newest_first : Recent → List (Option Float)
 newest_first r = r.newest ∷ r.second ∷ r.third ∷ r.fourth ∷ []
 
 unfoldable pub smaller : Float → Float → Float

@@ -1,14 +1,13 @@
 // The penalty of a rhythm group that repeats an interval.
 #![tactic(auto)]
 
-ghost use Rattle.std.specs.Prelude.{◌≡◌, cond, [], ◌∷◌, ltb};
+ghost use Rattle.std.specs.Prelude.{◌≡◌, cond, ltb};
 ghost use Rattle.numeric.specs.Constants.{one64, eight_tenths};
-ghost use Rattle.evaluator_rhythm.specs.RepeatedInterval.{similar, some_pair, walk_penalty};
+ghost use Rattle.evaluator_rhythm.specs.RepeatedInterval.{similar, similar_to, some_pair, walk_penalty};
 ghost use Rattle.evaluator_rhythm.specs.passes.Walk.{ThreeOrFour};
 ghost use Rattle.evaluator_rhythm.specs.RepeatedInterval.{newest_first, smaller, larger, duration_penalty};
 ghost use Rattle.evaluator_rhythm.specs.RepeatedInterval.{repeated_interval_penalty};
 
-use grouping_same_rhythm::own::Own;
 use grouping_same_rhythm::owns::Recent;
 use numeric::near::near;
 
@@ -18,32 +17,24 @@ fn is_similar(newer: f64, older: f64, threshold: f64) -> bool
     near(1.0, newer / older, threshold)
 }
 
-// The newest first.
-fn similar_three(a: f64, b: f64, c: f64, threshold: f64) -> bool
-    ensures { result ≡ some_pair threshold (a ∷ b ∷ c ∷ []) }
+// Whether an own interval is similar to an older one.
+fn similar_to(newer: f64, older: &[f64], threshold: f64) -> bool
+    ensures { result ≡ similar_to threshold newer older.now }
 {
-    if is_similar(a, b, threshold) {
-        return true;
-    }
-    if is_similar(a, c, threshold) {
-        return true;
-    }
-    is_similar(b, c, threshold)
+    older.iter().any(|o| is_similar(newer, *o, threshold))
 }
 
-fn similar_four(a: f64, b: f64, c: f64, d: f64, threshold: f64) -> bool
-    ensures { result ≡ some_pair threshold (a ∷ b ∷ c ∷ d ∷ []) }
+// Whether one of them is similar to an older one. The newest comes first.
+fn some_pair(owns: &[f64], threshold: f64) -> bool
+    ensures { result ≡ some_pair threshold owns.now }
 {
-    if is_similar(a, b, threshold) {
-        return true;
+    for i in 0..owns.len() {
+        let newer = owns[i];
+        if similar_to(newer, &owns[i + 1..], threshold) {
+            return true;
+        }
     }
-    if is_similar(a, c, threshold) {
-        return true;
-    }
-    if is_similar(a, d, threshold) {
-        return true;
-    }
-    similar_three(b, c, d, threshold)
+    false
 }
 
 fn penalty_if(similar: bool) -> f64
@@ -57,26 +48,22 @@ fn walk(owns: Recent, k: usize, threshold: f64) -> f64
     requires { ThreeOrFour k }
     ensures { result ≡ walk_penalty threshold k (newest_first owns) }
 {
-    let newest = owns.newest;
-    let second = owns.second;
-    let third = owns.third;
-    let fourth = owns.fourth;
-    let Own::Millis(a) = newest else {
+    let Some(a) = owns.newest else {
         return 1.0;
     };
-    let Own::Millis(b) = second else {
+    let Some(b) = owns.second else {
         return 1.0;
     };
-    let Own::Millis(c) = third else {
+    let Some(c) = owns.third else {
         return 1.0;
     };
     if k == 3 {
-        return penalty_if(similar_three(a, b, c, threshold));
+        return penalty_if(some_pair(&[a, b, c], threshold));
     }
-    let Own::Millis(d) = fourth else {
+    let Some(d) = owns.fourth else {
         return 1.0;
     };
-    penalty_if(similar_four(a, b, c, d, threshold))
+    penalty_if(some_pair(&[a, b, c, d], threshold))
 }
 
 // A group of six notes or more takes no penalty from the walk over four.
@@ -84,17 +71,21 @@ fn short_penalty(owns: Recent, notes: usize, threshold: f64) -> f64
     ensures { result ≡ cond (ltb notes 6) (walk_penalty threshold 4 (newest_first owns)) one64 }
 {
     if notes < 6 {
-        return walk(owns, 4, threshold);
+        walk(owns, 4, threshold)
+    } else {
+        1.0
     }
-    1.0
 }
 
+// Not the library's `min` and `max`: these pass over a NaN, and of two zeros give either.
+#[tactic(auto, unfolding(crate::specs::RepeatedInterval::smaller))]
 fn smaller_of(x: f64, y: f64) -> f64
     ensures { result ≡ smaller x y }
 {
     if x <= y { x } else { y }
 }
 
+#[tactic(auto, unfolding(crate::specs::RepeatedInterval::larger))]
 fn larger_of(x: f64, y: f64) -> f64
     ensures { result ≡ larger x y }
 {

@@ -16,8 +16,7 @@ use Rattle.grouping_normalizer.specs.Normalizer.{normalized}
 use Rattle.call_rhythm.specs.Call as rhythm
 use Rattle.call_rhythm.specs.declared.Grouping.{Grouping}
 use Rattle.call_rhythm.specs.declared.Grouping.TheVariants as grouping
-use Rattle.grouping_same_rhythm.specs.declared.own.Own.{Own}
-use Rattle.grouping_same_rhythm.specs.declared.own.Own.TheVariants.{Millis}
+use Rattle.std.specs.Prelude.{Option, Some}
 use Rattle.call_colour.specs.Call as calls
 use Rattle.call_colour.specs.declared.Colouring.{Colouring}
 use Rattle.call_colour.specs.declared.Colouring.TheVariants as colouring
@@ -111,8 +110,8 @@ rhythm_shown o =
     rhythm_answer o.answer ∷ o.memory.group ∷ o.memory.pattern ∷ o.memory.work
     ∷ bits_of o.memory.scratch ∷ []
 
-unfoldable pub millis : ℕ → Own
-millis n = Millis (whole n)
+unfoldable pub millis : ℕ → Option Float
+millis n = Some (whole n)
 
 unfoldable pub answer : Question → List (List ℕ)
 answer (encoded kinds) =

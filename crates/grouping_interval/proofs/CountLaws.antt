@@ -1,7 +1,7 @@
 -- Notes counted one by one make as many groups as their marks: the groups so far, with the marks of what is pending and of the deltas left, give the groups of
 -- all.
 use mathlib.Core.Path.{◌≡◌, refl, sym, ap, ◌∙◌}
-use mathlib.Core.Bool.{Bool, true, false, cond, ◌&&◌}
+use mathlib.Core.Bool.{Bool, true, false, cond}
 use mathlib.Core.List.{List, [], ◌∷◌}
 use Prim.Native.Nat.{ℕ, suc, ◌+◌, ◌≤◌, ◌<◌}
 use native.Mathlib.Nat.{add-zero}
@@ -23,46 +23,52 @@ use Rattle.grouping_interval.specs.IntervalGrouping.{is_rise, last_taken, marks_
 use Rattle.grouping_interval.proofs.IntervalLaws.{marks_near, marks_rise, marks_neither, marks_one, marks_none, marks_first, length_marks}
 use Rattle.grouping_interval.proofs.GroupLaws.{marks_all}
 use Rattle.grouping_interval.specs.declared.notes.Counting.{Counting}
-use Rattle.grouping_interval.specs.passes.Counting.{counting₀, counted, groups_counted}
+use Rattle.grouping_interval.specs.passes.Counting.{counting₀, counted_behind, counted_next, counted, counted_with, groups_counted}
+use Rattle.std.specs.Prelude.{Option, Some, None}
 
 -- ---- the cases of a further note
 
 module _ (margin : Float) (c : Counting) (d : Float) where
-  pub counted_first : c.notes ≡ 0 → record { notes = 1; groups = 1; last = d; next = d; pending = false } ≡ counted margin c d
+  pub counted_first : c.notes ≡ 0 → record { notes = 1; groups = 1; last = d; pending = None } ≡ counted margin c d
   unfolding counted
   counted_first e = rw (eq-eqb _ _ e)
 
   module _ (n : c.notes ≡ 0 → ⊥) where
-    pub counted_next : c.pending ≡ false → record { notes = c.notes + 1; groups = c.groups; last = c.last; next = d; pending = true } ≡ counted margin c d
-    unfolding counted
-    counted_next p = rw (ne_eqb _ _ n, p)
+    pub counted-open : c.pending ≡ None → record { notes = c.notes + 1; groups = c.groups; last = c.last; pending = Some d } ≡ counted margin c d
+    unfolding counted counted_next
+    counted-open p = rw (ne_eqb _ _ n, p)
 
-    pub counted-near : c.pending ≡ true → is_near margin c.next d ≡ true
-        → record { notes = c.notes + 1; groups = c.groups; last = c.next; next = d; pending = true } ≡ counted margin c d
-    unfolding counted
-    counted-near p e = rw (ne_eqb _ _ n, p, e)
+    pub counted-pending : {next : Float} → c.pending ≡ Some next → counted_behind margin c next d ≡ counted margin c d
+    unfolding counted counted_next
+    counted-pending p = rw (ne_eqb _ _ n, p)
 
-    pub counted_rise : c.pending ≡ true → is_near margin c.next d ≡ false → is_rise margin c.next d ≡ true
-        → record { notes = c.notes + 1; groups = c.groups + 1; last = d; next = d; pending = false } ≡ counted margin c d
-    unfolding counted
-    counted_rise p e r = rw (ne_eqb _ _ n, p, e, r)
+module _ (margin : Float) (c : Counting) (next d : Float) where
+  pub behind-near : is_near margin next d ≡ true
+      → record { notes = c.notes + 1; groups = c.groups; last = next; pending = Some d } ≡ counted_behind margin c next d
+  unfolding counted_behind
+  behind-near e = rw e
 
-    pub counted_neither : c.pending ≡ true → is_near margin c.next d ≡ false → is_rise margin c.next d ≡ false
-        → record { notes = c.notes + 1; groups = c.groups + 1; last = c.next; next = d; pending = true } ≡ counted margin c d
-    unfolding counted
-    counted_neither p e r = rw (ne_eqb _ _ n, p, e, r)
+  pub behind_rise : is_near margin next d ≡ false → is_rise margin next d ≡ true
+      → record { notes = c.notes + 1; groups = c.groups + 1; last = d; pending = None } ≡ counted_behind margin c next d
+  unfolding counted_behind
+  behind_rise e r = rw (e, r)
+
+  pub behind_neither : is_near margin next d ≡ false → is_rise margin next d ≡ false
+      → record { notes = c.notes + 1; groups = c.groups + 1; last = next; pending = Some d } ≡ counted_behind margin c next d
+  unfolding counted_behind
+  behind_neither e r = rw (e, r)
 
 -- ---- the cases of the end
 
 module _ (margin : Float) (c : Counting) where
-  pub ended_open : c.pending ≡ false → c.groups ≡ groups_counted margin c
-  unfolding groups_counted
+  pub ended_open : c.pending ≡ None → c.groups ≡ groups_counted margin c
+  unfolding groups_counted counted_with
   ended_open p = rw p
 
-  pub ended_pending : (b : Bool) → c.pending ≡ true → last_taken margin (ltb 2 c.notes) c.last c.next ≡ b
+  pub ended_pending : (next : Float) (b : Bool) → c.pending ≡ Some next → last_taken margin (ltb 2 c.notes) c.last next ≡ b
       → cond b c.groups (c.groups + 1) ≡ groups_counted margin c
-  unfolding groups_counted
-  ended_pending b p e = rw (p, e)
+  unfolding groups_counted counted_with
+  ended_pending next b p e = rw (p, e)
 
 -- ---- the marks of what is pending and left
 
@@ -71,26 +77,30 @@ record Begun (c : Counting) : Type 0 where
   some-notes : c.notes ≡ 0 → ⊥
   some-groups : 1 ≤ c.groups
 
+-- what is pending stands before the deltas left
+abbrev behind : Option Float → List Float → List Float
+behind None ds = ds
+behind (Some next) ds = next ∷ ds
+
 -- counting on over the deltas left gives what their marks give
 abbrev Meets : Float → Counting → List Float → Type 0
 Meets margin c ds =
     groups_counted margin (end_state (counted margin) c ds)
-    ≡ count_from c.groups (marks_after margin (ltb 2 (c.notes + length ds)) c.last (cond c.pending (c.next ∷ ds) ds))
+    ≡ count_from c.groups (marks_after margin (ltb 2 (c.notes + length ds)) c.last (behind c.pending ds))
 
 meets_none : (margin : Float) (c : Counting) → Begun c → Meets margin c []
-unfolding groups_counted
+unfolding groups_counted counted_with
 meets_none margin c h = rw (after_none (counted margin) c, add-zero c.notes) (by c.pending)
   where
     last_by : (b : Bool) → cond b c.groups (c.groups + 1) ≡ count_from c.groups (cond b 0 1 ∷ [])
     last_by true = sym (count_same c.groups [] h.some-groups ∙ count-over c.groups)
     last_by false = sym (count_new c.groups [] ∙ count-over (c.groups + 1))
 
-    by : (p : Bool) → cond p (cond (ltb 2 c.notes && is_near margin c.next c.last) c.groups (c.groups + 1)) c.groups
-        ≡ count_from c.groups (marks_after margin (ltb 2 c.notes) c.last (cond p (c.next ∷ []) []))
-    by true =
+    by : (p : Option Float) → counted_with margin c p ≡ count_from c.groups (marks_after margin (ltb 2 c.notes) c.last (behind p []))
+    by (Some next) =
         let many : Bool = ltb 2 c.notes in
-        last_by (many && is_near margin c.next c.last) ∙ ap (count_from c.groups) (sym (marks_one margin many c.last c.next))
-    by false = sym (ap (count_from c.groups) (marks_none margin (ltb 2 c.notes) c.last) ∙ count-over c.groups)
+        last_by (last_taken margin many c.last next) ∙ ap (count_from c.groups) (sym (marks_one margin many c.last next))
+    by None = sym (ap (count_from c.groups) (marks_none margin (ltb 2 c.notes) c.last) ∙ count-over c.groups)
 
 module _ (margin : Float) (c : Counting) (d : Float) (ds : List Float) (h : Begun c) (u : (c' : Counting) → Begun c' → Meets margin c' ds) where
   many : Bool
@@ -98,8 +108,8 @@ module _ (margin : Float) (c : Counting) (d : Float) (ds : List Float) (h : Begu
 
   -- one note more
   meets_on : (c' : Counting) → c' ≡ counted margin c d → Begun c'
-      → count_from c.groups (marks_after margin many c.last (cond c.pending (c.next ∷ d ∷ ds) (d ∷ ds)))
-      ≡ count_from c'.groups (marks_after margin (ltb 2 (c'.notes + length ds)) c'.last (cond c'.pending (c'.next ∷ ds) ds))
+      → count_from c.groups (marks_after margin many c.last (behind c.pending (d ∷ ds)))
+      ≡ count_from c'.groups (marks_after margin (ltb 2 (c'.notes + length ds)) c'.last (behind c'.pending ds))
       → Meets margin c (d ∷ ds)
   unfolding many
   meets_on c' e b k =
@@ -108,39 +118,47 @@ module _ (margin : Float) (c : Counting) (d : Float) (ds : List Float) (h : Begu
       ∙ ap (λ (x : Counting). groups_counted margin (end_state (counted margin) x ds)) (sym e)
       ∙ u c' b
       ∙ sym k
-      ∙ ap (λ (n : ℕ). count_from c.groups (marks_after margin (ltb 2 n) c.last (cond c.pending (c.next ∷ d ∷ ds) (d ∷ ds)))) n
+      ∙ ap (λ (n : ℕ). count_from c.groups (marks_after margin (ltb 2 n) c.last (behind c.pending (d ∷ ds)))) n
 
-  meets_more : (p n r : Bool) → c.pending ≡ p → is_near margin c.next d ≡ n → is_rise margin c.next d ≡ r → Meets margin c (d ∷ ds)
+  meets_open : c.pending ≡ None → Meets margin c (d ∷ ds)
   unfolding many
-  meets_more false n r p e f =
-      meets_on _ (counted_next margin c d h.some-notes p) (record { some-notes = λ z. omega arith; some-groups = h.some-groups }) (rw p)
-  meets_more true true r p e f =
-      meets_on _ (counted-near margin c d h.some-notes p e) (record { some-notes = λ z. omega arith; some-groups = h.some-groups })
-      (rw p (ap (count_from c.groups) (marks_near margin many c.last c.next d ds e) ∙ count_same c.groups _ h.some-groups))
-  meets_more true false true p e f =
-      meets_on _ (counted_rise margin c d h.some-notes p e f) (record { some-notes = λ z. omega arith; some-groups = omega arith })
+  meets_open p = meets_on _ (counted-open margin c d h.some-notes p) (record { some-notes = λ z. omega arith; some-groups = h.some-groups }) (rw p)
+
+  meets_behind : (next : Float) → c.pending ≡ Some next → (n r : Bool) → is_near margin next d ≡ n → is_rise margin next d ≡ r → Meets margin c (d ∷ ds)
+  unfolding many
+  meets_behind next p true r e f =
+      meets_on _ (behind-near margin c next d e ∙ counted-pending margin c d h.some-notes p)
+      (record { some-notes = λ z. omega arith; some-groups = h.some-groups })
+      (rw p (ap (count_from c.groups) (marks_near margin many c.last next d ds e) ∙ count_same c.groups _ h.some-groups))
+  meets_behind next p false true e f =
+      meets_on _ (behind_rise margin c next d e f ∙ counted-pending margin c d h.some-notes p)
+      (record { some-notes = λ z. omega arith; some-groups = omega arith })
       (rw p
-      (ap (count_from c.groups) (marks_rise margin many c.last c.next d ds e f)
+      (ap (count_from c.groups) (marks_rise margin many c.last next d ds e f)
       ∙ count_same c.groups _ h.some-groups
       ∙ count_new c.groups _))
-  meets_more true false false p e f =
-      meets_on _ (counted_neither margin c d h.some-notes p e f) (record { some-notes = λ z. omega arith; some-groups = omega arith })
-      (rw p (ap (count_from c.groups) (marks_neither margin many c.last c.next d ds e f) ∙ count_new c.groups _))
+  meets_behind next p false false e f =
+      meets_on _ (behind_neither margin c next d e f ∙ counted-pending margin c d h.some-notes p)
+      (record { some-notes = λ z. omega arith; some-groups = omega arith })
+      (rw p (ap (count_from c.groups) (marks_neither margin many c.last next d ds e f) ∙ count_new c.groups _))
+
+  meets_more : (p : Option Float) → c.pending ≡ p → Meets margin c (d ∷ ds)
+  meets_more None p = meets_open p
+  meets_more (Some next) p = meets_behind next p (is_near margin next d) (is_rise margin next d) refl refl
 
 meets : (margin : Float) (c : Counting) (ds : List Float) → Begun c → Meets margin c ds
 meets margin c [] h = meets_none margin c h
-meets margin c (d ∷ ds) h =
-    meets_more margin c d ds h (λ c' b. meets margin c' ds b) c.pending (is_near margin c.next d) (is_rise margin c.next d) refl refl refl
+meets margin c (d ∷ ds) h = meets_more margin c d ds h (λ c' b. meets margin c' ds b) c.pending refl
 
 -- all the notes, counted from none
 pub counted_all : (margin : Float) (ds : List Float) → groups_counted margin (end_state (counted margin) counting₀ ds) ≡ group_count (interval_marks margin ds)
-unfolding counted groups_counted counting₀
+unfolding counted groups_counted counted_with counting₀
 counted_all margin [] =
     ap (groups_counted margin) (after_none (counted margin) counting₀) ∙ sym (count_none (interval_marks margin []) (length_marks margin []))
 counted_all margin (d ∷ ds) =
     let one : 1 + length ds ≡ suc (length ds) = omega arith in
     ap (groups_counted margin) (after_first (counted margin) counting₀ d ds)
-    ∙ meets margin (record { notes = 1; groups = 1; last = d; next = d; pending = false }) ds
+    ∙ meets margin (record { notes = 1; groups = 1; last = d; pending = None }) ds
     (record { some-notes = λ z. omega arith; some-groups = omega arith })
     ∙ ap (λ (n : ℕ). count_from 1 (marks_after margin (ltb 2 n) d ds)) one
     ∙ sym (count_new 0 (marks_after margin (ltb 2 (suc (length ds))) d ds))
@@ -149,18 +167,27 @@ counted_all margin (d ∷ ds) =
 
 -- ---- the loop of `count_groups`
 
-counted_grows : (margin : Float) (c : Counting) (d : Float) → c.groups ≤ c.notes
-    → ((counted margin c d).notes ≤ c.notes + 1) × ((counted margin c d).groups ≤ (counted margin c d).notes)
-unfolding counted
-counted_grows margin c d h = by (eqb c.notes 0) c.pending (is_near margin c.next d) (is_rise margin c.next d) refl refl refl refl
+-- a further note makes one group more at the most
+record Grown (c c' : Counting) : Type 0 where
+  notes : c'.notes ≤ c.notes + 1
+  groups : c'.groups ≤ c'.notes
+
+counted_grows : (margin : Float) (c : Counting) (d : Float) → c.groups ≤ c.notes → Grown c (counted margin c d)
+unfolding counted counted_next
+counted_grows margin c d h = by (eqb c.notes 0)
   where
-    by : (z p n r : Bool) → eqb c.notes 0 ≡ z → c.pending ≡ p → is_near margin c.next d ≡ n → is_rise margin c.next d ≡ r
-        → ((counted margin c d).notes ≤ c.notes + 1) × ((counted margin c d).groups ≤ (counted margin c d).notes)
-    by true p n r a b e f = rw a (omega arith)
-    by false false n r a b e f = rw (a, b) (omega arith)
-    by false true true r a b e f = rw (a, b, e) (omega arith)
-    by false true false true a b e f = rw (a, b, e, f) (omega arith)
-    by false true false false a b e f = rw (a, b, e, f) (omega arith)
+    behind_grows : (next : Float) (n r : Bool) → is_near margin next d ≡ n → is_rise margin next d ≡ r → Grown c (counted_behind margin c next d)
+    behind_grows next true r e f = rw (← behind-near margin c next d e) (record { notes = omega arith; groups = omega arith })
+    behind_grows next false true e f = rw (← behind_rise margin c next d e f) (record { notes = omega arith; groups = omega arith })
+    behind_grows next false false e f = rw (← behind_neither margin c next d e f) (record { notes = omega arith; groups = omega arith })
+
+    next_grows : (p : Option Float) → Grown c (counted_next margin c p d)
+    next_grows None = record { notes = omega arith; groups = omega arith }
+    next_grows (Some next) = behind_grows next (is_near margin next d) (is_rise margin next d) refl refl
+
+    by : (z : Bool) → Grown c (cond z (record { notes = 1; groups = 1; last = d; pending = None }) (counted_next margin c c.pending d))
+    by true = record { notes = omega arith; groups = omega arith }
+    by false = next_grows c.pending
 
 -- the notes left, counted on from c, give what all of them give
 pub record Counts (margin : Float) (ks : List ℕ) (ds : List Float) (c : Counting) (i : ℕ) : Type 0 where
@@ -177,7 +204,7 @@ counts-start margin ks ds e = record { whole = e; left = refl; groups_le = omega
 module _ {margin : Float} {ks : List ℕ} {ds : List Float} {c : Counting} {i : ℕ} (x : Counts margin ks ds c i) where
   pub counts_note : (r : Counting) → i < length ks → is_note (get_or ks i 0) ≡ true → r ≡ counted margin c (get_or ds i nan) → Counts margin ks ds r (i + 1)
   counts_note r h n e =
-      let g : (r.notes ≤ c.notes + 1) × (r.groups ≤ r.notes) = rw e (counted_grows margin c (get_or ds i nan) x.groups_le) in
+      let g : Grown c r = rw e (counted_grows margin c (get_or ds i nan) x.groups_le) in
       record {
         whole = x.whole;
         left =

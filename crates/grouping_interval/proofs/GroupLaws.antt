@@ -166,8 +166,39 @@ module _ (margin : Float) (values : List Float) (at : ℕ) where
           rw (m, drop-drop g (suc at) values, ← e, k)
 
 -- a loop over one group: the group took the value before i, and it ends where the group that starts at `at` ends
-pub record Within (margin : Float) (values : List Float) (at n i : ℕ) : Type 0 where
+pub record Within (margin : Float) (values : List Float) (at i : ℕ) : Type 0 where
   pub here : at < i
   pub upto : i ≤ length values
-  pub all : n ≡ length values
   pub same : end_after margin values i ≡ group_end margin values at
+
+module _ {margin : Float} {values : List Float} {at : ℕ} where
+  pub within_start : at < length values → Within margin values at (at + 1)
+  within_start h = record { here = omega arith; upto = omega arith; same = end-inside margin values at h }
+
+  pub within_turn : {i : ℕ} → Within margin values at i → i < length values - 1
+      → is_near margin (get_or values i nan) (get_or values (i + 1) nan) ≡ true → Within margin values at (i + 1)
+  within_turn {i} x h e = record {
+    here = omega (arith, x.here);
+    upto = omega arith;
+    same = sym (end-near margin values i (omega arith) e) ∙ x.same;
+  }
+
+  pub within_end : {i : ℕ} → Within margin values at i → i < length values - 1 → (r : Bool)
+      → is_near margin (get_or values i nan) (get_or values (i + 1) nan) ≡ false
+      → is_rise margin (get_or values i nan) (get_or values (i + 1) nan) ≡ r → cond r (i + 1) i ≡ group_end margin values at
+  within_end {i} x h r e f = sym (end_turn margin values i r (omega arith) e f) ∙ x.same
+
+  -- the last value has none behind it
+  pub within_last : {i : ℕ} → Within margin values at i → i ≡ length values - 1 → i < length values → (b : Bool)
+      → last_taken margin (ltb 2 (length values)) (get_or values (length values - 2) nan) (get_or values (length values - 1) nan) ≡ b
+      → cond b (length values) (length values - 1) ≡ group_end margin values at
+  within_last {i} x p k b e =
+      let q : i - 1 ≡ length values - 2 = omega arith in
+      let r : i + 1 ≡ length values = omega arith in
+      let f : last_taken margin (ltb 2 (length values)) (get_or values (i - 1) nan) (get_or values i nan) ≡ b = rw (q, p) e in
+      rw (← p, ← r) (sym (end_last margin values i b k (omega arith) f) ∙ x.same)
+
+  pub within_none : {i : ℕ} → Within margin values at i → length values ≤ i → length values ≡ group_end margin values at
+  within_none {i} x h =
+      let p : length values ≡ i = omega (arith, x.upto) in
+      p ∙ sym (end_none margin values i h) ∙ x.same

@@ -4,10 +4,10 @@ ghost use Rattle.grouping_marks.specs.Marks.{group_count};
 ghost use Rattle.grouping_interval.specs.Notes.{of_notes};
 ghost use Rattle.grouping_interval.specs.IntervalGrouping.{interval_marks};
 ghost use Rattle.grouping_interval.specs.passes.Rooms.{NotesRoom, NotesListed};
-ghost use Rattle.grouping_interval.specs.passes.Counting.{SumsFit, Change, counted, groups_counted};
+ghost use Rattle.grouping_interval.specs.passes.Counting.{SumsFit, counted_behind, counted, groups_counted};
 
 use crate::{last_taken, rise};
-use grouping_chart::object::{NoteIndex, ObjectIndex, is_note};
+use grouping_chart::object::{NoteIndex, is_note};
 use numeric::near::near;
 
 // Puts each note's object number and delta in front. The result is how many notes there are.
@@ -17,54 +17,54 @@ pub fn list_notes(kind: &[u8], delta: &[f64], objects: &mut [u16], values: &mut 
         objects.old objects.new values.old values.new result }
 {
     let mut note = NoteIndex(0);
-    let mut object = ObjectIndex(0);
-    while object.0 < kind.len() {
-        let i = object.0;
-        let k = kind[i];
-        if is_note(k) {
-            let j = note.0;
-            objects[j] = i as u16;
-            values[j] = delta[i];
-            note = NoteIndex(j + 1);
-            object = ObjectIndex(i + 1);
-        } else {
-            object = ObjectIndex(i + 1);
+    for (i, number) in kind.iter().enumerate() {
+        if is_note(*number) {
+            objects[note.0] = i as u16;
+            values[note.0] = delta[i];
+            note = NoteIndex(note.0 + 1);
         }
     }
     note.0
 }
 
-// The groups of the notes seen so far. While `pending`, it is not known yet whether the last note, of delta `next`, is
-// taken by the group that took `last`.
+// The groups of the notes seen so far, of which `last` is the last that a group took. It is not known yet whether that
+// group takes a note that is pending too, of which this is the delta.
 #[derive(Clone, Copy)]
 pub struct Counting {
     pub notes: usize,
     pub groups: usize,
     pub last: f64,
-    pub next: f64,
-    pub pending: bool,
+    pub pending: Option<f64>,
 }
 
-// After a pending note, of a delta that is not near the one that follows it.
-fn count_change(c: Counting, d: f64, margin: f64) -> Counting
-    requires { Change margin c d }
-    ensures { result ≡ counted margin c d }
+// After a pending note of delta `next`, one of delta d.
+fn count_behind(c: Counting, next: f64, d: f64, margin: f64) -> Counting
+    requires { SumsFit c }
+    ensures { result ≡ counted_behind margin c next d }
 {
-    if rise(c.next, d, margin) {
-        return Counting {
-            notes: c.notes + 1,
-            groups: c.groups + 1,
+    let notes = c.notes + 1;
+    let groups = c.groups + 1;
+    if near(next, d, margin) {
+        Counting {
+            notes,
+            groups: c.groups,
+            last: next,
+            pending: Some(d),
+        }
+    } else if rise(next, d, margin) {
+        Counting {
+            notes,
+            groups,
             last: d,
-            next: d,
-            pending: false,
-        };
-    }
-    Counting {
-        notes: c.notes + 1,
-        groups: c.groups + 1,
-        last: c.next,
-        next: d,
-        pending: true,
+            pending: None,
+        }
+    } else {
+        Counting {
+            notes,
+            groups,
+            last: next,
+            pending: Some(d),
+        }
     }
 }
 
@@ -78,28 +78,17 @@ fn count_note(c: Counting, d: f64, margin: f64) -> Counting
             notes: 1,
             groups: 1,
             last: d,
-            next: d,
-            pending: false,
+            pending: None,
         };
     }
-    if c.pending {
-        if near(c.next, d, margin) {
-            return Counting {
-                notes: c.notes + 1,
-                groups: c.groups,
-                last: c.next,
-                next: d,
-                pending: true,
-            };
-        }
-        return count_change(c, d, margin);
-    }
-    Counting {
-        notes: c.notes + 1,
-        groups: c.groups,
-        last: c.last,
-        next: d,
-        pending: true,
+    match c.pending {
+        Some(next) => count_behind(c, next, d, margin),
+        None => Counting {
+            notes: c.notes + 1,
+            groups: c.groups,
+            last: c.last,
+            pending: Some(d),
+        },
     }
 }
 
@@ -108,13 +97,16 @@ fn groups_counted(c: Counting, margin: f64) -> usize
     requires { SumsFit c }
     ensures { result ≡ groups_counted margin c }
 {
-    if c.pending {
-        if last_taken(c.notes, c.last, c.next, margin) {
-            return c.groups;
+    match c.pending {
+        None => c.groups,
+        Some(next) => {
+            if last_taken(c.notes, c.last, next, margin) {
+                c.groups
+            } else {
+                c.groups + 1
+            }
         }
-        return c.groups + 1;
     }
-    c.groups
 }
 
 // How many rhythm groups a chart's notes make. Nothing is written.
@@ -126,16 +118,11 @@ pub fn count_groups(kind: &[u8], delta: &[f64], margin: f64) -> usize
         notes: 0,
         groups: 0,
         last: 0.0,
-        next: 0.0,
-        pending: false,
+        pending: None,
     };
-    let mut i = 0;
-    while i < kind.len() {
-        if is_note(kind[i]) {
+    for (i, k) in kind.iter().enumerate() {
+        if is_note(*k) {
             c = count_note(c, delta[i], margin);
-            i += 1;
-        } else {
-            i += 1;
         }
     }
     groups_counted(c, margin)

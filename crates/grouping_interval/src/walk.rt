@@ -10,22 +10,24 @@ pub struct IntervalWalk<'a> {
     pub at: usize,
 }
 
-// The walk before the first group.
-pub fn new<'a>(values: &'a [f64]) -> IntervalWalk<'a>
-    ensures { (result.values ≡ values.entry) × (result.at ≡ 0) }
-{
-    IntervalWalk { values, at: 0 }
-}
+impl<'a> IntervalWalk<'a> {
+    // The walk before the first group.
+    pub fn new(values: &'a [f64]) -> IntervalWalk<'a>
+        ensures { (result.values ≡ values.entry) × (result.at ≡ 0) }
+    {
+        IntervalWalk { values, at: 0 }
+    }
 
-// The walk past its next group, which lies from the position before to the position after.
-pub fn step<'a>(w: IntervalWalk<'a>, margin: f64) -> IntervalWalk<'a>
-    ensures { (result.values ≡ w.entry.values)
-        × (result.at ≡ group_end margin w.entry.values.now w.entry.at) }
-{
-    let at = group_end(w.values, margin, w.at);
-    IntervalWalk {
-        values: w.values,
-        at,
+    // The walk past its next group, which lies from the position before to the position after.
+    pub fn step(self, margin: f64) -> IntervalWalk<'a>
+        ensures { (result.values ≡ self.entry.values)
+            × (result.at ≡ group_end margin self.entry.values.now self.entry.at) }
+    {
+        let at = group_end(self.values, margin, self.at);
+        IntervalWalk {
+            values: self.values,
+            at,
+        }
     }
 }
 
@@ -33,6 +35,5 @@ pub fn step<'a>(w: IntervalWalk<'a>, margin: f64) -> IntervalWalk<'a>
 pub fn next_end(values: &[f64], margin: f64, at: usize) -> usize
     ensures { result ≡ group_end margin values.now at }
 {
-    let w = step(IntervalWalk { values, at }, margin);
-    w.at
+    IntervalWalk { values, at }.step(margin).at
 }

@@ -2,9 +2,9 @@
 use mathlib.Core.Path.{◌≡◌, refl}
 use lib.Ieee.{nan, div}
 use Rattle.numeric.specs.Constants.{zero64}
-use Rattle.grouping_same_rhythm.specs.declared.own.Own.TheVariants.{Millis}
+use Rattle.std.specs.Prelude.{Some}
 use Rattle.grouping_same_rhythm.specs.Own.{ratio_of}
 
-pub ratio_of_zeros : ratio_of (Millis zero64) (Millis zero64) ≡ nan
+pub ratio_of_zeros : ratio_of (Some zero64) (Some zero64) ≡ nan
 unfolding ratio_of div
 ratio_of_zeros = refl

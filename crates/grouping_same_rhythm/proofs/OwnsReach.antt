@@ -16,8 +16,7 @@ use Rattle.grouping_normalizer.specs.Normalizer.{distinct_in_front}
 use Rattle.grouping_interval.specs.IntervalGrouping.{interval_marks}
 use Rattle.grouping_interval.specs.GroupEnd.{group_end}
 use Rattle.grouping_interval.proofs.EndLaws.{end_after_lem, end-within, end_same}
-use Rattle.grouping_same_rhythm.specs.declared.own.Own.{Own}
-use Rattle.grouping_same_rhythm.specs.declared.own.Own.TheVariants.{Absent}
+use Rattle.std.specs.Prelude.{Option, None}
 use Rattle.grouping_same_rhythm.specs.declared.owns.Recent.{Recent}
 use Rattle.grouping_same_rhythm.specs.Own.{modal_delta, snapped, owns_of}
 use Rattle.grouping_same_rhythm.specs.passes.Owns.{Modal, settled_up_to, recent_with, GroupThere, ReachedIs}
@@ -38,7 +37,7 @@ pub record Reaching (margin : Float) (deltas₀ deltas : List Float) (g : ℕ) (
       → deltas ≡ put at (distinct_in_front (part at (end - at) deltas₀)) (settled_up_to j (parted (interval_marks margin deltas₀) deltas₀))
 
 pub reaching_start : (margin : Float) (deltas : List Float) (g : ℕ) → GroupThere margin deltas g
-    → Reaching margin deltas deltas g (record { newest = Absent; second = Absent; third = Absent; fourth = Absent }) 0 0 0
+    → Reaching margin deltas deltas g (record { newest = None; second = None; third = None; fourth = None }) 0 0 0
 reaching_start margin deltas g p =
     let a : parted (interval_marks margin deltas) deltas ≡ groups_from margin deltas deltas 0 = groups_all margin deltas deltas in
     record {
@@ -105,7 +104,7 @@ module _ {margin : Float} {deltas₀ deltas : List Float} {g : ℕ} {recent : Re
 
   -- it is put in order
   pub reaching_turn : k ≤ g → (new : ℕ) → new ≡ group_end margin deltas end
-      → (group : List Float) (own : Own) → Modal margin (take (new - end) (drop end deltas)) group own
+      → (group : List Float) (own : Option Float) → Modal margin (take (new - end) (drop end deltas)) group own
       → (newest : Recent) → newest ≡ recent_with (snapped margin own recent.newest) recent
       → length group ≡ length (take (new - end) (drop end deltas))
       → Reaching margin deltas₀ (put_mid end (new - end) deltas group) g newest end new (suc k)

@@ -12,6 +12,7 @@ use Rattle.numeric.specs.Constants.{one64}
 use Rattle.lent.specs.Over.{part}
 use Rattle.grouping_marks.specs.Parted.{parted}
 use Rattle.lent.proofs.OverLaws.{length-part, get_or-part, lent-part}
+use Rattle.lent.proofs.PieceLaws.{part_pieces}
 use Rattle.grouping_interval.specs.IntervalGrouping.{interval_marks}
 use Rattle.grouping_interval.specs.GroupEnd.{group_end}
 use Rattle.grouping_interval.specs.passes.MarkPass.{marks_from}
@@ -22,13 +23,13 @@ use Rattle.grouping_same_rhythm.specs.declared.patterns.Pattern.{Pattern}
 
 -- ---- a pattern's interval
 
-interval-second : (l : List Float) → 1 < length l → get_or l 1 nan ≡ pattern_interval l
+pub interval-second : (l : List Float) → 1 < length l → get_or l 1 nan ≡ pattern_interval l
 unfolding pattern_interval
 interval-second [] h = absurd (omega arith)
 interval-second (first ∷ []) h = absurd (omega arith)
 interval-second (first ∷ second ∷ intervals) h = refl
 
-interval_only : (l : List Float) → length l ≡ 1 → get_or l 0 nan ≡ pattern_interval l
+pub interval_only : (l : List Float) → length l ≡ 1 → get_or l 0 nan ≡ pattern_interval l
 unfolding pattern_interval
 interval_only [] h = absurd (omega arith)
 interval_only (first ∷ []) h = refl
@@ -128,10 +129,18 @@ module _ {margin : Float} {intervals : List Float} {g number before at end : ℕ
   pattern_first h e = rw (number_is h, e)
 
   -- a later one, by its interval and that of the pattern before
-  pub pattern-later : g < end → (number ≡ 0 → ⊥) → (this previous : Float) → this ≡ pattern_interval (part at (end - at) intervals)
-      → previous ≡ pattern_interval (part before (at - before) intervals)
+  pub pattern-later : g < end → (number ≡ 0 → ⊥) → (this previous : Float) → this ≡ pattern_interval (take (end - at) (drop at intervals))
+      → previous ≡ pattern_interval (take (at - before) (drop before intervals))
       → ◌≡◌ {A = Pattern} (record { number = number; ratio = div binary64 this previous }) (pattern_of margin intervals g)
   unfolding pattern_of
   pattern-later h n this previous t p =
-      rw (number_is h, t, p, ← found_lies.groups, ← (x.previous n).groups)
+      rw (
+        number_is h,
+        t,
+        p,
+        part_pieces at (end - at) intervals,
+        part_pieces before (at - before) intervals,
+        ← found_lies.groups,
+        ← (x.previous n).groups,
+      )
       (rw (ratio-later (patterns margin intervals) number n))

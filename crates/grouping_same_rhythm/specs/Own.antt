@@ -8,46 +8,45 @@ use Rattle.numeric.specs.Constants.{one64}
 use Rattle.numeric.specs.Near.{is_near}
 use Rattle.numeric.specs.RoundTiesEven.{round_ties_even}
 use Rattle.grouping_normalizer.specs.Normalizer.{normal_of}
-use Rattle.grouping_same_rhythm.specs.declared.own.Own.{Own}
-use Rattle.grouping_same_rhythm.specs.declared.own.Own.TheVariants.{Absent, Millis}
+use Rattle.std.specs.Prelude.{Option, None, Some}
 use Rattle.grouping_same_rhythm.specs.declared.owns.Recent.{Recent}
 
 -- what the second delta counts as among all of its group, as the nearest whole number; a single note has none
-unfoldable pub modal_delta : Float → List Float → Own
-modal_delta margin [] = Absent
-modal_delta margin (d ∷ []) = Absent
-modal_delta margin (d ∷ e ∷ deltas) = Millis (round_ties_even (normal_of margin (d ∷ e ∷ deltas) e))
+unfoldable pub modal_delta : Float → List Float → Option Float
+modal_delta margin [] = None
+modal_delta margin (d ∷ []) = None
+modal_delta margin (d ∷ e ∷ deltas) = Some (round_ties_even (normal_of margin (d ∷ e ∷ deltas) e))
 
 -- one that is near the previous group's own gives way to it
-unfoldable pub snapped : Float → Own → Own → Own
-snapped margin Absent previous = Absent
-snapped margin (Millis x) Absent = Millis x
-snapped margin (Millis x) (Millis y) = cond (is_near margin x y) (Millis y) (Millis x)
+unfoldable pub snapped : Float → Option Float → Option Float → Option Float
+snapped margin None previous = None
+snapped margin (Some x) None = Some x
+snapped margin (Some x) (Some y) = cond (is_near margin x y) (Some y) (Some x)
 
 -- each group's own interval, behind a group whose own is `previous`
-unfoldable pub owns_after : Float → Own → List (List Float) → List Own
+unfoldable pub owns_after : Float → Option Float → List (List Float) → List (Option Float)
 owns_after margin previous [] = []
 owns_after margin previous (group ∷ groups) =
     snapped margin (modal_delta margin group) previous
     ∷ owns_after margin (snapped margin (modal_delta margin group) previous) groups
 
-unfoldable pub owns_of : Float → List (List Float) → List Own
-owns_of margin groups = owns_after margin Absent groups
+unfoldable pub owns_of : Float → List (List Float) → List (Option Float)
+owns_of margin groups = owns_after margin None groups
 
 -- own over previous own, and 1.0 where one of them is absent
-unfoldable pub ratio_of : Own → Own → Float
-ratio_of Absent previous = one64
-ratio_of (Millis x) Absent = one64
-ratio_of (Millis x) (Millis y) = div binary64 x y
+unfoldable pub ratio_of : Option Float → Option Float → Float
+ratio_of None previous = one64
+ratio_of (Some x) None = one64
+ratio_of (Some x) (Some y) = div binary64 x y
 
 -- the own interval k groups before group g, absent where there is no such group
-unfoldable pub own_before : List Own → ℕ → ℕ → Own
-own_before owns g zero = get_or owns g Absent
-own_before owns zero (suc k) = Absent
+unfoldable pub own_before : List (Option Float) → ℕ → ℕ → Option Float
+own_before owns g zero = get_or owns g None
+own_before owns zero (suc k) = None
 own_before owns (suc g) (suc k) = own_before owns g k
 
 -- those of group g and of the three before it
-unfoldable pub recent_of : List Own → ℕ → Recent
+unfoldable pub recent_of : List (Option Float) → ℕ → Recent
 recent_of owns g = record {
   newest = own_before owns g 0;
   second = own_before owns g 1;

@@ -20,12 +20,12 @@ fn start_between(previous: f64, start: f64, margin: f64) -> f64
 
 // The interval of group k.
 fn interval_at(start: &[f64], firsts: &[u16], margin: f64, k: usize) -> f64
-    requires { (k < length firsts.now)
-        × ((i : ℕ) → i < length firsts.now → get_or firsts.now i 0 < length start.now) }
+    requires there { k < length firsts.now }
+    requires inside { (i : ℕ) → i < length firsts.now → get_or firsts.now i 0 < length start.now }
     ensures { result ≡ get_or (intervals_of margin (starts_of start.now firsts.now)) k nan }
 {
     if k == 0 {
-        return 1.0 / 0.0;
+        return f64::INFINITY;
     }
     let previous = firsts[k - 1] as usize;
     let at = firsts[k] as usize;
@@ -38,9 +38,7 @@ pub fn fill_intervals(start: &[f64], firsts: &[u16], margin: f64, intervals: &mu
     ensures { intervals.new
         ≡ over (intervals_of margin (starts_of start.now firsts.now)) intervals.old }
 {
-    let mut k = 0;
-    while k < firsts.len() {
+    for k in 0..firsts.len() {
         intervals[k] = interval_at(start, firsts, margin, k);
-        k += 1;
     }
 }

@@ -1,6 +1,5 @@
 // Pattern groups: neighbouring groups by their intervals.
-ghost use Rattle.std.specs.Prelude.{◌≡◌, ◌-◌, ◌≤◌, ◌<◌, length};
-ghost use Rattle.lent.specs.Over.{part};
+ghost use Rattle.std.specs.Prelude.{◌≡◌, ◌<◌, length};
 ghost use Rattle.grouping_same_rhythm.specs.SamePatterns.{pattern_interval, pattern_of};
 
 use grouping_interval::walk::next_end;
@@ -12,15 +11,15 @@ pub struct Pattern {
     pub ratio: f64,
 }
 
-// The interval of the pattern of the groups from `at` to `end`.
-fn pattern_interval(intervals: &[f64], at: usize, end: usize) -> f64
-    requires { (at < end) × (end ≤ length intervals.now) }
-    ensures { result ≡ pattern_interval (part at (end - at) intervals.now) }
+// The interval of the pattern of these groups: that of the second, where there is one.
+fn pattern_interval(intervals: &[f64]) -> f64
+    requires { 0 < length intervals.now }
+    ensures { result ≡ pattern_interval intervals.now }
 {
-    if at + 1 < end {
-        return intervals[at + 1];
+    if intervals.len() == 1 {
+        return intervals[0];
     }
-    intervals[at]
+    intervals[1]
 }
 
 // The pattern of group g.
@@ -41,8 +40,8 @@ pub fn pattern_at(intervals: &[f64], margin: f64, g: usize) -> Pattern
     if number == 0 {
         return Pattern { number, ratio: 1.0 };
     }
-    let this = pattern_interval(intervals, at, end);
-    let previous = pattern_interval(intervals, before, at);
+    let this = pattern_interval(&intervals[at..end]);
+    let previous = pattern_interval(&intervals[before..at]);
     Pattern {
         number,
         ratio: this / previous,

@@ -35,7 +35,7 @@ returns-then-k-eq3 c =
     known x.threshold _ x.owns x.k 3 c.if-k-eq3.true
     (c.penalty_if.ensures
     ∙ walk_existing x.threshold 3 (newest_first x.owns)
-    (next c.in-Millis.is (next c.in-Millis-second.is (next c.in-Millis-third.is none))) refl c.similar_three.ensures)
+    (next c.in-Some.is (next c.in-Some-second.is (next c.in-Some-third.is none))) refl c.some_pair.ensures)
 
 pub returns-in_default-fourth : goal.returns-in_default-fourth
 unfolding newest_first of_bits
@@ -50,5 +50,5 @@ returns c =
     known x.threshold _ x.owns x.k 4 (omega (arith, c.requires, c.if-k-eq3.false))
     (c.penalty_if-2.ensures
     ∙ walk_existing x.threshold 4 (newest_first x.owns)
-    (next c.in-Millis.is (next c.in-Millis-second.is (next c.in-Millis-third.is (next c.in-Millis-fourth.is none)))) refl
-    c.similar_four.ensures)
+    (next c.in-Some.is (next c.in-Some-second.is (next c.in-Some-third.is (next c.in-Some-fourth.is none)))) refl
+    c.some_pair-2.ensures)

@@ -1,6 +1,7 @@
 -- What the walk over the groups' own intervals asks and leaves. The deltas are lent, and each group's are put in order
 -- when it is reached.
 use Rattle.std.specs.Prelude.{◌≡◌, ℕ, zero, suc, ◌-◌, ◌≤◌, ◌<◌, List, [], ◌∷◌, ◌++◌, length, get_or, Float}
+use Rattle.std.specs.Prelude.{Option, None}
 use Rattle.lent.specs.Over.{put, part}
 use Rattle.grouping_marks.specs.Marks.{group_count}
 use Rattle.grouping_marks.specs.Parted.{parted}
@@ -8,11 +9,10 @@ use Rattle.numeric_sort.specs.Ordered.{AllFinite}
 use Rattle.grouping_normalizer.specs.Normalizer.{distinct_in_front}
 use Rattle.grouping_interval.specs.IntervalGrouping.{interval_marks}
 use Rattle.grouping_same_rhythm.specs.Own.{modal_delta, owns_of, recent_of}
-use Rattle.grouping_same_rhythm.specs.declared.own.Own.{Own}
 use Rattle.grouping_same_rhythm.specs.declared.owns.Recent.{Recent}
 use Rattle.grouping_same_rhythm.specs.declared.owns.Reached.{Reached}
 
-pub record Modal (margin : Float) (deltas₀ deltas : List Float) (r : Own) : Type 0 where
+pub record Modal (margin : Float) (deltas₀ deltas : List Float) (r : Option Float) : Type 0 where
   pub own : r ≡ modal_delta margin deltas₀
   pub left : deltas ≡ distinct_in_front deltas₀
 
@@ -22,8 +22,12 @@ settled_up_to k [] = []
 settled_up_to zero (group ∷ groups) = group ++ settled_up_to zero groups
 settled_up_to (suc k) (group ∷ groups) = distinct_in_front group ++ settled_up_to k groups
 
+-- the own intervals before the first group
+abbrev pub none_yet : Recent
+none_yet = record { newest = None; second = None; third = None; fourth = None }
+
 -- the own intervals once that of a further group is known
-abbrev pub recent_with : Own → Recent → Recent
+abbrev pub recent_with : Option Float → Recent → Recent
 recent_with own r = record { newest = own; second = r.newest; third = r.second; fourth = r.third }
 
 -- what `reach` asks: there is a group g
