@@ -13,11 +13,14 @@ use Rattle.letters_grammar.specs.Reading.{Bracket, free, after, tens, Finding, r
 use Rattle.letters_grammar.proofs.LetterLaws.{digit_low, digit_range}
 use Rattle.letters_grammar.proofs.ReadingLaws.{digit_behind}
 use Rattle.letters_grammar.proofs.PlaceLaws as place
+use Rattle.std.proofs.Common.{Option, Some, None, Result, Ok, Err}
+use Rattle.letters_count.specs.declared.Refusal.{Refusal}
 use Rattle.letters_count.specs.declared.Times.{Times}
-use Rattle.letters_count.specs.declared.Times.TheVariants.{Once, Many, Bad}
+use Rattle.letters_count.specs.Numbers.{number_of}
 use Rattle.letters_grammar.specs.Reading.{most_objects, most_brackets}
-use Rattle.letters_count.specs.passes.Counts.{digit_at, count_by, count_at}
-use Rattle.letters_count.proofs.DigitLaws.{at_end_lem, at_none, at_digit, count_once, count_zero, count_two, count_short, count_one}
+use Rattle.letters_count.specs.declared.Fault.TheVariants.{Misplaced}
+use Rattle.letters_count.specs.passes.Counts.{digit_at, refusal, times, count_at}
+use Rattle.letters_count.proofs.DigitLaws.{at_end_lem, at_other, at_digit, count_none, count_zero, count_two, count_short, count_one}
 
 -- the reading of s from a place on, where a count for the objects from i on may follow, and where none may
 abbrev counting : List ℕ → ℕ → ℕ → List Bracket → List ℕ → Finding
@@ -36,10 +39,10 @@ pub record Written (s : List ℕ) (at n q : ℕ) : Type 0 where
       → counting s at i fs ks ≡ going s (q + 1) fs (repeated n i ks)
   pub many : (i : ℕ) (fs : List Bracket) (ks : List ℕ) → most_objects < length (repeated n i ks) → counting s at i fs ks ≡ refused 13 q
 
-unfoldable pub Means : List ℕ → ℕ → Times → Type 0
-Means s at Once = (i : ℕ) (fs : List Bracket) (ks : List ℕ) → counting s at i fs ks ≡ going s at fs ks
-Means s at (Bad p) = (i : ℕ) (fs : List Bracket) (ks : List ℕ) → counting s at i fs ks ≡ refused 12 p
-Means s at (Many n q) = Written s at n q
+unfoldable pub Means : List ℕ → ℕ → Result (Option Times) Refusal → Type 0
+Means s at (Ok None) = (i : ℕ) (fs : List Bracket) (ks : List ℕ) → counting s at i fs ks ≡ going s at fs ks
+Means s at (Ok (Some t)) = Written s at t.count t.last
+Means s at (Err r) = (i : ℕ) (fs : List Bracket) (ks : List ℕ) → counting s at i fs ks ≡ refused (number_of r.fault) r.place
 
 -- ---- what stands at a place
 
@@ -64,9 +67,12 @@ look s p = go (ltb p (length s)) (is_digit (get_or s p 0)) refl refl
         let r = digit_range (get_or s p 0) e in
         inr (record { within = ltb-true _ _ l; digit = e; low = r.0; high = r.1 })
 
-ten : (s : List ℕ) (p : ℕ) → NoDigit s p → 10 ≡ digit_at s p
-ten s p (past h) = at_end_lem s p h
-ten s p (other h d) = at_none s p h d
+none_is : (s : List ℕ) (p : ℕ) → NoDigit s p → None ≡ digit_at s p
+none_is s p (past h) = at_end_lem s p h
+none_is s p (other h d) = at_other s p h d
+
+digit_is : (s : List ℕ) (p : ℕ) → Digit s p → Some (get_or s p 0 - 48) ≡ digit_at s p
+digit_is s p x = at_digit s p x.within x.digit
 
 none_first : (s : List ℕ) (p : ℕ) → NoDigit s p → digit_first (drop p s) ≡ false
 none_first s p (past h) = rw (digit_behind s p, get_or-eq_default s 0 h) (digit_low 0 (omega arith))
@@ -82,13 +88,13 @@ or_yes false = refl
 -- ---- the five cases
 
 module _ (s : List ℕ) (at : ℕ) where
-  none : NoDigit s at → Means s at Once
+  none : NoDigit s at → Means s at (Ok None)
   unfolding Means
   none (past h) = λ i fs ks. place.no_count-end most_objects most_brackets s at i fs ks h
   none (other h d) = λ i fs ks. place.no_count most_objects most_brackets s at i fs ks h d
 
   module _ (x : Digit s at) where
-    zeroed : get_or s at 0 ≡ 48 → Means s at (Bad at)
+    zeroed : get_or s at 0 ≡ 48 → Means s at (Err (refusal Misplaced at))
     unfolding Means
     zeroed e = λ i fs ks. place.count_zero most_objects most_brackets s at i fs ks x.within e
 
@@ -106,7 +112,7 @@ module _ (s : List ℕ) (at : ℕ) where
           → counting s at i fs ks ≡ run most_objects most_brackets (drop (at + 1) s) (at + 1) fs (tens i (get_or s at 0 - 48)) ks
       to-second m i fs ks = place.count_first most_objects most_brackets s at i fs ks x.within x.digit z m
 
-      two : Digit s (at + 1) → Means s at (Many (10 * (get_or s at 0 - 48) + (get_or s (at + 1) 0 - 48)) (at + 1))
+      two : Digit s (at + 1) → Means s at (Ok (Some (times (10 * (get_or s at 0 - 48) + (get_or s (at + 1) 0 - 48)) (at + 1))))
       unfolding Means
       two y =
           let m : (eqb (get_or s at 0) 49 || digit_first (drop (at + 1) s)) ≡ true = rw (one_first s (at + 1) y) (or_yes (eqb (get_or s at 0) 49)) in
@@ -121,7 +127,7 @@ module _ (s : List ℕ) (at : ℕ) where
           }
 
       module _ (y : NoDigit s (at + 1)) where
-        lone : get_or s at 0 ≡ 49 → Means s at (Bad (at + 1))
+        lone : get_or s at 0 ≡ 49 → Means s at (Err (refusal Misplaced (at + 1)))
         unfolding Means
         lone e = λ i fs ks. to-second (rw (eq-eqb _ _ e)) i fs ks ∙ go i fs ks y
           where
@@ -130,7 +136,7 @@ module _ (s : List ℕ) (at : ℕ) where
             go i fs ks (past h) = place.no_second-end most_objects most_brackets s (at + 1) i fs ks (get_or s at 0 - 48) h
             go i fs ks (other h d) = place.no_second most_objects most_brackets s (at + 1) i fs ks (get_or s at 0 - 48) h d
 
-        one : (get_or s at 0 ≡ 49 → ⊥) → Means s at (Many (get_or s at 0 - 48) at)
+        one : (get_or s at 0 ≡ 49 → ⊥) → Means s at (Ok (Some (times (get_or s at 0 - 48) at)))
         unfolding Means
         one o =
             let less : (eqb (get_or s at 0) 49 || digit_first (drop (at + 1) s)) ≡ false = rw (ne_eqb _ _ o, none_first s (at + 1) y) in
@@ -143,35 +149,28 @@ module _ (s : List ℕ) (at : ℕ) where
               many = λ i fs ks h. place.count_one_many most_objects most_brackets s at i fs ks x.within x.digit z less h;
             }
 
-        short : Means s at (count_by at (get_or s at 0 - 48) 10)
-        short = go (eqb (get_or s at 0) 49) refl
-          where
-            go : (b : Bool) → eqb (get_or s at 0) 49 ≡ b → Means s at (count_by at (get_or s at 0 - 48) 10)
-            go true e =
-                let f : get_or s at 0 ≡ 49 = eqb-true _ _ e in
-                rw (← count_short at (get_or s at 0 - 48) 10 (omega arith) (λ k. omega arith) (omega arith) (omega arith)) (lone f)
-            go false e =
-                let f : get_or s at 0 ≡ 49 → ⊥ = eqb-false _ _ e in
-                rw (← count_one at (get_or s at 0 - 48) 10 (omega arith) (λ k. omega (arith, above)) (omega arith) (λ k. f (omega (arith, above)))) (one f)
-
-    first : Means s at (count_by at (get_or s at 0 - 48) (digit_at s (at + 1)))
-    first = go (eqb (get_or s at 0) 48) refl (look s (at + 1))
+    first : Means s at (count_at s at)
+    first = go (eqb (get_or s at 0) 48) (eqb (get_or s at 0) 49) refl refl (look s (at + 1))
       where
-        go : (b : Bool) → eqb (get_or s at 0) 48 ≡ b → NoDigit s (at + 1) ⊎ Digit s (at + 1)
-            → Means s at (count_by at (get_or s at 0 - 48) (digit_at s (at + 1)))
-        go true e k =
-            let f : get_or s at 0 ≡ 48 = eqb-true _ _ e in
-            rw (← count_zero at (get_or s at 0 - 48) (digit_at s (at + 1)) (omega arith) (omega arith)) (zeroed f)
-        go false e (inr y) =
-            let f : get_or s at 0 ≡ 48 → ⊥ = eqb-false _ _ e in
-            rw (← at_digit s (at + 1) (get_or s (at + 1) 0) refl y.within y.digit)
-            (rw (← count_two at (get_or s at 0 - 48) (get_or s (at + 1) 0 - 48) (omega arith) (λ k. omega (arith, above f)) (omega (arith, y.high))) (two f y))
-        go false e (inl y) = rw (← ten s (at + 1) y) (short (eqb-false _ _ e) y)
+        go : (z o : Bool) → eqb (get_or s at 0) 48 ≡ z → eqb (get_or s at 0) 49 ≡ o → NoDigit s (at + 1) ⊎ Digit s (at + 1) → Means s at (count_at s at)
+        go true o e f k =
+            let g : get_or s at 0 ≡ 48 = eqb-true _ _ e in
+            rw (← count_zero s at (digit_is s at x) (omega arith)) (zeroed g)
+        go false o e f (inr y) =
+            let g : get_or s at 0 ≡ 48 → ⊥ = eqb-false _ _ e in
+            rw (← count_two s at (digit_is s at x) (λ k. omega (arith, above g)) (digit_is s (at + 1) y)) (two g y)
+        go false true e f (inl y) =
+            let g : get_or s at 0 ≡ 48 → ⊥ = eqb-false _ _ e in
+            let l : get_or s at 0 ≡ 49 = eqb-true _ _ f in
+            rw (← count_short s at (digit_is s at x) (λ k. omega (arith, above g)) (none_is s (at + 1) y) (omega arith)) (lone g y l)
+        go false false e f (inl y) =
+            let g : get_or s at 0 ≡ 48 → ⊥ = eqb-false _ _ e in
+            let l : get_or s at 0 ≡ 49 → ⊥ = eqb-false _ _ f in
+            rw (← count_one s at (digit_is s at x) (λ k. omega (arith, above g)) (none_is s (at + 1) y) (λ k. l (omega (arith, above g)))) (one g y l)
 
   pub count-means : Means s at (count_at s at)
-  unfolding count_at
   count-means = go (look s at)
     where
-      go : NoDigit s at ⊎ Digit s at → Means s at (count_by at (digit_at s at) (digit_at s (at + 1)))
-      go (inl y) = rw (← ten s at y) (rw (← count_once at 10 (digit_at s (at + 1)) (omega arith)) (none y))
-      go (inr x) = rw (← at_digit s at (get_or s at 0) refl x.within x.digit) (first x)
+      go : NoDigit s at ⊎ Digit s at → Means s at (count_at s at)
+      go (inl y) = rw (← count_none s at (none_is s at y)) (none y)
+      go (inr x) = first x

@@ -1,61 +1,65 @@
 -- The cases of a digit, and of a count by its digits.
-use mathlib.Core.Path.{◌≡◌, refl, ◌∙◌}
+use mathlib.Core.Path.{◌≡◌}
 use mathlib.Core.Bool.{true, false}
 use mathlib.Core.List.{List}
 use Prim.Native.Nat.{ℕ, ◌+◌, ◌-◌, ◌*◌, ◌≤◌, ◌<◌}
-use native.Mathlib.Omega.{arith}
-use borrow.Author.Tests.{lt-ltb, le-ltb, le-leb, lt-leb, eq-eqb, ne_eqb}
+use borrow.Author.Tests.{le-leb, lt-leb, eq-eqb, ne_eqb}
 use lib.ListN.{length, get_or}
+use Rattle.std.proofs.Common.{Some, None, Ok, Err}
 use Rattle.letters_grammar.specs.Letters.{is_digit}
-use Rattle.letters_count.specs.declared.Times.{Times}
-use Rattle.letters_count.specs.declared.Times.TheVariants.{Once, Many, Bad}
-use Rattle.letters_count.specs.passes.Counts.{digit_at, count_by, count_at}
-
--- ---- a digit
+use Rattle.letters_grammar.proofs.LetterLaws.{digit_yes, digit_low, digit_high}
+use Rattle.letters_count.specs.declared.Fault.TheVariants.{Misplaced}
+use Rattle.letters_count.specs.passes.Counts.{digit_at, refusal, times, count_behind, count_by, count_at}
 
 module _ (s : List ℕ) (p : ℕ) where
-  pub at_end_lem : length s ≤ p → 10 ≡ digit_at s p
+  -- ---- a digit
+
+  pub at_end_lem : length s ≤ p → None ≡ digit_at s p
   unfolding digit_at
   at_end_lem h = rw (le-leb _ _ h)
 
-  pub at_none : p < length s → is_digit (get_or s p 0) ≡ false → 10 ≡ digit_at s p
+  pub at_other : p < length s → is_digit (get_or s p 0) ≡ false → None ≡ digit_at s p
   unfolding digit_at
-  at_none h d = rw (lt-leb _ _ h, d)
+  at_other h d = rw (lt-leb _ _ h, d)
 
-  pub at_digit : (r : ℕ) → r ≡ get_or s p 0 → p < length s → is_digit (get_or s p 0) ≡ true → r - 48 ≡ digit_at s p
+  pub at_digit : p < length s → is_digit (get_or s p 0) ≡ true → Some (get_or s p 0 - 48) ≡ digit_at s p
   unfolding digit_at
-  at_digit r e h d = rw (lt-leb _ _ h, d, e)
+  at_digit h d = rw (lt-leb _ _ h, d)
 
--- ---- a count by its digits
+  -- by how large the byte is
+  pub at_low : p < length s → get_or s p 0 < 48 → None ≡ digit_at s p
+  at_low h l = at_other h (digit_low _ l)
 
-module _ (p a b : ℕ) where
-  pub count_once : 10 ≤ a → Once ≡ count_by p a b
-  unfolding count_by
-  count_once h = rw (le-leb _ _ h)
+  pub at_high : p < length s → 58 ≤ get_or s p 0 → None ≡ digit_at s p
+  at_high h l = at_other h (digit_high _ l)
 
-  pub count_zero : a < 10 → a ≡ 0 → Bad p ≡ count_by p a b
-  unfolding count_by
-  count_zero h e = rw (lt-leb _ _ h, eq-eqb _ _ e)
+  pub at_between : (r : ℕ) → p < length s → 48 ≤ get_or s p 0 → get_or s p 0 < 58 → r ≡ get_or s p 0 - 48 → Some r ≡ digit_at s p
+  at_between r h l m e = rw e (at_digit h (digit_yes _ l m))
 
-  module _ (h : a < 10) (z : a ≡ 0 → ⊥) where
-    pub count_two : b < 10 → Many (10 * a + b) (p + 1) ≡ count_by p a b
-    unfolding count_by
-    count_two l = rw (lt-leb _ _ h, ne_eqb _ _ z, lt-ltb _ _ l)
+  -- ---- a count by its digits
 
-    pub count_short : 10 ≤ b → a ≡ 1 → Bad (p + 1) ≡ count_by p a b
-    unfolding count_by
-    count_short l e = rw (lt-leb _ _ h, ne_eqb _ _ z, le-ltb _ _ l, eq-eqb _ _ e)
+  pub count_none : None ≡ digit_at s p → Ok None ≡ count_at s p
+  unfolding count_at count_by
+  count_none x = rw (← x)
 
-    pub count_one : 10 ≤ b → (a ≡ 1 → ⊥) → Many a p ≡ count_by p a b
-    unfolding count_by
-    count_one l e = rw (lt-leb _ _ h, ne_eqb _ _ z, le-ltb _ _ l, ne_eqb _ _ e)
+  module _ {a : ℕ} (x : Some a ≡ digit_at s p) where
+    pub count_zero : a ≡ 0 → Err (refusal Misplaced p) ≡ count_at s p
+    unfolding count_at count_by
+    count_zero e = rw (← x, eq-eqb _ _ e)
 
--- the same of the digits that stand at a place
-pub by_digits : (s : List ℕ) (p a b : ℕ) (r : Times) → a ≡ digit_at s p → b ≡ digit_at s (p + 1) → r ≡ count_by p a b → r ≡ count_at s p
-unfolding count_at
-by_digits s p a b r x y e = e ∙ rw (x, y)
+    module _ (z : a ≡ 0 → ⊥) where
+      pub count_two : {b : ℕ} → Some b ≡ digit_at s (p + 1) → Ok (Some (times (10 * a + b) (p + 1))) ≡ count_at s p
+      unfolding count_at count_by count_behind
+      count_two y = rw (← x, ne_eqb _ _ z, ← y)
 
--- a first digit 0 is refused
-pub zero_refused : (s : List ℕ) (p : ℕ) → digit_at s p ≡ 0 → Bad p ≡ count_at s p
-zero_refused s p e =
-    by_digits s p (digit_at s p) (digit_at s (p + 1)) (Bad p) refl refl (count_zero p (digit_at s p) (digit_at s (p + 1)) (omega arith) e)
+      pub count_short : None ≡ digit_at s (p + 1) → a ≡ 1 → Err (refusal Misplaced (p + 1)) ≡ count_at s p
+      unfolding count_at count_by count_behind
+      count_short y e = rw (← x, ne_eqb _ _ z, ← y, eq-eqb _ _ e)
+
+      pub count_one : None ≡ digit_at s (p + 1) → (a ≡ 1 → ⊥) → Ok (Some (times a p)) ≡ count_at s p
+      unfolding count_at count_by count_behind
+      count_one y e = rw (← x, ne_eqb _ _ z, ← y, ne_eqb _ _ e)
+
+pub ruleset digits = (at_end_lem, at_low, at_high, at_between)
+
+pub ruleset counts = (count_none, count_zero, count_two, count_short, count_one)

@@ -1,2 +1,3 @@
--- What the reader of a count promises.
+-- The numbers of refusals, and what the reader of a count promises.
+pub mod Numbers
 pub mod passes

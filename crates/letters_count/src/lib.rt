@@ -1,103 +1,122 @@
 // The count behind a letter or a bracket, and what it does: the objects of that item stand so many times.
 #![tactic(auto)]
 
-ghost use Rattle.std.specs.Prelude.{◌≡◌, ◌+◌, ◌-◌, ◌*◌, ◌≤◌, length, take};
-ghost use Rattle.lent.specs.Over.{put, part};
+ghost use Rattle.std.specs.Prelude.{◌≡◌, ◌+◌, ◌-◌, ◌*◌, ◌≤◌, ◌<◌, IfSome, length, take};
 ghost use Rattle.letters_grammar.specs.Reading.{repeated};
 ghost use Rattle.letters_count.specs.passes.Counts.{Room, CountRead, digit_at, count_at, Repeating};
+ghost use Rattle.letters_count.specs.Numbers.{number_of};
 
 // The most objects of a text.
 pub const MOST_OBJECTS: usize = 1024;
 
 // A place in the text, and how many objects were read before it.
-#[derive(Clone, Copy)]
+#[derive(Clone, Copy, Debug, PartialEq, Eq)]
 pub struct Cursor {
     pub at: usize,
     pub count: usize,
 }
 
-// What a reader answers: the place after what it read, or the first refusal and its place.
-#[derive(Clone, Copy)]
-pub enum Read {
-    Done(Cursor),
-    Refused(u64, usize),
+// Why a text is refused: a byte can't be there, or adds too many objects, or opens too many brackets.
+#[derive(Clone, Copy, Debug, PartialEq, Eq)]
+pub enum Fault {
+    Misplaced,
+    Crowded,
+    TooDeep,
 }
 
-// A count: none, so many times with the place of its last digit, or the place of a byte that can't be there.
-#[derive(Clone, Copy)]
-pub enum Times {
-    Once,
-    Many(usize, usize),
-    Bad(usize),
+// The first refusal, and its place.
+#[derive(Clone, Copy, Debug, PartialEq, Eq)]
+pub struct Refusal {
+    pub fault: Fault,
+    pub place: usize,
 }
 
-// A byte as a number that counts.
-fn wide(b: u8) -> usize
-    ensures { result ≡ b }
-{
-    b as usize
+// A count, and the place of its last digit.
+#[derive(Clone, Copy, Debug, PartialEq, Eq)]
+pub struct Times {
+    pub count: usize,
+    pub last: usize,
 }
 
-// The digit at a place, or 10 where none is there.
-fn digit_at(s: &[u8], at: usize) -> usize
-    ensures { result ≡ digit_at s.now at }
+// The number by which a refusal is told.
+impl From<Fault> for u64 {
+    ghost from_gives = { λ f n. n ≡ number_of f };
+
+    fn from(fault: Fault) -> u64 {
+        match fault {
+            Fault::Misplaced => 12,
+            Fault::Crowded => 13,
+            Fault::TooDeep => 14,
+        }
+    }
+}
+
+// The digit at a place.
+#[tactic(auto, using(crate::proofs::DigitLaws::digits))]
+fn digit_at(s: &[u8], at: usize) -> Option<usize>
+    ensures value { result ≡ digit_at s.now at }
+    ensures small { IfSome result (λ d. d < 10) }
 {
     if s.len() <= at {
-        return 10;
+        return None;
     }
-    let b = s[at];
-    match b {
-        b'0'..=b'9' => wide(b) - 48,
-        _ => 10,
+    match s[at] {
+        b @ b'0'..=b'9' => Some(usize::from(b - b'0')),
+        _ => None,
     }
 }
 
 // The count at a place: a first digit is no 0, and a lone one is no 1.
-#[tactic(auto, using(crate::proofs::DigitLaws::zero_refused))]
-fn count_at(s: &[u8], at: usize) -> Times
+#[tactic(auto, using(crate::proofs::DigitLaws::counts))]
+fn count_at(s: &[u8], at: usize) -> Result<Option<Times>, Refusal>
     requires { at ≤ length s.now }
     ensures { result ≡ count_at s.now at }
 {
-    let a = digit_at(s, at);
-    if 10 <= a {
-        return Times::Once;
-    }
+    let Some(a) = digit_at(s, at) else {
+        return Ok(None);
+    };
     if a == 0 {
-        return Times::Bad(at);
+        return Err(Refusal {
+            fault: Fault::Misplaced,
+            place: at,
+        });
     }
-    let b = digit_at(s, at + 1);
-    if b < 10 {
-        return Times::Many(10 * a + b, at + 1);
+    let next = at + 1;
+    match digit_at(s, next) {
+        Some(b) => Ok(Some(Times {
+            count: 10 * a + b,
+            last: next,
+        })),
+        None if a == 1 => Err(Refusal {
+            fault: Fault::Misplaced,
+            place: next,
+        }),
+        None => Ok(Some(Times { count: a, last: at })),
     }
-    if a == 1 {
-        return Times::Bad(at + 1);
-    }
-    Times::Many(a, at)
 }
 
 // A count, or none, for the objects from `start` on.
-pub fn counted(s: &[u8], kinds: &mut [u8], c: Cursor, start: usize) -> Read
+pub fn counted(s: &[u8], kinds: &mut [u8], c: Cursor, start: usize) -> Result<Cursor, Refusal>
     requires { Room s.now kinds.old c × (start ≤ c.count) }
     ensures { CountRead s.now kinds.old kinds.new c start result }
 {
-    let at = c.at;
-    let end = c.count;
-    match count_at(s, at) {
-        Times::Once => Read::Done(c),
-        Times::Bad(place) => Read::Refused(12, place),
-        Times::Many(n, last) => {
-            let next = last + 1;
-            let total = start + n * (end - start);
-            if MOST_OBJECTS < total {
-                return Read::Refused(13, last);
-            }
-            repeat(kinds, start, end, n);
-            Read::Done(Cursor {
-                at: next,
-                count: total,
-            })
-        }
+    let Some(times) = count_at(s, c.at)? else {
+        return Ok(c);
+    };
+    let last = times.last;
+    let next = last + 1;
+    let total = start + times.count * (c.count - start);
+    if MOST_OBJECTS < total {
+        return Err(Refusal {
+            fault: Fault::Crowded,
+            place: last,
+        });
     }
+    repeat(kinds, start, c.count, times.count);
+    Ok(Cursor {
+        at: next,
+        count: total,
+    })
 }
 
 // The objects from `start` to `end` stand n times from `start` on.
@@ -106,23 +125,9 @@ fn repeat(kinds: &mut [u8], start: usize, end: usize, n: usize)
     ensures { take (start + n * (end - start)) kinds.new ≡ repeated n start (take end kinds.old) }
 {
     let size = end - start;
-    let mut k = 1;
-    let mut to = end;
-    while k < n {
+    for k in 1..n {
         // the last of them, which ends at `to`
-        copy_block(kinds, to - size, size, to);
-        to += size;
-        k += 1;
-    }
-}
-
-fn copy_block(kinds: &mut [u8], start: usize, size: usize, to: usize)
-    requires { (start + size ≤ to) × (to + size ≤ length kinds.old) }
-    ensures { kinds.new ≡ put to (part start size kinds.old) kinds.old }
-{
-    let mut i = 0;
-    while i < size {
-        kinds[to + i] = kinds[start + i];
-        i += 1;
+        let to = start + k * size;
+        kinds.copy_within(to - size..to, to);
     }
 }

@@ -7,27 +7,25 @@ use Rattle.letters_grammar.specs.Letters.{is_digit, is_letter, kind_of, exchange
 use Rattle.letters_grammar.specs.Grammar.{copies}
 use Rattle.letters_grammar.specs.Reading.{digit_first, exchanged, repeated, at_closing, ended, at_end, follow}
 use Rattle.letters_grammar.specs.Reading.{at_objects, at_opening, at_item, at_free, at_count, at_after, at_tens, step, run, shorthand}
-use Rattle.letters_shorthand.specs.declared.Reading.{Reading}
-use Rattle.letters_shorthand.specs.declared.Reading.TheVariants.{Long, Refused, Objects}
-use Rattle.letters_shorthand.specs.Input.{trimmed, Input, input_of, objects_read, answer_of}
+use Rattle.letters_shorthand.specs.Input.{trimmed, Input, input_of, objects_read, Answer, too_long, refused_at, so_many, answer_of}
 
 record Example : Type 0 where
   input : List ℕ
-  answer : Reading
+  answer : Answer
   objects : List ℕ
 
 -- an input that has no objects
-bare : List ℕ → Reading → Example
+bare : List ℕ → Answer → Example
 bare input answer = record { input = input; answer = answer; objects = [] }
 
 given : List ℕ → List ℕ → ℕ → Example
-given input objects n = record { input = input; answer = Objects n; objects = objects }
+given input objects n = record { input = input; answer = so_many n; objects = objects }
 
 examples : List Example
 examples =
     -- nothing, and a line feed alone
-    bare [] (Objects 0)
-    ∷ bare (10 ∷ []) (Objects 0)
+    bare [] (so_many 0)
+    ∷ bare (10 ∷ []) (so_many 0)
     -- `dkn` and a line feed
     ∷ given (100 ∷ 107 ∷ 110 ∷ 10 ∷ []) (0 ∷ 1 ∷ 2 ∷ []) 3
     -- how far a ~ reaches: `~dk`, `~(dk)2`
@@ -41,24 +39,24 @@ examples =
     -- `~n~~d10`
     ∷ given (126 ∷ 110 ∷ 126 ∷ 126 ∷ 100 ∷ 49 ∷ 48 ∷ []) (2 ∷ replicate 10 0) 11
     -- `d` and two line feeds, `x`, `d1`, `d02`, `d123`, `()`, `(d`, `d)`, `~`
-    ∷ bare (100 ∷ 10 ∷ 10 ∷ []) (Refused 12 1)
-    ∷ bare (120 ∷ []) (Refused 12 0)
-    ∷ bare (100 ∷ 49 ∷ []) (Refused 12 2)
-    ∷ bare (100 ∷ 48 ∷ 50 ∷ []) (Refused 12 1)
-    ∷ bare (100 ∷ 49 ∷ 50 ∷ 51 ∷ []) (Refused 12 3)
-    ∷ bare (40 ∷ 41 ∷ []) (Refused 12 1)
-    ∷ bare (40 ∷ 100 ∷ []) (Refused 12 2)
-    ∷ bare (100 ∷ 41 ∷ []) (Refused 12 1)
-    ∷ bare (126 ∷ []) (Refused 12 1)
+    ∷ bare (100 ∷ 10 ∷ 10 ∷ []) (refused_at 12 1)
+    ∷ bare (120 ∷ []) (refused_at 12 0)
+    ∷ bare (100 ∷ 49 ∷ []) (refused_at 12 2)
+    ∷ bare (100 ∷ 48 ∷ 50 ∷ []) (refused_at 12 1)
+    ∷ bare (100 ∷ 49 ∷ 50 ∷ 51 ∷ []) (refused_at 12 3)
+    ∷ bare (40 ∷ 41 ∷ []) (refused_at 12 1)
+    ∷ bare (40 ∷ 100 ∷ []) (refused_at 12 2)
+    ∷ bare (100 ∷ 41 ∷ []) (refused_at 12 1)
+    ∷ bare (126 ∷ []) (refused_at 12 1)
     -- 16 brackets are good, 17 are not
     ∷ given (replicate 16 40 ++ 100 ∷ replicate 16 41) (0 ∷ []) 1
-    ∷ bare (replicate 17 40 ++ 100 ∷ replicate 17 41) (Refused 14 16)
+    ∷ bare (replicate 17 40 ++ 100 ∷ replicate 17 41) (refused_at 14 16)
     -- `(d32)32` has 1,024 objects; `(d32)32d` and `(d41)25` have one more
     ∷ given (40 ∷ 100 ∷ 51 ∷ 50 ∷ 41 ∷ 51 ∷ 50 ∷ []) (replicate 1024 0) 1024
-    ∷ bare (40 ∷ 100 ∷ 51 ∷ 50 ∷ 41 ∷ 51 ∷ 50 ∷ 100 ∷ []) (Refused 13 7)
-    ∷ bare (40 ∷ 100 ∷ 52 ∷ 49 ∷ 41 ∷ 50 ∷ 53 ∷ []) (Refused 13 6)
+    ∷ bare (40 ∷ 100 ∷ 51 ∷ 50 ∷ 41 ∷ 51 ∷ 50 ∷ 100 ∷ []) (refused_at 13 7)
+    ∷ bare (40 ∷ 100 ∷ 52 ∷ 49 ∷ 41 ∷ 50 ∷ 53 ∷ []) (refused_at 13 6)
     -- 4,097 bytes, with a line feed behind them
-    ∷ bare (replicate 4097 65 ++ 10 ∷ []) Long
+    ∷ bare (replicate 4097 65 ++ 10 ∷ []) too_long
     ∷ []
 
 computed : List ℕ → Example

@@ -14,11 +14,14 @@ use Rattle.letters_grammar.specs.Reading.{Finding, good, refused, shorthand}
 use Rattle.letters_grammar.specs.Letters.{LettersAlone, kinds_of}
 use Rattle.letters_grammar.proofs.BoundLaws.{good_few, refused_bounds}
 use Rattle.letters_grammar.proofs.PlainLaws.{plain_good}
-use Rattle.letters_shorthand.specs.declared.Reading.{Reading}
-use Rattle.letters_shorthand.specs.declared.Reading.TheVariants.{Long, Refused, Objects}
+use Rattle.std.proofs.Common.{Result, Ok, Err}
+use Rattle.letters_count.specs.declared.Refusal.{Refusal}
+use Rattle.letters_count.specs.Numbers.{number_of}
+use Rattle.letters_shorthand.specs.declared.InputError.{InputError}
+use Rattle.letters_shorthand.specs.declared.InputError.TheVariants.{Long, Refused}
 use Rattle.letters_grammar.specs.Reading.{most_objects, most_brackets}
 use Rattle.letters_shorthand.specs.Input.{most_bytes, input_bytes}
-use Rattle.letters_shorthand.specs.Input.{trimmed, Input, long, read, input_of, objects_read, answer_of, ReadText}
+use Rattle.letters_shorthand.specs.Input.{trimmed, Input, long, read, input_of, objects_read, too_long, refused_at, so_many, answer_of, told, ReadText}
 
 -- ---- what an input is
 
@@ -57,20 +60,20 @@ input_front n s h = go (ltb n (length s)) refl
 
 -- ---- what an answer tells
 
-told_long : (i : Input) → answer_of i ≡ Long → i ≡ long
+told_long : (i : Input) → answer_of i ≡ too_long → i ≡ long
 unfolding answer_of
 told_long long e = refl
 told_long (read (refused n p)) e = never (cc)
 told_long (read (good ks)) e = never (cc)
 
-told-refused : (i : Input) (n p : ℕ) → answer_of i ≡ Refused n p → i ≡ read (refused n p)
+told-refused : (i : Input) (n p : ℕ) → answer_of i ≡ refused_at n p → i ≡ read (refused n p)
 unfolding answer_of
 told-refused long n p e = never (cc)
 told-refused (read (refused m q)) n p e = cc
 told-refused (read (good ks)) n p e = never (cc)
 
 -- so many objects, which are those read
-told-objects : (i : Input) (n : ℕ) → answer_of i ≡ Objects n → (i ≡ read (good (objects_read i))) × (length (objects_read i) ≡ n)
+told-objects : (i : Input) (n : ℕ) → answer_of i ≡ so_many n → (i ≡ read (good (objects_read i))) × (length (objects_read i) ≡ n)
 unfolding answer_of objects_read
 told-objects long n e = never (cc)
 told-objects (read (refused m q)) n e = never (cc)
@@ -86,34 +89,35 @@ input_read t f e = go (ltb most_bytes (length t)) refl e
     go true x y = never (cc)
     go false x y = (ltb-false _ _ x, cc)
 
-module _ {t old new : List ℕ} {r : Reading} (x : ReadText t old new r) where
-  pub read_long : r ≡ Long → input_of t ≡ long
-  read_long e = told_long (input_of t) (sym x.answer ∙ e)
+module _ {t old new : List ℕ} {r : Result ℕ InputError} (x : ReadText t old new r) where
+  pub read_long : r ≡ Err Long → input_of t ≡ long
+  read_long e = told_long (input_of t) (sym x.answer ∙ ap told e)
 
-  pub read_refused : (n p : ℕ) → r ≡ Refused n p → input_of t ≡ read (refused n p)
-  read_refused n p e = told-refused (input_of t) n p (sym x.answer ∙ e)
+  pub read_refused : (f : Refusal) → r ≡ Err (Refused f) → input_of t ≡ read (refused (number_of f.fault) f.place)
+  read_refused f e = told-refused (input_of t) (number_of f.fault) f.place (sym x.answer ∙ ap told e)
 
   -- the number has two digits, and the place four
-  pub read_refused-small : (n p : ℕ) → r ≡ Refused n p → (n < 100) × (p < 10000)
-  read_refused-small n p e =
-      let i = input_read t (refused n p) (read_refused n p e) in
-      let b = refused_bounds most_objects most_brackets t n p i.1 in
+  pub read_refused-small : (f : Refusal) → r ≡ Err (Refused f) → (number_of f.fault < 100) × (f.place < 10000)
+  read_refused-small f e =
+      let i = input_read t (refused (number_of f.fault) f.place) (read_refused f e) in
+      let b = refused_bounds most_objects most_brackets t (number_of f.fault) f.place i.1 in
       (omega arith, omega arith)
 
-  pub read_objects : (n : ℕ) → r ≡ Objects n → input_of t ≡ read (good (take n new))
-  read_objects n e =
-      let i = told-objects (input_of t) n (sym x.answer ∙ e) in
-      rw (x.memory, front (objects_read (input_of t)) old n i.1) i.0
+  told_count : (n : ℕ) → r ≡ Ok n → (input_of t ≡ read (good (objects_read (input_of t)))) × (length (objects_read (input_of t)) ≡ n)
+  told_count n e = told-objects (input_of t) n (sym x.answer ∙ ap told e)
+
+  pub read_objects : (n : ℕ) → r ≡ Ok n → input_of t ≡ read (good (take n new))
+  read_objects n e = let i = told_count n e in rw (x.memory, front (objects_read (input_of t)) old n i.1) i.0
 
   -- they stand in what was lent
-  pub read_within : (n : ℕ) → r ≡ Objects n → n ≤ length new
+  pub read_within : (n : ℕ) → r ≡ Ok n → n ≤ length new
   read_within n e =
-      let i = told-objects (input_of t) n (sym x.answer ∙ e) in
+      let i = told_count n e in
       let f : take n new ≡ objects_read (input_of t) = rw x.memory (front (objects_read (input_of t)) old n i.1) in
       omega (arith, i.1, ap length f, length-take n new)
 
-  pub read_count : (n : ℕ) → r ≡ Objects n → n ≤ 1024
+  pub read_count : (n : ℕ) → r ≡ Ok n → n ≤ 1024
   read_count n e =
-      let i = told-objects (input_of t) n (sym x.answer ∙ e) in
+      let i = told_count n e in
       let b = good_few most_objects most_brackets t (objects_read (input_of t)) (input_read t (good (objects_read (input_of t))) i.0).1 in
       omega arith

@@ -8,19 +8,21 @@ use native.Mathlib.Omega.{arith}
 use lib.ListN.{length, take, get_or, set, length-set}
 use lib.Seq.{length-take-le, take-suc-set}
 use Rattle.letters_grammar.specs.Letters.{kind_of, exchanged_if}
-use Rattle.letters_grammar.proofs.LetterLaws.{Lettered, letter_cases}
+use Rattle.letters_grammar.proofs.LetterLaws.{Lettered, letter_cases, kind_d, kind_d_swapped, kind_k, kind_k_swapped, kind_n}
 use Rattle.letters_grammar.proofs.ReadingLaws.{with_letter}
 use Rattle.letters_grammar.proofs.KindLaws.{length-letter}
 use Rattle.letters_grammar.proofs.PlaceLaws.{need-end, need_other, need_tilde, need-many, need-letter}
 use Rattle.letters_count.specs.declared.Cursor.{Cursor}
-use Rattle.letters_count.specs.declared.Read.{Read}
-use Rattle.letters_count.specs.declared.Read.TheVariants.{Refused}
+use Rattle.std.proofs.Common.{Result, Ok, Err}
+use Rattle.letters_count.specs.declared.Fault.TheVariants.{Misplaced, Crowded}
 use Rattle.letters_grammar.specs.Reading.{most_objects, most_brackets}
-use Rattle.letters_count.specs.passes.Counts.{Room, CountRead}
+use Rattle.letters_count.specs.passes.Counts.{Read, refusal, Room, CountRead}
 use Rattle.letters_shorthand.specs.passes.Readers.{AtLetter, ItemRead}
 use Rattle.letters_count.proofs.LaterLaws.{onward, nearer}
 
 -- ---- a letter
+
+pub ruleset kinds = (arith, kind_d, kind_d_swapped, kind_k, kind_k_swapped, kind_n)
 
 module _ (s old : List ℕ) (c : Cursor) (q : Bool) (w : Room s old c) (a : AtLetter s c) where
   front : length (take c.count old) ≡ c.count
@@ -32,7 +34,7 @@ module _ (s old : List ℕ) (c : Cursor) (q : Bool) (w : Room s old c) (a : AtLe
   lettered : Lettered (get_or s c.at 0)
   lettered = letter_cases (get_or s c.at 0) a.letter
 
-  pub letter-full : most_objects ≤ c.count → (depth : ℕ) → ItemRead s old old c depth q (Refused 13 c.at)
+  pub letter-full : most_objects ≤ c.count → (depth : ℕ) → ItemRead s old old c depth q (Err (refusal Crowded c.at))
   letter-full f depth = record {
     later = tt;
     same = λ fs _. need-many most_objects most_brackets s c.at fs (take c.count old) q a.within lettered (omega (arith, grown));
@@ -58,13 +60,13 @@ module _ (s old : List ℕ) (c : Cursor) (q : Bool) (w : Room s old c) (a : AtLe
 -- ---- an item that is no letter and no bracket
 
 module _ (s old : List ℕ) (c : Cursor) (depth : ℕ) (q : Bool) where
-  pub item_end : length s ≤ c.at → ItemRead s old old c depth q (Refused 12 c.at)
+  pub item_end : length s ≤ c.at → ItemRead s old old c depth q (Err (refusal Misplaced c.at))
   item_end h = record { later = tt; same = λ fs _. need-end most_objects most_brackets s c.at fs (take c.count old) q h }
 
   module _ (l : c.at < length s) where
-    pub item_other : (get_or s c.at 0 ≡ 126 → ⊥) → (get_or s c.at 0 ≡ 40 → ⊥) → (Lettered (get_or s c.at 0) → ⊥)
-        → ItemRead s old old c depth q (Refused 12 c.at)
-    item_other x y z = record { later = tt; same = λ fs _. need_other most_objects most_brackets s c.at fs (take c.count old) q l x y z }
+    pub item_other : {r : Read} → (get_or s c.at 0 ≡ 126 → ⊥) → (get_or s c.at 0 ≡ 40 → ⊥) → (Lettered (get_or s c.at 0) → ⊥)
+        → r ≡ Err (refusal Misplaced c.at) → ItemRead s old old c depth q r
+    item_other x y z e = rw e (record { later = tt; same = λ fs _. need_other most_objects most_brackets s c.at fs (take c.count old) q l x y z })
 
     pub item_tilde : (new : List ℕ) (r : Read) → get_or s c.at 0 ≡ 126
         → ItemRead s old new (record { at = c.at + 1; count = c.count }) depth (not q) r → ItemRead s old new c depth q r

@@ -1,41 +1,56 @@
 -- A whole text: one line feed at its end, what the sequence that was read says of it, and what is answered then.
 use mathlib.Core.Path.{◌≡◌, refl, sym, ap, subst, ◌∙◌}
-use mathlib.Core.Bool.{false}
+use mathlib.Core.Bool.{Bool, true, false, ◌&&◌}
 use mathlib.Core.List.{List, [], ◌∷◌}
-use Prim.Native.Nat.{ℕ, ◌-◌, ◌≤◌, ◌<◌}
+use Prim.Native.Nat.{ℕ, suc, ◌+◌, ◌-◌, ◌≤◌, ◌<◌}
 use native.Mathlib.Omega.{arith}
-use borrow.Author.Tests.{eq-eqb, ne_eqb}
-use lib.ListN.{length, take, get_or}
-use lib.Seq.{take-length, length-take-le}
+use denote.Ref.{Bor}
+use lib.Dec.{eqb}
+use lib.ListN.{length, take, drop, get_or, drop_of_length-le}
+use lib.Seq.{drop-cons, length-take-le}
+use Rattle.std.proofs.Common.{Option, Some, None, MatchOption}
+use Rattle.std.specs.Option.{unwrap_or}
+use Rattle.std.specs.Cmp.Lexicographic.{pointwise}
 use Rattle.lent.specs.Over.{over}
 use Rattle.lent.proofs.OverLaws.{put_front, put_nothing}
 use Rattle.letters_grammar.specs.Reading.{good, refused, shorthand}
 use Rattle.letters_grammar.proofs.ReadingLaws.{shorthand-run, exchanged_none}
 use Rattle.letters_grammar.proofs.PlaceLaws.{free_loose, free-end}
 use Rattle.letters_count.specs.declared.Cursor.{Cursor}
-use Rattle.letters_count.specs.declared.Read.{Read}
-use Rattle.letters_count.specs.declared.Read.TheVariants.{Done, Refused}
-use Rattle.letters_shorthand.specs.declared.Reading.TheVariants as answer
+use Rattle.std.proofs.Common.{Result, Ok, Err}
+use Rattle.letters_count.specs.declared.Fault.TheVariants.{Misplaced}
+use Rattle.letters_count.specs.declared.Refusal.{Refusal}
+use Rattle.letters_count.specs.Numbers.{number_of}
+use Rattle.letters_shorthand.specs.declared.InputError.{InputError}
+use Rattle.letters_shorthand.specs.declared.InputError.TheVariants.{Long, Refused}
 use Rattle.letters_grammar.specs.Reading.{most_objects, most_brackets}
 use Rattle.letters_shorthand.specs.Input.{most_bytes, trimmed, long, read, input_of, objects_read, answer_of, ReadText}
 use Rattle.letters_shorthand.proofs.InputLaws.{input_long, input_short}
-use Rattle.letters_count.specs.passes.Counts.{goes_on, Later}
-use Rattle.letters_shorthand.specs.passes.Readers.{Front, Stopped, SequenceRead, finding_of, TextRead}
+use Rattle.letters_count.specs.passes.Counts.{Read, refusal, goes_on, Later}
+use Rattle.letters_shorthand.specs.passes.Readers.{Stopped, SequenceRead, finding_of, TextRead}
 
 -- ---- one line feed at the end
 
-pub trimmed_feed : (s : List ℕ) → get_or s (length s - 1) 0 ≡ 10 → Front s (trimmed s) (length s - 1)
-unfolding trimmed
-trimmed_feed s e = record { within = omega arith; same = rw (eq-eqb _ _ e) }
+and_true : (a : Bool) → (a && true) ≡ a
+and_true true = refl
+and_true false = refl
 
-pub trimmed-whole : (s : List ℕ) → (get_or s (length s - 1) 0 ≡ 10 → ⊥) → Front s (trimmed s) (length s)
-unfolding trimmed
-trimmed-whole s e = record { within = omega arith; same = rw (ne_eqb _ _ e) (sym (take-length s)) }
+-- whether the last byte is a line feed, as the library's `strip_suffix` tells it
+feed_last : (s : List ℕ) → pointwise eqb (drop (length s - 1) s) (10 ∷ []) ≡ eqb (get_or s (length s - 1) 0) 10
+feed_last [] = refl
+feed_last (b ∷ s) =
+    let h : length (b ∷ s) - 1 < length (b ∷ s) = omega arith in
+    rw (drop-cons (b ∷ s) (length (b ∷ s) - 1) 0 h, drop_of_length-le (b ∷ s) {i = suc (length (b ∷ s) - 1)} (omega arith))
+    (and_true (eqb (get_or (b ∷ s) (length (b ∷ s) - 1) 0) 10))
 
-pub trimmed_none : (s : List ℕ) → length s ≡ 0 → Front s (trimmed s) 0
+-- so what is left of a text without that suffix, or else the text, is the trimmed one
+pub trimmed_is : (s : Bor (List ℕ)) (r : Option (Bor (List ℕ)))
+    → MatchOption r (pointwise eqb (drop (length s.now - 1) s.now) (10 ∷ []) ≡ false)
+    (λ x. (pointwise eqb (drop (length s.now - 1) s.now) (10 ∷ []) ≡ true) × (x.now ≡ take (length s.now - 1) s.now) × (length x.now + 1 ≡ length s.now))
+    → trimmed s.now ≡ (unwrap_or r s).now
 unfolding trimmed
-trimmed_none [] e = record { within = omega arith; same = refl }
-trimmed_none (b ∷ s) e = absurd (omega arith)
+trimmed_is s None h = rw (sym (feed_last s.now) ∙ h)
+trimmed_is s (Some x) h = rw (sym (feed_last s.now) ∙ h.0) (sym h.1)
 
 -- ---- the sequence that a text is
 
@@ -43,12 +58,12 @@ module _ {t old new : List ℕ} {r : Read} (x : SequenceRead t old new (record {
   whole : shorthand most_objects most_brackets t ≡ goes_on t [] new r
   whole = shorthand-run most_objects most_brackets t ∙ x.same [] refl exchanged_none
 
-  pub text_refused : {n p : ℕ} → r ≡ Refused n p → TextRead t new (Refused n p)
+  pub text_refused : {f : Refusal} → r ≡ Err f → TextRead t new (Err f)
   unfolding finding_of
   text_refused e = record { later = tt; found = whole ∙ ap (goes_on t [] new) e }
 
-  module _ {d : Cursor} (e : r ≡ Done d) where
-    pub text_loose : d.at < length t → TextRead t new (Refused 12 d.at)
+  module _ {d : Cursor} (e : r ≡ Ok d) where
+    pub text_loose : d.at < length t → TextRead t new (Err (refusal Misplaced d.at))
     unfolding Stopped finding_of
     text_loose l = record {
       later = tt;
@@ -58,7 +73,7 @@ module _ {t old new : List ℕ} {r : Read} (x : SequenceRead t old new (record {
           ∙ free_loose most_objects most_brackets t d.at (take d.count new) l (subst (Stopped t) e x.stopped l);
     }
 
-    pub text_read : length t ≤ d.at → TextRead t new (Done d)
+    pub text_read : length t ≤ d.at → TextRead t new (Ok d)
     unfolding finding_of
     text_read h = record {
       later = subst (Later t 0 (record { at = 0; count = 0 })) e x.later;
@@ -66,7 +81,7 @@ module _ {t old new : List ℕ} {r : Read} (x : SequenceRead t old new (record {
     }
 
 -- a good text has room for its objects
-pub text_few : {t new : List ℕ} {r : Read} {d : Cursor} → TextRead t new r → r ≡ Done d → d.count ≤ 1024
+pub text_few : {t new : List ℕ} {r : Read} {d : Cursor} → TextRead t new r → r ≡ Ok d → d.count ≤ 1024
 text_few {t} x e = (subst (Later t 0 (record { at = 0; count = 0 })) e x.later).few
 
 -- ---- what is answered
@@ -74,29 +89,28 @@ text_few {t} x e = (subst (Later t 0 (record { at = 0; count = 0 })) e x.later).
 over_nothing : (w : List ℕ) → over [] w ≡ w
 over_nothing w = sym (put_front [] w) ∙ put_nothing 0 w
 
-module _ {s t : List ℕ} {n : ℕ} (f : Front s t n) where
-  size : length t ≡ n
-  size = rw f.same (length-take-le n s f.within)
-
-  pub answers_long : (w : List ℕ) → most_bytes < n → ReadText t w w answer.Long
+module _ {t : List ℕ} where
+  pub answers_long : (w : List ℕ) → most_bytes < length t → ReadText t w w (Err Long)
   unfolding objects_read answer_of
-  answers_long w h =
-      let i : input_of t ≡ long = input_long t (omega (arith, size)) in
-      record { answer = rw i; memory = rw i (sym (over_nothing w)) }
+  answers_long w h = let i : input_of t ≡ long = input_long t h in record { answer = rw i; memory = rw i (sym (over_nothing w)) }
 
-  module _ (h : n ≤ most_bytes) {new : List ℕ} {r : Read} (x : TextRead (take n s) new r) where
+  module _ (h : length t ≤ most_bytes) {new : List ℕ} {r : Read} (x : TextRead t new r) where
     found : input_of t ≡ read (finding_of new r)
-    found = input_short t (omega (arith, size)) ∙ rw (f.same, x.found)
+    found = input_short t h ∙ rw x.found
 
-    pub answers-refused : (w : List ℕ) {m p : ℕ} → r ≡ Refused m p → ReadText t w w (answer.Refused m p)
+    pub answers-refused : (w : List ℕ) {f : Refusal} → r ≡ Err f → ReadText t w w (Err (Refused f))
     unfolding finding_of objects_read answer_of
-    answers-refused w {m} {p} e =
-        let i : input_of t ≡ read (refused m p) = found ∙ rw e in
+    answers-refused w {f} e =
+        let i : input_of t ≡ read (refused (number_of f.fault) f.place) = found ∙ rw e in
         record { answer = rw i; memory = rw i (sym (over_nothing w)) }
 
-    pub answers-objects : {d : Cursor} (old left : List ℕ) → r ≡ Done d → d.count ≤ length new → left ≡ over (take d.count new) old
-        → ReadText t old left (answer.Objects d.count)
+    pub answers-objects : {d : Cursor} (old left : List ℕ) → r ≡ Ok d → d.count ≤ length new → left ≡ over (take d.count new) old
+        → ReadText t old left (Ok d.count)
     unfolding finding_of objects_read answer_of
     answers-objects {d} old left e l m =
         let i : input_of t ≡ read (good (take d.count new)) = found ∙ rw e in
         record { answer = rw (i, length-take-le d.count new l); memory = rw i m }
+
+-- the same of a text that is another by name
+pub text_same : {t u old new : List ℕ} {r : Result ℕ InputError} → t ≡ u → ReadText u old new r → ReadText t old new r
+text_same e x = rw e x

@@ -1,138 +1,141 @@
 // The readers of a text: a sequence reads items, an item may be a bracket, and a bracket holds an item and a sequence.
-ghost use Rattle.std.specs.Prelude.{◌≡◌, [], ◌∷◌, ℕ, ◌≤◌, length};
+ghost use Rattle.std.specs.Prelude.{◌≡◌, [], ◌∷◌, ℕ, ◌≤◌, length, Err};
+ghost use Rattle.grouping_chart.specs.Object.{kind_number};
 ghost use Rattle.letters_grammar.specs.Letters.{opening_byte, kind_of, exchanged_if};
 ghost use Rattle.letters_grammar.specs.Reading.{most_objects};
-ghost use Rattle.letters_count.specs.passes.Counts.{Room};
+ghost use Rattle.letters_count.specs.passes.Counts.{refusal, Room};
 ghost use Rattle.letters_shorthand.specs.passes.Readers.{AtByte, AtLetter};
 ghost use Rattle.letters_shorthand.specs.passes.Readers.{ItemRead, SequenceRead, TextRead};
 
-use letters_count::{Cursor, MOST_OBJECTS, Read, counted};
+use grouping_chart::object::Kind;
+use letters_count::{Cursor, Fault, MOST_OBJECTS, Refusal, counted};
 
 // The most open brackets.
 const MOST_BRACKETS: usize = 16;
 
-// Items side by side, or none, up to a closing bracket or the end.
-#[cycle(bracket_item_sequence)]
-fn sequence(s: &[u8], kinds: &mut [u8], c: Cursor, depth: usize, swapped: bool) -> Read
-    requires { Room s.now kinds.old c }
-    ensures { SequenceRead s.now kinds.old kinds.new c depth swapped result }
+fn refuse(fault: Fault, place: usize) -> Result<Cursor, Refusal>
+    ensures { result ≡ Err (refusal fault place) }
 {
-    let at = c.at;
-    if s.len() <= at {
-        return Read::Done(c);
-    }
-    let b = s[at];
-    if b == b')' {
-        return Read::Done(c);
-    }
-    match item(s, kinds, c, depth, swapped) {
-        Read::Refused(number, place) => Read::Refused(number, place),
-        Read::Done(next) => sequence(s, kinds, next, depth, swapped),
-    }
+    Err(Refusal { fault, place })
 }
 
-// One item: `~` and an item, a bracket, or a letter.
-#[cycle(bracket_item_sequence)]
-fn item(s: &[u8], kinds: &mut [u8], c: Cursor, depth: usize, swapped: bool) -> Read
-    requires { Room s.now kinds.old c }
-    ensures { ItemRead s.now kinds.old kinds.new c depth swapped result }
-{
-    let at = c.at;
-    if s.len() <= at {
-        return Read::Refused(12, at);
-    }
-    let b = s[at];
-    match b {
-        b'~' => {
-            let behind = Cursor {
-                at: at + 1,
-                count: c.count,
-            };
-            item(s, kinds, behind, depth, !swapped)
+// A text, how many brackets are open around what is read, and whether d and k are exchanged there.
+// The kinds are not in it: a contract would have to say of each method that they are still those that were lent.
+#[derive(Clone, Copy)]
+struct Reader<'a> {
+    text: &'a [u8],
+    depth: usize,
+    swapped: bool,
+}
+
+impl Reader<'_> {
+    // Items side by side, or none, up to a closing bracket or the end.
+    #[cycle(bracket_item_sequence)]
+    fn sequence(&self, kinds: &mut [u8], c: Cursor) -> Result<Cursor, Refusal>
+        requires { Room self.now.text.now kinds.old c }
+        ensures { SequenceRead self.now.text.now kinds.old kinds.new c self.now.depth self.now.swapped result }
+    {
+        let at = c.at;
+        if self.text.len() <= at || self.text[at] == b')' {
+            return Ok(c);
         }
-        b'(' => bracket(s, kinds, c, depth, swapped),
-        b'd' | b'k' | b'n' => letter(s, kinds, c, swapped),
-        _ => Read::Refused(12, at),
+        let next = self.item(kinds, c)?;
+        self.sequence(kinds, next)
     }
-}
 
-// An opening bracket, an item, a sequence, a closing bracket, and a count or none.
-#[cycle(bracket_item_sequence)]
-fn bracket(s: &[u8], kinds: &mut [u8], c: Cursor, depth: usize, swapped: bool) -> Read
-    requires { Room s.now kinds.old c × AtByte s.now c opening_byte }
-    ensures { ItemRead s.now kinds.old kinds.new c depth swapped result }
-{
-    let at = c.at;
-    let start = c.count;
-    if MOST_BRACKETS <= depth {
-        return Read::Refused(14, at);
-    }
-    let inside = Cursor {
-        at: at + 1,
-        count: start,
-    };
-    match item(s, kinds, inside, depth + 1, swapped) {
-        Read::Refused(number, place) => Read::Refused(number, place),
-        Read::Done(next) => match sequence(s, kinds, next, depth + 1, swapped) {
-            Read::Refused(number, place) => Read::Refused(number, place),
-            Read::Done(end) => {
-                let to = end.at;
-                if s.len() <= to {
-                    return Read::Refused(12, to);
-                }
-                let behind = Cursor {
-                    at: to + 1,
-                    count: end.count,
+    // One item: `~` and an item, a bracket, or a letter.
+    #[cycle(bracket_item_sequence)]
+    fn item(&self, kinds: &mut [u8], c: Cursor) -> Result<Cursor, Refusal>
+        requires { Room self.now.text.now kinds.old c }
+        ensures { ItemRead self.now.text.now kinds.old kinds.new c self.now.depth self.now.swapped result }
+    {
+        let at = c.at;
+        if self.text.len() <= at {
+            return refuse(Fault::Misplaced, at);
+        }
+        match self.text[at] {
+            b'~' => {
+                let exchanged = Reader {
+                    swapped: !self.swapped,
+                    ..*self
                 };
-                counted(s, kinds, behind, start)
+                exchanged.item(kinds, Cursor { at: at + 1, ..c })
             }
-        },
+            b'(' => self.bracket(kinds, c),
+            b'd' | b'k' | b'n' => self.letter(kinds, c),
+            _ => refuse(Fault::Misplaced, at),
+        }
+    }
+
+    // An opening bracket, an item, a sequence, a closing bracket, and a count or none.
+    #[cycle(bracket_item_sequence)]
+    fn bracket(&self, kinds: &mut [u8], c: Cursor) -> Result<Cursor, Refusal>
+        requires { Room self.now.text.now kinds.old c × AtByte self.now.text.now c opening_byte }
+        ensures { ItemRead self.now.text.now kinds.old kinds.new c self.now.depth self.now.swapped result }
+    {
+        let at = c.at;
+        if MOST_BRACKETS <= self.depth {
+            return refuse(Fault::TooDeep, at);
+        }
+        let inside = Reader {
+            depth: self.depth + 1,
+            ..*self
+        };
+        let next = inside.item(kinds, Cursor { at: at + 1, ..c })?;
+        let end = inside.sequence(kinds, next)?;
+        let to = end.at;
+        if self.text.len() <= to {
+            return refuse(Fault::Misplaced, to);
+        }
+        counted(self.text, kinds, Cursor { at: to + 1, ..end }, c.count)
+    }
+
+    // A letter, and a count or none.
+    fn letter(&self, kinds: &mut [u8], c: Cursor) -> Result<Cursor, Refusal>
+        requires { Room self.now.text.now kinds.old c × AtLetter self.now.text.now c }
+        ensures { (depth : ℕ) → ItemRead self.now.text.now kinds.old kinds.new c depth self.now.swapped result }
+    {
+        let at = c.at;
+        let n = c.count;
+        if MOST_OBJECTS <= n {
+            return refuse(Fault::Crowded, at);
+        }
+        kinds[n] = u8::from(kind_of(self.text[at], self.swapped));
+        let behind = Cursor {
+            at: at + 1,
+            count: n + 1,
+        };
+        counted(self.text, kinds, behind, n)
     }
 }
 
-// A letter, and a count or none.
-fn letter(s: &[u8], kinds: &mut [u8], c: Cursor, swapped: bool) -> Read
-    requires { Room s.now kinds.old c × AtLetter s.now c }
-    ensures { (depth : ℕ) → ItemRead s.now kinds.old kinds.new c depth swapped result }
+// The kind of a letter, with d and k exchanged or not.
+#[tactic(auto, using(crate::proofs::ReaderLaws::kinds))]
+fn kind_of(b: u8, swapped: bool) -> Kind
+    ensures { kind_number result ∷ [] ≡ exchanged_if swapped (kind_of b ∷ []) }
 {
-    let at = c.at;
-    let n = c.count;
-    if MOST_OBJECTS <= n {
-        return Read::Refused(13, at);
-    }
-    let b = s[at];
-    kinds[n] = kind_of(b, swapped);
-    let behind = Cursor {
-        at: at + 1,
-        count: n + 1,
-    };
-    counted(s, kinds, behind, n)
-}
-
-fn kind_of(b: u8, swapped: bool) -> u8
-    ensures { result ∷ [] ≡ exchanged_if swapped (kind_of b ∷ []) }
-{
-    match b {
-        b'd' => if swapped { 1 } else { 0 },
-        b'k' => if swapped { 0 } else { 1 },
-        _ => 2,
+    match (b, swapped) {
+        (b'd', false) | (b'k', true) => Kind::Center,
+        (b'd', true) | (b'k', false) => Kind::Rim,
+        _ => Kind::NonHit,
     }
 }
 
 // A whole text. Where it is good its objects are the kinds' front.
-pub fn read_text(t: &[u8], kinds: &mut [u8]) -> Read
+pub fn read_text(t: &[u8], kinds: &mut [u8]) -> Result<Cursor, Refusal>
     requires { most_objects ≤ length kinds.old }
     ensures { TextRead t.now kinds.new result }
 {
-    match sequence(t, kinds, Cursor { at: 0, count: 0 }, 0, false) {
-        Read::Refused(number, place) => Read::Refused(number, place),
-        Read::Done(end) => {
-            // a sequence ends before the text does at a closing bracket
-            let to = end.at;
-            if to < t.len() {
-                return Read::Refused(12, to);
-            }
-            Read::Done(end)
-        }
+    let reader = Reader {
+        text: t,
+        depth: 0,
+        swapped: false,
+    };
+    let end = reader.sequence(kinds, Cursor { at: 0, count: 0 })?;
+    // a sequence ends before the text does at a closing bracket
+    let to = end.at;
+    if to < t.len() {
+        return refuse(Fault::Misplaced, to);
     }
+    Ok(end)
 }

@@ -14,10 +14,10 @@ ghost use Rattle.grouping_normalizer.specs.Normalizer.{NormalOf};
 ghost use Rattle.grouping_interval.specs.GroupByInterval.{GroupedByInterval};
 ghost use Rattle.grouping_interval.specs.passes.Rooms.{ValuesRoom};
 ghost use Rattle.lent.specs.Over.{over};
-ghost use Rattle.letters_shorthand.specs.Input.{trimmed, input_of, objects_read, answer_of};
+ghost use Rattle.letters_shorthand.specs.Input.{trimmed, input_of, objects_read, answer_of, told};
 ghost use Rattle.test_host.specs.Told.{told_of};
 
-use letters_shorthand::Reading;
+use letters_shorthand::InputError;
 
 #[unsafe(no_mangle)]
 pub extern "C" fn numeric_near(a: f64, b: f64, margin: f64) -> bool
@@ -98,24 +98,25 @@ pub struct LettersRead {
     pub objects: usize,
 }
 
-fn told(reading: Reading) -> LettersRead
-    ensures { result ≡ told_of reading }
+#[tactic(auto, unfolding(crate::specs::Told::told_of))]
+fn told(reading: Result<usize, InputError>) -> LettersRead
+    ensures { result ≡ told_of (told reading) }
 {
     match reading {
-        Reading::Long => LettersRead {
+        Ok(objects) => LettersRead {
+            number: 0,
+            place: 0,
+            objects,
+        },
+        Err(InputError::Long) => LettersRead {
             number: 1,
             place: 0,
             objects: 0,
         },
-        Reading::Refused(number, place) => LettersRead {
-            number,
-            place,
+        Err(InputError::Refused(refusal)) => LettersRead {
+            number: u64::from(refusal.fault),
+            place: refusal.place,
             objects: 0,
-        },
-        Reading::Objects(objects) => LettersRead {
-            number: 0,
-            place: 0,
-            objects,
         },
     }
 }

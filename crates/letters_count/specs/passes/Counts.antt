@@ -1,13 +1,19 @@
 -- What a reader asks, and what it promises of where it stopped; and the count at a place.
-use Rattle.std.specs.Prelude.{ℕ, ◌+◌, ◌-◌, ◌*◌, ◌≤◌, ◌≡◌, cond, List, eqb, ltb, leb, length, take, drop, get_or}
+use Rattle.std.specs.Prelude.{ℕ, ◌+◌, ◌-◌, ◌*◌, ◌≤◌, ◌≡◌, cond, List, eqb, leb, length, take, drop, get_or}
+use Rattle.std.specs.Prelude.{Option, Some, None, Result, Ok, Err}
 use Rattle.letters_grammar.specs.Letters.{zero_byte, is_digit}
 use Rattle.letters_grammar.specs.Reading.{Bracket, Mode, free, after, Finding, refused, run}
 use Rattle.letters_grammar.specs.Reading.{most_objects, most_brackets}
 use Rattle.letters_count.specs.declared.Cursor.{Cursor}
-use Rattle.letters_count.specs.declared.Read.{Read}
-use Rattle.letters_count.specs.declared.Read.TheVariants.{Done, Refused}
+use Rattle.letters_count.specs.declared.Fault.{Fault}
+use Rattle.letters_count.specs.declared.Fault.TheVariants.{Misplaced}
+use Rattle.letters_count.specs.declared.Refusal.{Refusal}
 use Rattle.letters_count.specs.declared.Times.{Times}
-use Rattle.letters_count.specs.declared.Times.TheVariants.{Once, Many, Bad}
+use Rattle.letters_count.specs.Numbers.{number_of}
+
+-- what a reader answers: the place after what it read, or the first refusal
+abbrev pub Read : Type 0
+Read = Result Cursor Refusal
 
 -- a cursor within the text, and room for the most objects
 pub record Room (s kinds : List ℕ) (c : Cursor) : Type 0 where
@@ -21,8 +27,8 @@ from s c fs m kinds = run most_objects most_brackets (drop c.at s) c.at fs m (ta
 
 -- the reading of s behind what a reader read
 abbrev pub goes_on : List ℕ → List Bracket → List ℕ → Read → Finding
-goes_on s fs kinds (Done c) = from s c fs free kinds
-goes_on s fs kinds (Refused n p) = refused n p
+goes_on s fs kinds (Ok c) = from s c fs free kinds
+goes_on s fs kinds (Err r) = refused (number_of r.fault) r.place
 
 -- d is k bytes behind c, or more
 pub record Reached (s : List ℕ) (k : ℕ) (c d : Cursor) : Type 0 where
@@ -32,8 +38,8 @@ pub record Reached (s : List ℕ) (k : ℕ) (c d : Cursor) : Type 0 where
   pub few : d.count ≤ most_objects
 
 abbrev pub Later : List ℕ → ℕ → Cursor → Read → Type 0
-Later s k c (Done d) = Reached s k c d
-Later s k c (Refused n p) = Unit {0}
+Later s k c (Ok d) = Reached s k c d
+Later s k c (Err r) = Unit {0}
 
 -- a count was read at c, or none, for the objects from i on
 pub record CountRead (s old new : List ℕ) (c : Cursor) (i : ℕ) (r : Read) : Type 0 where
@@ -42,19 +48,28 @@ pub record CountRead (s old new : List ℕ) (c : Cursor) (i : ℕ) (r : Read) : 
 
 -- ---- counts
 
--- the digit at a place, or 10 where none is there
-unfoldable pub digit_at : List ℕ → ℕ → ℕ
-digit_at s p = cond (leb (length s) p) 10 (cond (is_digit (get_or s p 0)) (get_or s p 0 - zero_byte) 10)
+-- the digit at a place
+unfoldable pub digit_at : List ℕ → ℕ → Option ℕ
+digit_at s p = cond (leb (length s) p) None (cond (is_digit (get_or s p 0)) (Some (get_or s p 0 - zero_byte)) None)
+
+abbrev pub refusal : Fault → ℕ → Refusal
+refusal f p = record { fault = f; place = p }
+
+abbrev pub times : ℕ → ℕ → Times
+times n p = record { count = n; last = p }
+
+-- the count at a place whose first digit is no 0, by the digit behind it
+unfoldable pub count_behind : ℕ → ℕ → Option ℕ → Result (Option Times) Refusal
+count_behind p a (Some b) = Ok (Some (times (10 * a + b) (p + 1)))
+count_behind p a None = cond (eqb a 1) (Err (refusal Misplaced (p + 1))) (Ok (Some (times a p)))
 
 -- the count at a place, by the digits there and behind it
-unfoldable pub count_by : ℕ → ℕ → ℕ → Times
-count_by p a b =
-    cond (leb 10 a) Once
-    (cond (eqb a 0) (Bad p)
-    (cond (ltb b 10) (Many (10 * a + b) (p + 1))
-    (cond (eqb a 1) (Bad (p + 1)) (Many a p))))
+unfoldable pub count_by : ℕ → Option ℕ → Option ℕ → Result (Option Times) Refusal
+unfolding count_behind
+count_by p None b = Ok None
+count_by p (Some a) b = cond (eqb a 0) (Err (refusal Misplaced p)) (count_behind p a b)
 
-unfoldable pub count_at : List ℕ → ℕ → Times
+unfoldable pub count_at : List ℕ → ℕ → Result (Option Times) Refusal
 unfolding digit_at count_by
 count_at s p = count_by p (digit_at s p) (digit_at s (p + 1))
 

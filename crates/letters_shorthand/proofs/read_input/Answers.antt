@@ -1,17 +1,26 @@
 -- `read_input` meets its contract: the text is too long, or refused, or its objects are copied over the front of the kinds.
-use Rattle.std.proofs.Common.{arith}
-use Rattle.letters_shorthand.proofs.TextLaws.{text_few, answers_long, answers-refused, answers-objects}
+use Rattle.std.proofs.Common.{ℕ, List, Bor, ap, sym, ◌∙◌, arith}
+use Rattle.std.proofs.lemmas.Result.{err_from_is_err_and}
+use Rattle.letters_shorthand.proofs.TextLaws.{trimmed_is, text_few, answers_long, answers-refused, answers-objects, text_same}
 use Rattle.letters_shorthand.proofs.read_input.Goals as goal
 
-pub returns-then-n-gt-MOST_BYTES : goal.returns-then-n-gt-MOST_BYTES
-returns-then-n-gt-MOST_BYTES c = answers_long c.trimmed_length-n.ensures _ c.if-n-gt-MOST_BYTES.true
+pub returns-then-text-gt-MOST_BYTES : goal.returns-then-text-gt-MOST_BYTES
+returns-then-text-gt-MOST_BYTES c =
+    let whole = trimmed_is c.args.s c.strip_suffix.result c.strip_suffix.ensures.cases in
+    text_same (whole ∙ ap (λ (x : Bor (List ℕ)). x.now) (sym c.unwrap_or-text.ensures)) (answers_long _ c.if-text-gt-MOST_BYTES.true)
 
-pub returns-in-Refused : goal.returns-in-Refused
-returns-in-Refused c =
-    answers-refused c.trimmed_length-n.ensures c.if-n-gt-MOST_BYTES.false c.read_text.ensures _ c.in-Refused.is
+pub returns-in_err-count : goal.returns-in_err-count
+returns-in_err-count c =
+    let whole = trimmed_is c.args.s c.strip_suffix.result c.strip_suffix.ensures.cases in
+    let p = err_from_is_err_and c.from_residual.result c.from_residual.ensures.1 in
+    rw (p.1, p.2)
+    (text_same (whole ∙ ap (λ (x : Bor (List ℕ)). x.now) (sym c.unwrap_or-text.ensures))
+    (answers-refused c.if-text-gt-MOST_BYTES.false c.read_text.ensures _ c.in_err-count.was))
 
-pub returns-in-Done : goal.returns-in-Done
-returns-in-Done c =
-    answers-objects c.trimmed_length-n.ensures c.if-n-gt-MOST_BYTES.false c.read_text.ensures _ _ c.in-Done.is
-    (omega (arith, c.read_text.auto.kinds, text_few c.read_text.ensures c.in-Done.is))
-    c.copy.ensures
+pub returns : goal.returns
+returns c =
+    let whole = trimmed_is c.args.s c.strip_suffix.result c.strip_suffix.ensures.cases in
+    text_same (whole ∙ ap (λ (x : Bor (List ℕ)). x.now) (sym c.unwrap_or-text.ensures))
+    (answers-objects c.if-text-gt-MOST_BYTES.false c.read_text.ensures _ _ c.in_ok-count.was
+    (omega (arith, c.read_text.auto.kinds, text_few c.read_text.ensures c.in_ok-count.was))
+    c.copy.ensures)

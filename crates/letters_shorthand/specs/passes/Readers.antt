@@ -1,18 +1,12 @@
 -- What the readers promise: the reading of the whole goes on, from where a reader stopped, as it would have gone from
 -- where it began, whatever brackets are open around it.
-use Rattle.std.specs.Prelude.{ℕ, ◌≤◌, ◌<◌, ◌≡◌, Bool, true, List, length, take, get_or}
+use Rattle.std.specs.Prelude.{ℕ, ◌<◌, ◌≡◌, Bool, true, List, length, take, get_or, Ok, Err}
 use Rattle.letters_grammar.specs.Letters.{closing_byte, is_letter}
 use Rattle.letters_grammar.specs.Reading.{Bracket, need, free, Finding, good, refused}
 use Rattle.letters_grammar.specs.Reading.{exchanged, shorthand, most_objects, most_brackets}
 use Rattle.letters_count.specs.declared.Cursor.{Cursor}
-use Rattle.letters_count.specs.declared.Read.{Read}
-use Rattle.letters_count.specs.declared.Read.TheVariants.{Done, Refused}
-use Rattle.letters_count.specs.passes.Counts.{from, goes_on, Later}
-
--- t is the first n bytes of s
-pub record Front (s t : List ℕ) (n : ℕ) : Type 0 where
-  pub within : n ≤ length s
-  pub same : t ≡ take n s
+use Rattle.letters_count.specs.Numbers.{number_of}
+use Rattle.letters_count.specs.passes.Counts.{Read, from, goes_on, Later}
 
 -- ---- what a reader asks
 
@@ -30,8 +24,8 @@ pub record AtLetter (s : List ℕ) (c : Cursor) : Type 0 where
 
 -- a sequence ends at a closing bracket or at the end of the text
 unfoldable pub Stopped : List ℕ → Read → Type 0
-Stopped s (Done c) = (c.at < length s) → get_or s c.at 0 ≡ closing_byte
-Stopped s (Refused n p) = Unit {0}
+Stopped s (Ok c) = (c.at < length s) → get_or s c.at 0 ≡ closing_byte
+Stopped s (Err r) = Unit {0}
 
 -- an item was read at c, inside so many brackets, with d and k exchanged or not
 pub record ItemRead (s old new : List ℕ) (c : Cursor) (depth : ℕ) (q : Bool) (r : Read) : Type 0 where
@@ -46,8 +40,8 @@ pub record SequenceRead (s old new : List ℕ) (c : Cursor) (depth : ℕ) (q : B
 
 -- what a text is found to be, where its objects are the front of the kinds
 unfoldable pub finding_of : List ℕ → Read → Finding
-finding_of kinds (Done c) = good (take c.count kinds)
-finding_of kinds (Refused n p) = refused n p
+finding_of kinds (Ok c) = good (take c.count kinds)
+finding_of kinds (Err r) = refused (number_of r.fault) r.place
 
 -- a whole text was read
 pub record TextRead (t new : List ℕ) (r : Read) : Type 0 where
