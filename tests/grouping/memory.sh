@@ -21,6 +21,8 @@ if ! grep -q '^"grouping_normalizer::normal_of"' <<< "$all"; then
 fi
 wanted='"core::cmp::numbers::BoolOrd::cmp" library
 "core::f64::is_nan" library
+"core::f64::is_sign_negative" library
+"core::f64::is_sign_positive" library
 "core::iter::base::Iterator::any" library
 "core::iter::slices::slice+T::iter" library
 "core::slice::reads::slice+T::split_at" library

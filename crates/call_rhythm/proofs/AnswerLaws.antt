@@ -1,15 +1,19 @@
 -- The answers, object by object, from the tables: the table of the notes' groups as it stands, and then each of its numbers looked up in that of the groups'
 -- patterns.
-use mathlib.Core.Path.{◌≡◌, sym, ap, ◌∙◌}
-use mathlib.Core.List.{List}
+use mathlib.Core.Path.{◌≡◌, refl, sym, ap, ◌∙◌}
+use mathlib.Core.List.{List, ◌++◌, append_assoc}
 use Prim.Native.Nat.{ℕ, ◌+◌, ◌-◌, ◌*◌, ◌≤◌}
 use native.Mathlib.Omega.{arith}
-use lib.ListN.{length, take, drop, replicate, length-replicate}
+use lib.ListN.{length, take, drop, replicate, length-replicate, length-drop, take-append-drop}
+use lib.Seq.{length-take-le, take-append-le, drop-append-le}
+use Rattle.std.proofs.lemmas.List.{drop-take, take-take}
 use lib.Ieee.{Float, binary64, of_bits}
 use Rattle.lent.specs.Over.{over, put, part, written}
 use Rattle.lent.specs.Scan.{gathered}
 use Rattle.grouping_marks.specs.Marks.{group_count, group_numbers}
-use Rattle.lent.proofs.OverLaws.{length-part, drop-put, part-put_same, lent-part, over-agree}
+use Rattle.lent.proofs.OverLaws.{length-part, drop-put, lent-part, over-agree}
+use Rattle.lent.specs.passes.Bounds.{AllBelow}
+use Rattle.lent.proofs.PieceLaws.{part_pieces, put_pieces}
 use Rattle.lent.proofs.FillLaws.{length-gathered, get_or-gathered}
 use Rattle.grouping_marks.proofs.MarksLaws.{length-numbers, numbers-below}
 use Rattle.grouping_chart.specs.Object.{notes}
@@ -21,9 +25,17 @@ use Rattle.grouping_same_rhythm.proofs.MadeLaws.{pattern_number_made}
 use Rattle.call_rhythm.specs.declared.tables.GroupCounts.{GroupCounts}
 use Rattle.call_rhythm.specs.Rhythm.{note_group, group_of, pattern_group_of, groups_in, counts_of}
 use Rattle.call_rhythm.specs.Call.{Memory, memory, filled}
-use Rattle.call_rhythm.specs.passes.Tables.{work_writes, scratch_writes, GroupsRoom, LookRoom, by_object, note_groups, note_patterns, TablesThere}
+use Rattle.call_rhythm.specs.passes.Tables.{work_writes, scratch_writes, GroupsRoom, by_object, note_groups, note_patterns, TablesThere}
 use Rattle.call_rhythm.proofs.PerNoteLaws.{per_note_ext}
 use Rattle.call_rhythm.proofs.TablesLaws.{length-rhythm_marks, groups-few, TablesLeft, tables_left}
+
+-- what is put into the first of two pieces is put into both
+put-append : (a : ℕ) (x u v : List ℕ) → a + length x ≤ length u → put a x u ++ v ≡ put a x (u ++ v)
+put-append a x u v h =
+    let p : put a x u ≡ take a u ++ (x ++ drop (length x) (drop a u)) = sym (put_pieces a (length x) x u refl) in
+    let q : put a x (u ++ v) ≡ take a (u ++ v) ++ (x ++ drop (length x) (drop a (u ++ v))) = sym (put_pieces a (length x) x (u ++ v) refl) in
+    let d : length x ≤ length (drop a u) = omega (arith, length-drop a u) in
+    rw (p, q, take-append-le a u v (omega arith), drop-append-le a u v (omega arith), drop-append-le (length x) (drop a u) v d, append_assoc, append_assoc)
 
 -- ---- from the tables to the answers
 
@@ -31,27 +43,46 @@ module _ {kinds : List ℕ} {k : GroupCounts} {work group₀ pattern₀ : List �
   pub notes-most : k.notes ≤ length kinds
   notes-most = omega (arith, r.noted, notes-few kinds)
 
-  pub look_room : LookRoom work (3 * length kinds) k.groups (2 * length kinds) k.notes
-  look_room = record {
-    few = omega (arith, notes-most, r.few);
-    read = omega (arith, r.most, r.regions);
-    write = omega (arith, notes-most);
-    below = r.below;
-  }
+  -- a region of the front is lent to be written, and what is behind it to be read
+  module _ {front patterns : List ℕ} (f : front ≡ take (3 * length kinds) work) (b : patterns ≡ drop (3 * length kinds) work) where
+    -- the groups, as lent
+    pub groups-lent : take (2 * length kinds + k.notes - 2 * length kinds) (drop (2 * length kinds) front) ≡ note_groups kinds k work
+    groups-lent =
+        let e : 3 * length kinds ≡ 2 * length kinds + length kinds = omega arith in
+        let h : 2 * length kinds + k.notes - 2 * length kinds ≤ length kinds = omega (arith, notes-most) in
+        rw (f, e, drop-take, take-take _ _ _ h) (lent-part (2 * length kinds) k.notes work)
 
-  -- the groups, as lent
-  pub groups-lent : take (2 * length kinds + k.notes - 2 * length kinds) (drop (2 * length kinds) work) ≡ note_groups kinds k work
-  groups-lent = lent-part (2 * length kinds) k.notes work
+    -- the patterns' table, as lent
+    pub table-lent : take k.groups patterns ≡ part (3 * length kinds) k.groups work
+    table-lent = rw b (part_pieces (3 * length kinds) k.groups work)
 
-  -- and the patterns, once they are looked up
-  pub patterns-lent : {work₁ : List ℕ} → work₁ ≡ put (2 * length kinds) (note_patterns kinds k work) work
-      → take (2 * length kinds + k.notes - 2 * length kinds) (drop (2 * length kinds) work₁) ≡ note_patterns kinds k work
-  patterns-lent {work₁} w =
-      let l : length (note_patterns kinds k work) ≡ k.notes =
-      length-gathered _ _ ∙ length-part (2 * length kinds) k.notes work (omega (arith, notes-most, r.regions)) in
-      lent-part (2 * length kinds) k.notes work₁
-      ∙ ap (part (2 * length kinds) k.notes) w
-      ∙ part-put_same (2 * length kinds) k.notes (note_patterns kinds k work) work l (omega (arith, notes-most, r.regions))
+    groups-long : length (note_groups kinds k work) ≡ k.notes
+    groups-long = length-part (2 * length kinds) k.notes work (omega (arith, notes-most, r.regions))
+
+    pub numbers_below : AllBelow (take (2 * length kinds + k.notes - 2 * length kinds) (drop (2 * length kinds) front)) (length (take k.groups patterns))
+    numbers_below =
+        let l : length (part (3 * length kinds) k.groups work) ≡ k.groups = length-part (3 * length kinds) k.groups work (omega (arith, r.most, r.regions)) in
+        rw (groups-lent, table-lent, l) (λ i h. r.below i (omega (arith, groups-long)))
+
+    module _ {region : List ℕ}
+        (e : region ≡ gathered (take k.groups patterns) (take (2 * length kinds + k.notes - 2 * length kinds) (drop (2 * length kinds) front))) where
+      -- once they are looked up
+      pub region_is : region ≡ note_patterns kinds k work
+      region_is = rw (table-lent, groups-lent) at e
+
+      -- and put back
+      pub region_back : (take (2 * length kinds)
+          front ++ (region ++ drop (2 * length kinds + k.notes - 2 * length kinds) (drop (2 * length kinds) front))) ++ patterns
+          ≡ put (2 * length kinds) (note_patterns kinds k work) work
+      region_back =
+          let n : ℕ = length kinds in
+          let l : length region ≡ k.notes = ap length region_is ∙ length-gathered _ _ ∙ groups-long in
+          let m : length region ≡ 2 * n + k.notes - 2 * n = omega arith in
+          let u : length front ≡ 3 * n = ap length f ∙ length-take-le (3 * n) work (omega (arith, r.regions)) in
+          let w : front ++ patterns ≡ work = rw (f, b) (take-append-drop (3 * n) work) in
+          ap (λ x. x ++ patterns) (put_pieces (2 * n) (2 * n + k.notes - 2 * n) region front m)
+          ∙ put-append (2 * n) region front patterns (omega (arith, notes-most))
+          ∙ rw (w, region_is)
 
 -- ---- the answers are the definition's
 

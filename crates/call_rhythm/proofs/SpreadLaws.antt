@@ -8,14 +8,16 @@ use Prim.Native.Nat.{ℕ, ◌+◌, ◌≤◌, ◌<◌}
 use native.Mathlib.Omega.{arith}
 use lib.ListN.{length, take, get_or, set}
 use lib.Seq.{length-take-le}
-use Rattle.lent.specs.Over.{over, part}
+use Rattle.lent.specs.Over.{over}
 use Rattle.lent.specs.Scan.{gathered}
-use Rattle.lent.proofs.OverLaws.{length-part, get_or-part}
-use Rattle.lent.proofs.FillLaws.{Fill, fill_start, fill_turn, fill_start_front, fill_turn_front, fill_end_front, fill_read, fill_unread}
+use Rattle.lent.specs.passes.Bounds.{AllBelow}
+use Rattle.std.proofs.lemmas.List.{take_all}
+use Rattle.lent.proofs.OverLaws.{length-over, front}
+use Rattle.lent.proofs.FillLaws.{Fill, fill_start_front, fill_turn_front, fill_end_front, fill_unread}
 use Rattle.lent.proofs.FillLaws.{length-gathered, get_or-gathered}
 use Rattle.grouping_chart.specs.Object.{is_note, note_idx}
 use Rattle.grouping_chart.proofs.ObjectLaws.{seen₀, seen_after, seen_few, notes_turn, note_idx_seen}
-use Rattle.call_rhythm.specs.passes.Tables.{SpreadRoom, LookRoom, by_object}
+use Rattle.call_rhythm.specs.passes.Tables.{SpreadRoom, by_object}
 use Rattle.call_rhythm.proofs.PerNoteLaws.{note_below, length_per_note, per_note_at, same_where}
 
 -- ---- one object's number
@@ -63,34 +65,27 @@ module _ {kinds numbers out₀ out : List ℕ} {next i : ℕ} (x : Spread kinds 
 
 -- ---- numbers looked up
 
-abbrev pub looked_up : List ℕ → ℕ → ℕ → ℕ → ℕ → List ℕ
-looked_up w table k at m = gathered (part table k w) (part at m w)
+module _ (table xs : List ℕ) where
+  -- the first i numbers are looked up
+  abbrev pub Looked : List ℕ → ℕ → Type 0
+  Looked w i = Fill (gathered table xs) (length xs) 0 xs w i
 
-pub record Looked (table k at m : ℕ) (w₀ w : List ℕ) (i : ℕ) : Type 0 where
-  pub room : LookRoom w₀ table k at m
-  pub fill : Fill (looked_up w₀ table k at m) m at w₀ w i
+  pub looked_start : Looked xs 0
+  looked_start = fill_start_front (gathered table xs) (length xs) xs (length-gathered table xs) (omega arith)
 
-module _ (table k at m : ℕ) (w : List ℕ) (r : LookRoom w table k at m) where
-  length-numbers : length (part at m w) ≡ m
-  length-numbers = length-part at m w (omega (arith, r.read, r.write))
-
-  pub looked_start : Looked table k at m w w 0
-  looked_start = record { room = r; fill = fill_start _ m at w (length-gathered _ _ ∙ length-numbers) (omega (arith, r.read, r.write)) }
-
-module _ {table k at m : ℕ} {w₀ w : List ℕ} {i : ℕ} (x : Looked table k at m w₀ w i) (h : i < m) where
-  number_is : get_or w (at + i) 0 ≡ get_or (part at m w₀) i 0
-  number_is = fill_read at m i 0 x.fill (inr (omega arith)) (omega arith) h
-
+module _ (table xs : List ℕ) {w : List ℕ} {i : ℕ} (x : Looked table xs w i) where
   -- the number read is below the table's size
-  pub looked_below : get_or w (at + i) 0 < k
-  looked_below = omega (arith, number_is, x.room.below i h)
+  pub looked_below : AllBelow xs (length table) → i < length xs → get_or w i 0 < length table
+  looked_below b h = omega (arith, fill_unread i 0 x (inr (omega arith)), b i h)
 
-  pub looked_turn : Looked table k at m w₀ (set w (at + i) (get_or w (table + get_or w (at + i) 0) 0)) (i + 1)
-  looked_turn = record {
-    room = x.room;
-    fill =
-        fill_turn 0 x.fill h
-        (fill_unread (table + get_or w (at + i) 0) 0 x.fill (inr (omega (arith, x.room.write)))
-        ∙ sym (get_or-part table k w₀ (get_or w (at + i) 0) 0 looked_below)
-        ∙ rw number_is (sym (get_or-gathered (part table k w₀) (part at m w₀) i (omega (arith, length-numbers table k at m w₀ x.room)))));
-  }
+  pub looked_turn : i < length xs → Looked table xs (set w i (get_or table (get_or w i 0) 0)) (i + 1)
+  looked_turn h =
+      let e : get_or w i 0 ≡ get_or xs i 0 = fill_unread i 0 x (inr (omega arith)) in
+      fill_turn_front 0 x h (rw e (sym (get_or-gathered table xs i h)))
+
+  pub looked_end : length xs ≤ i → w ≡ gathered table xs
+  looked_end h =
+      let l : length (gathered table xs) ≡ length xs = length-gathered table xs in
+      fill_end_front x h
+      ∙ sym (take_all (length xs) (over (gathered table xs) xs) (omega (arith, length-over (gathered table xs) xs (omega arith))))
+      ∙ front (gathered table xs) xs (length xs) l

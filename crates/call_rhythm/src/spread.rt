@@ -1,13 +1,14 @@
 // What is known of notes, by objects.
 ghost use Rattle.std.specs.Prelude.{◌≡◌, true, cond, ◌*◌, ◌<◌, length, get_or};
-ghost use Rattle.lent.specs.Over.{over, put, part};
+ghost use Rattle.lent.specs.Over.{over, put};
 ghost use Rattle.lent.specs.Scan.{gathered};
+ghost use Rattle.lent.specs.passes.Bounds.{AllBelow};
 ghost use Rattle.grouping_chart.specs.Object.{is_note};
-ghost use Rattle.call_rhythm.specs.passes.Tables.{SpreadRoom, LookRoom, TablesThere};
+ghost use Rattle.call_rhythm.specs.passes.Tables.{SpreadRoom, TablesThere};
 ghost use Rattle.call_rhythm.specs.passes.Tables.{by_object, note_groups, note_patterns};
 
 use crate::tables::GroupCounts;
-use grouping_chart::object::{NoteIndex, ObjectIndex, is_note, note_after};
+use grouping_chart::object::{NoteIndex, is_note, note_after};
 
 // The number of an object's note, which is `next` where it is one; 65535 for a NonHit.
 fn number_of(kind: u8, numbers: &[u16], next: NoteIndex) -> u16
@@ -15,10 +16,10 @@ fn number_of(kind: u8, numbers: &[u16], next: NoteIndex) -> u16
     ensures { result ≡ cond (is_note kind) (get_or numbers.now next.0 0) 65535 }
 {
     if is_note(kind) {
-        let j = next.0;
-        return numbers[j];
+        numbers[next.0]
+    } else {
+        65535
     }
-    65535
 }
 
 // Gives each object the number of its note.
@@ -26,27 +27,20 @@ pub fn spread(kind: &[u8], numbers: &[u16], out: &mut [u16])
     requires { SpreadRoom kind.now numbers.now out.old }
     ensures { out.new ≡ over (by_object numbers.now kind.now) out.old }
 {
-    let mut at = ObjectIndex(0);
     let mut next = NoteIndex(0);
-    while at.0 < kind.len() {
-        let i = at.0;
-        let k = kind[i];
-        out[i] = number_of(k, numbers, next);
-        next = note_after(k, next);
-        at = ObjectIndex(i + 1);
+    for (i, k) in kind.iter().enumerate() {
+        out[i] = number_of(*k, numbers, next);
+        next = note_after(*k, next);
     }
 }
 
-// Puts, over each of m numbers at `at`, what the table of k places has at it.
-pub fn look_up(w: &mut [u16], table: usize, k: usize, at: usize, m: usize)
-    requires { LookRoom w.old table k at m }
-    ensures { w.new ≡ put at (gathered (part table k w.old) (part at m w.old)) w.old }
+// Puts in each number's place what the table has at it.
+pub fn look_up(numbers: &mut [u16], table: &[u16])
+    requires { AllBelow numbers.old (length table.now) }
+    ensures { numbers.new ≡ gathered table.now numbers.old }
 {
-    let mut i = 0;
-    while i < m {
-        let j = w[at + i] as usize;
-        w[at + i] = w[table + j];
-        i += 1;
+    for number in numbers.iter_mut() {
+        *number = table[*number as usize];
     }
 }
 
@@ -65,8 +59,10 @@ pub fn fill_answers(
     ensures work { work.new ≡ put (2 * length kind.now) (note_patterns kind.now k work.old) work.old }
 {
     let n = kind.len();
+    let (notes, patterns) = work.split_at_mut(3 * n);
     let m = k.notes;
-    spread(kind, &work[2 * n..2 * n + m], group);
-    look_up(work, 3 * n, k.groups, 2 * n, m);
-    spread(kind, &work[2 * n..2 * n + m], pattern);
+    let numbers = &mut notes[2 * n..2 * n + m];
+    spread(kind, numbers, group);
+    look_up(numbers, &patterns[..k.groups]);
+    spread(kind, numbers, pattern);
 }

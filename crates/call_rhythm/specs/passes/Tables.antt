@@ -1,6 +1,6 @@
 -- What the passes of rhythm ask and write: tables of the notes' and of the groups' numbers in the work slice, looked up
 -- object by object.
-use Rattle.std.specs.Prelude.{◌≡◌, ℕ, ◌+◌, ◌*◌, ◌≤◌, ◌<◌, List, [], ◌∷◌, ◌++◌, length, get_or, Float}
+use Rattle.std.specs.Prelude.{◌≡◌, ℕ, ◌*◌, ◌≤◌, ◌<◌, List, [], ◌∷◌, ◌++◌, length, get_or, Float}
 use Rattle.lent.specs.Over.{part, Write, write}
 use Rattle.lent.specs.Scan.{gathered}
 use Rattle.grouping_marks.specs.Marks.{group_numbers}
@@ -84,13 +84,6 @@ pub record GroupsRoom (kinds : List ℕ) (starts deltas : List Float) (m : Memor
 pub record SpreadRoom (kinds numbers out : List ℕ) : Type 0 where
   pub each : length numbers ≡ length (notes kinds)
   pub room : length kinds ≤ length out
-
--- the numbers at `at`, each below k, are looked up in the table of k places at `table`, which lies apart from them
-pub record LookRoom (w : List ℕ) (table k at m : ℕ) : Type 0 where
-  pub few : m ≤ largest
-  pub read : table + k ≤ length w
-  pub write : at + m ≤ table
-  pub below : (i : ℕ) → i < m → get_or (part at m w) i 0 < k
 
 -- what a list says of each note, object by object
 abbrev pub by_object : List ℕ → List ℕ → List ℕ

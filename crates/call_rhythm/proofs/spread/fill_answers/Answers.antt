@@ -1,31 +1,23 @@
 -- The first answer is what stands in region 2; then each number there is looked up in region 3, and the second answer is what stands there.
-use native.Mathlib.Omega.{arith}
-use Rattle.call_rhythm.proofs.AnswerLaws.{notes-most, look_room, groups-lent, patterns-lent}
+use Rattle.std.proofs.Common.{arith}
+use Rattle.call_rhythm.proofs.AnswerLaws.{notes-most, groups-lent, numbers_below, region_is, region_back}
 use Rattle.call_rhythm.proofs.spread.fill_answers.Goals as goal
 
-pub overflow_add-n : goal.overflow_add-n
-overflow_add-n c =
-    omega (arith, notes-most c.requires, c.requires)
+pub overflow_add-numbers : goal.overflow_add-numbers
+overflow_add-numbers c = omega (arith, notes-most c.requires, c.requires)
 
-pub slice_bounds-spread-end : goal.slice_bounds-spread-end
-slice_bounds-spread-end c =
-    omega (arith, notes-most c.requires, c.requires)
+pub slice_bounds-numbers-end : goal.slice_bounds-numbers-end
+slice_bounds-numbers-end c = omega (arith, notes-most c.requires, c.requires, c.split_at_mut-notes.ensures.front_len)
 
 pub look_up-requires : goal.look_up-requires
-look_up-requires c = look_room c.requires
-
-pub overflow_add-n-2 : goal.overflow_add-n-2
-overflow_add-n-2 c =
-    omega (arith, notes-most c.requires, c.requires)
-
-pub slice_bounds-spread-end-2 : goal.slice_bounds-spread-end-2
-slice_bounds-spread-end-2 c =
-    omega (arith, notes-most c.requires, c.requires)
+look_up-requires c = numbers_below c.requires c.split_at_mut-notes.ensures.front c.split_at_mut-notes.ensures.back
 
 pub returns : goal.returns
 returns c =
+    let f = c.split_at_mut-notes.ensures.front in
+    let b = c.split_at_mut-notes.ensures.back in
     record {
-      group = rw (groups-lent c.requires) at c.spread.ensures;
-      pattern = rw (patterns-lent c.requires c.look_up.ensures) at c.spread-2.ensures;
-      work = c.look_up.ensures;
+      group = rw (groups-lent c.requires f b) at c.spread.ensures;
+      pattern = rw (region_is c.requires f b c.look_up.ensures) at c.spread-2.ensures;
+      work = region_back c.requires f b c.look_up.ensures;
     }
