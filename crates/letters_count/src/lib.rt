@@ -9,7 +9,7 @@ ghost use Rattle.letters_count.specs.Numbers.{number_of};
 // The most objects of a text.
 pub const MOST_OBJECTS: usize = 1024;
 
-// A place in the text, and how many objects were read before it.
+// A place in the text, and how many objects were read before it: their kinds stand in lent, fixed memory.
 #[derive(Clone, Copy, Debug, PartialEq, Eq)]
 pub struct Cursor {
     pub at: usize,

@@ -44,6 +44,7 @@ fn kind_of(b: u8) -> Kind
     }
 }
 
+// A column of kinds is bytes, since encode is lent bytes; any but the first two kinds counts as n.
 #[tactic(auto, using(std::proofs::lemmas::Bool::Decides::nat_tests), unfolding(crate::specs::Letters::letter_of))]
 fn letter_of(kind: u8) -> char
     ensures { result ≡ letter_of kind }
@@ -87,7 +88,7 @@ fn read_text(t: &[u8], kinds: &mut [u8]) -> Result<usize, TextError>
 }
 
 // How many letters the text has, but for one line feed at its end, or what is wrong with it.
-// The kinds are filled where it is letters, else left as they are.
+// The kinds are filled where it is letters, else left as they are: lent, fixed memory, so their number is handed back.
 pub fn read_letters(s: &[u8], kinds: &mut [u8]) -> Result<usize, TextError>
     requires { 1024 ≤ length kinds.old }
     ensures { ReadText (trimmed s.now) kinds.old kinds.new result }
@@ -96,6 +97,7 @@ pub fn read_letters(s: &[u8], kinds: &mut [u8]) -> Result<usize, TextError>
 }
 
 // Each `put_` function writes a text behind what is printed so far.
+// The digits are itoa's: `write!` hands back a result of which no promise says that it is Ok.
 fn put_number<const N: usize>(out: &mut ArrayString<N>, n: usize)
     requires { array_string_len out.old + length (decimal n) ≤ N }
     ensures { out.new.bytes ≡ out.old.bytes ++ decimal n }
