@@ -1,55 +1,51 @@
--- Alternating patterns: the cases of which streak opens one and of which pattern is coupled, read in the work slice.
-use mathlib.Core.Path.{◌≡◌}
-use mathlib.Core.Bool.{Bool, cond}
+-- Alternating patterns: the marks and the flags are stored in turn.
+use mathlib.Core.Path.{◌≡◌, refl, sym, ◌∙◌}
+use mathlib.Core.Bool.{Bool, true, false, cond}
+use mir.Val.{bool_byte}
 use mathlib.Core.List.{List}
-use Prim.Native.Nat.{ℕ, ◌+◌, ◌-◌, ◌≤◌, ◌<◌}
-use native.Mathlib.Omega.{arith}
-use borrow.Author.Tests.{lt-ltb, le-ltb, eq-eqb, ne_eqb}
-use lib.ListN.{length, get_or}
-use Rattle.lent.specs.Over.{part}
-use Rattle.lent.specs.passes.Regions.{Triple, TripleApart}
-use Rattle.lent.proofs.OverLaws.{length-part}
-use Rattle.lent.proofs.FillLaws.{Fill}
-use Rattle.lent.proofs.StoreLaws.{read_at, fill_apart}
-use Rattle.grouping_marks.specs.Alike.{alike_at}
-use Rattle.grouping_colour.specs.AlternatingMonoPattern.{opens_pattern, coupled_at}
-use Rattle.grouping_colour.specs.passes.Coupled.{coupled_at_in}
+use Prim.Native.Nat.{ℕ, ◌+◌, ◌≤◌, ◌<◌}
+use lib.ListN.{length, set}
+use Rattle.lent.specs.Over.{over}
+use Rattle.lent.proofs.FillLaws.{Fill, fill_start_front, fill_turn_front, fill_end_front, get_or-tabulate}
+use Rattle.grouping_colour.specs.AlternatingMonoPattern.{opens_pattern, pattern_marks, coupled_at, coupled}
+use Rattle.grouping_colour.proofs.LengthLaws.{length-pattern_marks, length-coupled}
 
--- ---- which streak opens a pattern
+-- ---- the marks
 
-module _ (w : List ℕ) (from m i : ℕ) (h : i < m) where
-  pub opens_first : i ≡ 0 → 1 ≡ opens_pattern (part from m w) i
-  unfolding opens_pattern
-  opens_first e = rw (eq-eqb i 0 e)
+module _ (lengths : List ℕ) where
+  -- i of them are stored
+  abbrev pub Marks : List ℕ → List ℕ → ℕ → Type 0
+  Marks out now i = Fill (pattern_marks lengths) (length lengths) 0 out now i
 
-  lengths_read : (i ≡ 0 → ⊥) → (get_or (part from m w) i 0 ≡ get_or w (from + i) 0) × (get_or (part from m w) (i - 1) 0 ≡ get_or w (from + i - 1) 0)
-  lengths_read z = (read_at from m w i (from + i) h (omega arith), read_at from m w (i - 1) (from + i - 1) (omega arith) (omega arith))
+  pub marks_start : (out : List ℕ) → length lengths ≤ length out → Marks out out 0
+  marks_start out h = fill_start_front _ _ out (length-pattern_marks lengths) h
 
-  pub opens_same : (i ≡ 0 → ⊥) → get_or w (from + i) 0 ≡ get_or w (from + i - 1) 0 → 0 ≡ opens_pattern (part from m w) i
-  unfolding opens_pattern
-  opens_same z e = let r = lengths_read z in rw (ne_eqb i 0 z, r.0, r.1, eq-eqb _ _ e)
+  pub marks_turn : {out now : List ℕ} {i v : ℕ} → Marks out now i → i < length lengths → v ≡ opens_pattern lengths i → Marks out (set now i v) (i + 1)
+  unfolding pattern_marks
+  marks_turn {i} x h q = fill_turn_front 0 x h (q ∙ sym (get_or-tabulate (opens_pattern lengths) (length lengths) i 0 h))
 
-  pub opens_differs : (i ≡ 0 → ⊥) → (get_or w (from + i) 0 ≡ get_or w (from + i - 1) 0 → ⊥) → 1 ≡ opens_pattern (part from m w) i
-  unfolding opens_pattern
-  opens_differs z e = let r = lengths_read z in rw (ne_eqb i 0 z, r.0, r.1, ne_eqb _ _ e)
+  pub marks_end : {out now : List ℕ} {i : ℕ} → Marks out now i → length lengths ≤ i → now ≡ over (pattern_marks lengths) out
+  marks_end x h = fill_end_front x h
 
--- ---- which pattern is coupled
+-- ---- the flags
 
-module _ (w : List ℕ) (lengths counts types m i : ℕ) (t : Triple w lengths counts types m) where
-  long : length (part lengths m w) ≡ m
-  long = length-part lengths m w t.first
+-- a test as a number
+pub flag_by : (b : Bool) → bool_byte b ≡ cond b 1 0
+flag_by true = refl
+flag_by false = refl
 
-  pub coupled-end : m ≤ i + 2 → 0 ≡ coupled_at_in lengths counts types m w i
-  unfolding coupled_at
-  coupled-end h = rw (le-ltb (i + 2) (length (part lengths m w)) (omega (arith, long)))
+module _ (lengths counts types : List ℕ) where
+  -- i of them are stored
+  abbrev pub Flags : List ℕ → List ℕ → ℕ → Type 0
+  Flags out now i = Fill (coupled lengths counts types) (length lengths) 0 out now i
 
-  pub coupled-inside : i + 2 < m → (b : Bool) → b ≡ alike_at (part lengths m w) (part counts m w) (part types m w) i (i + 2)
-      → cond b 1 0 ≡ coupled_at_in lengths counts types m w i
-  unfolding coupled_at
-  coupled-inside h b e = rw (lt-ltb (i + 2) (length (part lengths m w)) (omega (arith, long)), e)
+  pub flags_start : (out : List ℕ) → length lengths ≤ length out → Flags out out 0
+  flags_start out h = fill_start_front _ _ out (length-coupled lengths counts types) h
 
--- the slice holds the regions as they were, so that a flag hangs on what stood there
-pub coupled-kept : (i : ℕ) {g : List ℕ} {lengths counts types m to j : ℕ} {w₀ w : List ℕ} → Fill g m to w₀ w j → TripleApart w₀ lengths counts types m to
-    → coupled_at_in lengths counts types m w i ≡ coupled_at_in lengths counts types m w₀ i
-coupled-kept i {lengths} {counts} {types} {m} x a =
-    rw (fill_apart lengths m x a.first.apart, fill_apart counts m x a.second.apart, fill_apart types m x a.third.apart)
+  pub flags_turn : {out now : List ℕ} {i v : ℕ} → Flags out now i → i < length lengths → v ≡ coupled_at lengths counts types i
+      → Flags out (set now i v) (i + 1)
+  unfolding coupled
+  flags_turn {i} x h q = fill_turn_front 0 x h (q ∙ sym (get_or-tabulate (coupled_at lengths counts types) (length lengths) i 0 h))
+
+  pub flags_end : {out now : List ℕ} {i : ℕ} → Flags out now i → length lengths ≤ i → now ≡ over (coupled lengths counts types) out
+  flags_end x h = fill_end_front x h

@@ -8,6 +8,8 @@ ghost use Rattle.letters_text.specs.Lines.{lines, Written};
 ghost use Rattle.letters_answer.specs.Output.{columns, letters_output, InputAnswered};
 ghost use Rattle.letters_answer.specs.passes.Room.{LettersRoom};
 
+use grouping_chart::settings::SEARCH_LIMIT;
+use grouping_hits::limit::SearchLimit;
 use letters_text::Reading;
 use std::io::Read;
 
@@ -30,9 +32,12 @@ fn answer_letters(kinds: &[u8], out: &mut [u8]) -> usize
     let mut hit = [0u16; 1024];
     let mut interval = [0u8; 1024];
     let mut work = [0u16; 8192];
+    let limit = SearchLimit {
+        value: SEARCH_LIMIT,
+    };
     call_encode::encode_kinds(
         kinds,
-        grouping_chart::settings::SEARCH_LIMIT,
+        limit,
         &mut streak,
         &mut streak_place,
         &mut pattern,

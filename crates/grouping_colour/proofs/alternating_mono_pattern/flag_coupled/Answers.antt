@@ -1,23 +1,14 @@
--- What the checker asks of `flag_coupled` and does not find by itself.
-use mathlib.Core.Path.{◌∙◌}
-use Rattle.lent.proofs.FillLaws.{fill_end}
-use Rattle.lent.proofs.StoreLaws.{table_start, table_turn}
-use Rattle.grouping_colour.specs.AlternatingMonoPattern.{coupled}
-use Rattle.grouping_colour.proofs.PatternLaws.{coupled-kept}
+-- A turn stores one more.
 use native.Mathlib.Omega.{arith}
+use mathlib.Core.Path.{◌∙◌}
+use Rattle.grouping_colour.proofs.PatternLaws.{flag_by, flags_start, flags_turn, flags_end}
 use Rattle.grouping_colour.proofs.alternating_mono_pattern.flag_coupled.Goals as goal
 
 pub loop-i-init : goal.loop-i-init
-unfolding coupled
-loop-i-init c = let a = c.requires.first in table_start _ _ _ _ _ a.read a.write
+loop-i-init c = flags_start _ _ _ _ c.requires
 
 pub loop-i-preserved : goal.loop-i-preserved
-unfolding coupled
-loop-i-preserved c =
-    table_turn _ _ c.loop-i.invariant (omega arith) (c.is_coupled-flag.ensures ∙ coupled-kept c.loop-i.i c.loop-i.invariant c.requires)
-
-pub shape_of-w : goal.shape_of-w
-shape_of-w c = c.loop-i.invariant.long
+loop-i-preserved c = flags_turn _ _ _ c.loop-i.invariant (omega arith) (c.from.ensures ∙ flag_by c.is_coupled.result ∙ c.is_coupled.ensures)
 
 pub returns : goal.returns
-returns c = fill_end c.loop-i.invariant c.loop-i-test.false
+returns c = flags_end _ _ _ c.loop-i.invariant (omega arith)
