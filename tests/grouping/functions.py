@@ -1,6 +1,7 @@
 #!/usr/bin/env python3
 """Prints a line for each function of a crate and of what it calls: its name, `array` where its code has one, `writes` where it stores
-into memory. The code is the proved code that programs are linked from, which `rt lib` in the crate's folder keeps.
+into memory, `library` for a function of the kit's libraries, which is not looked into. The code is the proved code that programs are
+linked from, which `rt lib` in the crate's folder keeps. A closure counts as called where it is passed.
 
 usage: functions.py CRATE
 """
@@ -30,11 +31,15 @@ def parts(tree, name):
             yield from parts(inner, name)
 
 
-def called(calls):
+def called(calls, known):
+    """The functions that are called, and those of the closures and impls that are passed."""
     for function, *_ in calls:
         if list(function) != ["Fn"]:
             sys.exit(f"a call of {function}, which is no function by its name")
         yield function["Fn"][0]
+        for impl in parts(function, "Impl"):
+            for functions in known.values():
+                yield from (name for name in functions if name.startswith(impl[0] + "::"))
 
 
 def main(krate):
@@ -46,6 +51,9 @@ def main(krate):
             continue
         seen.add(name)
         of = name.split("::")[0]
+        if not os.path.isdir(os.path.join(CRATES, of)):
+            print(f'"{name}" library')
+            continue
         if of not in known:
             known[of] = code(of)
         whole = known[of][name]
@@ -55,7 +63,7 @@ def main(krate):
         words += ["array"] * any(True for _ in parts([whole["locals"], whole["body"]], "Array"))
         words += ["writes"] * any(place["steps"] for place in stored)
         print(*words)
-        left += called(calls)
+        left += called(calls, known)
 
 
 main(sys.argv[1])

@@ -45,7 +45,7 @@ fn fill_chart(
         ≡ filled (built_chart rate (raw kind.now time.now)) (memory built_kind.old start.old delta.old ratio.old) }
 {
     let from = kind.len() - n;
-    fill::copy_bytes(&kind[from..], built_kind);
+    fill::copy(&kind[from..], built_kind);
     objects::fill_starts(time, rate, n, start);
     objects::fill_deltas(time, rate, n, delta);
     objects::fill_ratios(&delta[..n], ratio);

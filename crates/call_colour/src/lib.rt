@@ -15,6 +15,7 @@ use grouping_chart::settings;
 use grouping_chart::settings::Settings;
 use grouping_hits::limit::SearchLimit;
 use lent::fill;
+use numeric::logistic::LogisticTable;
 
 pub mod stretches;
 
@@ -50,10 +51,10 @@ fn fill_chart(
         value: s.limit as u16,
     };
     let k = grouping_preprocessor::encode_levels(kind, work, limit);
-    let table = numeric::logistic::table();
+    let table = LogisticTable::new();
     evaluator_values::fill_values(&table, kind, ratio, work, k, s.tolerance, value);
-    fill::clear(work, 8 * n);
-    fill::clear_floats(scratch, n);
+    fill::front(work, 8 * n, 0);
+    fill::front(scratch, n, 0.0);
 }
 
 pub fn colour(

@@ -68,7 +68,7 @@ fn spread_hits(
     let h = k.hits;
     fill::gather(&work[2 * n..2 * n + p], &pattern[..n], pattern_place);
     fill::gather(&work[n..n + p], &pattern[..n], hit);
-    fill::gather_bytes(&work[7 * n..7 * n + h], &hit[..n], interval);
+    fill::gather(&work[7 * n..7 * n + h], &hit[..n], interval);
 }
 
 // The six numbers of each object, by the kinds alone, under a search limit. The result is the number of hit patterns.
@@ -95,7 +95,7 @@ pub fn encode_kinds(
     let k = grouping_preprocessor::encode_levels(kind, work, limit);
     spread_patterns(n, k, work, streak, streak_place, pattern);
     spread_hits(n, k, work, pattern, pattern_place, hit, interval);
-    fill::clear(work, 8 * n);
+    fill::front(work, 8 * n, 0);
     k.hits
 }
 
@@ -143,7 +143,7 @@ pub fn encode(
                 interval,
                 work,
             );
-            fill::clear_floats(scratch, n);
+            fill::front(scratch, n, 0.0);
             Encoding::Done(hits)
         }
     }

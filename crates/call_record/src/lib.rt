@@ -82,8 +82,8 @@ fn make_record(
 {
     let n = kind.len();
     let found = found::find(kind, start, delta, s.margin, g, work, scratch);
-    fill::clear(work, 8 * n);
-    fill::clear_floats(scratch, n);
+    fill::front(work, 8 * n, 0);
+    fill::front(scratch, n, 0.0);
     let located = found.located;
     let first = located.first;
     let owns = located.owns;

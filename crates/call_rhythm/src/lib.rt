@@ -46,8 +46,8 @@ fn fill_groups(
     let n = kind.len();
     let k = tables::group_notes(kind, start, delta, s.margin, work, scratch);
     spread::fill_answers(kind, k, work, group, pattern);
-    fill::clear(work, 8 * n);
-    fill::clear_floats(scratch, n);
+    fill::front(work, 8 * n, 0);
+    fill::front(scratch, n, 0.0);
     k
 }
 

@@ -2,12 +2,11 @@
 #![tactic(auto)]
 
 ghost use Rattle.std.specs.Prelude.{◌≡◌};
-ghost use Rattle.numeric.specs.Logistic.{logistic_table};
 ghost use Rattle.evaluator_colour.specs.Formulas.{hit_value, alt_value, mono_value, add_if, object_sum};
 ghost use Rattle.evaluator_colour.specs.RatioPenalty.{lowered, ratio_penalty};
 
 use grouping_chart::object::ObjectIndex;
-use numeric::logistic::logistic;
+use numeric::logistic::LogisticTable;
 use numeric::near::near;
 
 // How an object stands in its groups: its hit pattern's interval, its alternating pattern's place in that, its
@@ -22,27 +21,26 @@ pub struct Standing {
     pub hit: bool,
 }
 
-pub fn hit_value(table: &[f64], interval: usize) -> f64
-    requires { table.now ≡ logistic_table }
+pub fn hit_value(table: &LogisticTable, interval: usize) -> f64
     ensures { result ≡ hit_value interval }
 {
-    2.0 * (1.0 - logistic(table, interval))
+    2.0 * (1.0 - table.at(interval))
 }
 
-pub fn alt_value(table: &[f64], place: usize, hit: f64) -> f64
-    requires { table.now ≡ logistic_table }
+#[tactic(auto, unfolding(crate::specs::Formulas::alt_value))]
+pub fn alt_value(table: &LogisticTable, place: usize, hit: f64) -> f64
     ensures { result ≡ alt_value place hit }
 {
-    logistic(table, place) * hit
+    table.at(place) * hit
 }
 
-pub fn mono_value(table: &[f64], place: usize, alt: f64) -> f64
-    requires { table.now ≡ logistic_table }
+pub fn mono_value(table: &LogisticTable, place: usize, alt: f64) -> f64
     ensures { result ≡ mono_value place alt }
 {
-    logistic(table, place) * alt * 0.5
+    table.at(place) * alt * 0.5
 }
 
+#[tactic(auto, unfolding(crate::specs::Formulas::add_if))]
 pub fn add_if(first: bool, sum: f64, x: f64) -> f64
     ensures { result ≡ add_if first sum x }
 {
@@ -50,8 +48,7 @@ pub fn add_if(first: bool, sum: f64, x: f64) -> f64
 }
 
 // The object's value before its ratio penalty.
-pub fn object_sum(table: &[f64], o: Standing) -> f64
-    requires { table.now ≡ logistic_table }
+pub fn object_sum(table: &LogisticTable, o: Standing) -> f64
     ensures { result ≡ object_sum o }
 {
     let hit = hit_value(table, o.interval);

@@ -10,6 +10,8 @@ ghost use Rattle.evaluator_values.specs.passes.Tables.{ObjectIn, NumbersAt, Sour
 use evaluator_colour::Standing;
 use grouping_chart::object::ObjectIndex;
 use grouping_preprocessor::Levels;
+use lent::fill;
+use numeric::logistic::LogisticTable;
 
 // An object's group number on each level.
 #[derive(Clone, Copy)]
@@ -82,7 +84,7 @@ fn earlier_ratio(ratio: &[f64], idx: ObjectIndex) -> f64
 }
 
 fn value_at(
-    table: &[f64],
+    table: &LogisticTable,
     kind: &[u8],
     ratio: &[f64],
     w: &[u16],
@@ -90,7 +92,7 @@ fn value_at(
     tolerance: f64,
     idx: ObjectIndex,
 ) -> f64
-    requires sources { Sources table.now kind.now ratio.now w.now k }
+    requires sources { Sources kind.now ratio.now w.now k }
     requires inside { idx.0 < length kind.now }
     ensures { result ≡ colour_at k.limit tolerance kind.now ratio.now idx.0 }
 {
@@ -103,7 +105,7 @@ fn value_at(
 
 // Fills the colour value of each object.
 pub fn fill_values(
-    table: &[f64],
+    table: &LogisticTable,
     kind: &[u8],
     ratio: &[f64],
     w: &[u16],
@@ -111,14 +113,12 @@ pub fn fill_values(
     tolerance: f64,
     value: &mut [f64],
 )
-    requires sources { Sources table.now kind.now ratio.now w.now k }
+    requires sources { Sources kind.now ratio.now w.now k }
     requires room { length kind.now ≤ length value.old }
     ensures { value.new
         ≡ over (colour_values k.limit tolerance kind.now ratio.now) value.old }
 {
-    let mut i = 0;
-    while i < kind.len() {
-        value[i] = value_at(table, kind, ratio, w, k, tolerance, ObjectIndex(i));
-        i += 1;
-    }
+    fill::by_place(kind.len(), value, |i| {
+        value_at(table, kind, ratio, w, k, tolerance, ObjectIndex(i))
+    });
 }

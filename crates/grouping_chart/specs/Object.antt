@@ -2,6 +2,14 @@
 -- save that a NonHit's is always 0. The previous note of an object is found by its note_idx, so that a NonHit and the
 -- first note have none. A list of kinds has a number for each object: 0 Center, 1 Rim, 2 NonHit.
 use Rattle.std.specs.Prelude.{ℕ, zero, suc, Bool, cond, List, [], ◌∷◌, ltb, length, take, get_or}
+use Rattle.grouping_chart.specs.declared.object.Kind.{Kind}
+use Rattle.grouping_chart.specs.declared.object.Kind.TheVariants.{Center, Rim, NonHit}
+
+-- the number by which a list has a kind
+abbrev pub kind_number : Kind → ℕ
+kind_number Center = 0
+kind_number Rim = 1
+kind_number NonHit = 2
 
 -- Center and Rim are notes
 unfoldable pub is_note : ℕ → Bool

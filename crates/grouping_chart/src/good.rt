@@ -5,16 +5,14 @@ ghost use Rattle.numeric.specs.Range.{within};
 ghost use Rattle.grouping_chart.specs.Refusal.{kind_good};
 ghost use Rattle.grouping_chart.specs.passes.Good.{all, all_good};
 
+use crate::object::Kind;
 use numeric::range;
 
 // Center, Rim and NonHit.
 fn kind_good(kind: u8) -> bool
     ensures { result ≡ kind_good kind }
 {
-    match kind {
-        0 | 1 | 2 => true,
-        _ => false,
-    }
+    Kind::try_from(kind).is_ok()
 }
 
 pub fn kinds_good(kind: &[u8]) -> bool

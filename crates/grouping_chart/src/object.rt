@@ -1,6 +1,6 @@
-// The source's two numberings, of objects and of notes.
-ghost use Rattle.std.specs.Prelude.{◌≡◌, cond, ◌+◌, ◌^◌, ◌<◌};
-ghost use Rattle.grouping_chart.specs.Object.{is_note};
+// The source's two numberings, of objects and of notes, and the kinds of objects.
+ghost use Rattle.std.specs.Prelude.{◌≡◌, cond, ◌+◌, ◌^◌, ◌<◌, MatchResult};
+ghost use Rattle.grouping_chart.specs.Object.{is_note, kind_number};
 
 // How many objects stand before one.
 #[derive(Clone, Copy)]
@@ -10,13 +10,66 @@ pub struct ObjectIndex(pub usize);
 #[derive(Clone, Copy)]
 pub struct NoteIndex(pub usize);
 
-// Center and Rim are notes.
+// What an object is. A lent slice of kinds has their numbers, since C lends bytes.
+#[derive(Clone, Copy, PartialEq, Eq, Debug)]
+pub enum Kind {
+    Center,
+    Rim,
+    NonHit,
+}
+
+// A byte that is no kind's number.
+#[derive(Clone, Copy, PartialEq, Eq, Debug)]
+pub struct UnknownKind;
+
+impl Kind {
+    // Center and Rim are notes.
+    #[tactic(auto, unfolding(crate::specs::Object::is_note))]
+    pub fn is_note(self) -> bool
+        ensures { result ≡ is_note (kind_number self) }
+    {
+        match self {
+            Kind::Center | Kind::Rim => true,
+            Kind::NonHit => false,
+        }
+    }
+}
+
+impl From<Kind> for u8 {
+    ghost from_gives = { λ k n. n ≡ kind_number k };
+
+    fn from(kind: Kind) -> u8 {
+        match kind {
+            Kind::Center => 0,
+            Kind::Rim => 1,
+            Kind::NonHit => 2,
+        }
+    }
+}
+
+impl TryFrom<u8> for Kind {
+    type Error = UnknownKind;
+
+    ghost try_from_gives = { λ n r. MatchResult r (λ k. kind_number k ≡ n) (λ _. 2 < n) };
+
+    fn try_from(number: u8) -> Result<Kind, UnknownKind> {
+        match number {
+            0 => Ok(Kind::Center),
+            1 => Ok(Kind::Rim),
+            2 => Ok(Kind::NonHit),
+            _ => Err(UnknownKind),
+        }
+    }
+}
+
+// Whether a byte is the number of a kind that is a note.
+#[tactic(auto, unfolding(crate::specs::Object::is_note))]
 pub fn is_note(kind: u8) -> bool
     ensures { result ≡ is_note kind }
 {
-    match kind {
-        0 | 1 => true,
-        _ => false,
+    match Kind::try_from(kind) {
+        Ok(known) => known.is_note(),
+        Err(_) => false,
     }
 }
 

@@ -1,9 +1,10 @@
 // Alternating patterns: which streaks open one, and which patterns are coupled.
-ghost use Rattle.std.specs.Prelude.{◌≡◌, cond, ◌≤◌, ◌<◌, length};
+ghost use Rattle.std.specs.Prelude.{◌≡◌, ◌≤◌, ◌<◌, length};
 ghost use Rattle.lent.specs.Over.{over};
 ghost use Rattle.grouping_colour.specs.AlternatingMonoPattern.{opens_pattern, pattern_marks, coupled_at, coupled};
 
 use grouping_marks::alike::Features;
+use lent::fill;
 
 // The mark of the streak i.
 #[tactic(auto, unfolding(crate::specs::AlternatingMonoPattern::opens_pattern))]
@@ -22,19 +23,17 @@ pub fn mark_patterns(lengths: &[u16], marks: &mut [u16])
     requires { length lengths.now ≤ length marks.old }
     ensures { marks.new ≡ over (pattern_marks lengths.now) marks.old }
 {
-    for i in 0..lengths.len() {
-        marks[i] = opens_pattern(lengths, i);
-    }
+    fill::by_place(lengths.len(), marks, |i| opens_pattern(lengths, i));
 }
 
-// Whether the pattern i is like the pattern i + 2.
+// 1 where the pattern i is like the pattern i + 2.
 #[tactic(auto, unfolding(crate::specs::AlternatingMonoPattern::coupled_at))]
-fn is_coupled(patterns: &Features, i: usize) -> bool
+fn coupled_at(patterns: &Features, i: usize) -> u16
     requires { i < length patterns.now.first.now }
-    ensures { cond result 1 0
-        ≡ coupled_at patterns.now.first.now patterns.now.second.now patterns.now.third.now i }
+    ensures { result ≡ coupled_at patterns.now.first.now patterns.now.second.now patterns.now.third.now i }
 {
-    patterns.len() - i > 2 && patterns.alike(i, i + 2)
+    let alike = patterns.len() - i > 2 && patterns.alike(i, i + 2);
+    u16::from(alike)
 }
 
 // Flags the coupled patterns, by their first-streak lengths, streak counts and types.
@@ -43,7 +42,5 @@ pub fn flag_coupled(patterns: &Features, flags: &mut [u16])
     ensures { flags.new
         ≡ over (coupled patterns.now.first.now patterns.now.second.now patterns.now.third.now) flags.old }
 {
-    for i in 0..patterns.len() {
-        flags[i] = u16::from(is_coupled(patterns, i));
-    }
+    fill::by_place(patterns.len(), flags, |i| coupled_at(patterns, i));
 }

@@ -11,9 +11,9 @@ use borrow.Author.Tests.{le-leb, lt-leb, leb-true, leb-false}
 use lib.Dec.{leb}
 use lib.ListN.{length, drop, get_or, set, replicate, length-replicate, get_or-replicate}
 use lib.Seq.{ext_get_or}
-use Rattle.lent.specs.Over.{over, put}
+use Rattle.lent.specs.Over.{over}
 use Rattle.lent.specs.Scan.{tabulate}
-use Rattle.lent.proofs.OverLaws.{length-over, drop-over, over-agree, put_front}
+use Rattle.lent.proofs.OverLaws.{length-over, drop-over, over-agree}
 use Rattle.lent.proofs.PieceLaws.{get_or-over}
 use Rattle.lent.proofs.FillLaws.{Fill, fill_from, fill_turn_front, fill_end_front, fill_unread, length-tabulate, get_or-tabulate, tabulate-agree}
 use Rattle.grouping_marks.specs.Alike.{alike_at}
@@ -141,12 +141,12 @@ module _ (limit : ℕ) (s f t w₀ : List ℕ) where
     pub stored : w ≡ over (nearest limit s f t (length s) k) w₀
 
   -- no hit pattern has a match yet
-  pub search_start : {w : List ℕ} → 1 ≤ limit → length s ≤ length w₀ → w ≡ put 0 (replicate (length s) (limit + 1)) w₀ → Searched w limit
+  pub search_start : {w : List ℕ} → 1 ≤ limit → length s ≤ length w₀ → w ≡ over (replicate (length s) (limit + 1)) w₀ → Searched w limit
   search_start {w} l r e = record {
     low = l;
     upto = omega arith;
     room = r;
-    stored = e ∙ put_front _ w₀ ∙ ap (λ (x : List ℕ). over x w₀) (none_yet limit s f t (length s));
+    stored = e ∙ ap (λ (x : List ℕ). over x w₀) (none_yet limit s f t (length s));
   }
 
   module _ {w : List ℕ} {k : ℕ} (x : Searched w k) where

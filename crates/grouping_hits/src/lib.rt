@@ -85,9 +85,7 @@ pub fn second_lengths(lengths: &[u16], marks: &[u16], seconds: &mut [u16])
     requires room { length lengths.now ≤ length seconds.old }
     ensures { seconds.new ≡ over (second_lengths lengths.now marks.now) seconds.old }
 {
-    for i in 0..lengths.len() {
-        seconds[i] = second_at(lengths, marks, i);
-    }
+    fill::by_place(lengths.len(), seconds, |i| second_at(lengths, marks, i));
 }
 
 fn nearer(found: bool, k: u16, other: u16) -> u16
@@ -118,7 +116,7 @@ pub fn repetition_intervals(patterns: &Features, limit: SearchLimit, found: &mut
         found.old }
 {
     let below = limit.value;
-    fill::store_all(found, 0, patterns.len(), below + 1);
+    fill::front(found, patterns.len(), below + 1);
     for k in (1..below).rev() {
         take_matches(patterns, k, found);
     }

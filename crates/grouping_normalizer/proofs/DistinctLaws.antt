@@ -75,18 +75,18 @@ pub record Thinning (s w : List Float) (n k i : ℕ) : Type 0 where
   pub rest : drop (k + 1) w ≡ drop (k + 1) s
   pub same : unrepeated s ≡ take k w ++ unrepeated (get_or w k nan ∷ drop i s)
 
-pub thinning_start : {s : List Float} (old : List Float) (n : ℕ) → n ≡ length s → (n ≡ 0 → ⊥) → Numbers old → s ≡ ordered old → Thinning s s n 0 1
-thinning_start {s} old n e d m q =
+pub thinning_start : {s old : List Float} → 0 < length s → Numbers old → s ≡ ordered old → Thinning s s (length s) 0 1
+thinning_start {s} h m q =
     let o : Numbers s = subst Numbers (sym q) (numbers-ordered m) in
     record {
-      size = sym e;
-      long = sym e;
+      size = refl;
+      long = refl;
       numbers = o;
-      number = number_at 0 o (omega arith);
+      number = number_at 0 o h;
       behind = omega arith;
-      upto = omega arith;
+      upto = h;
       rest = refl;
-      same = ap unrepeated (drop-cons s 0 nan (omega arith));
+      same = ap unrepeated (drop-cons s 0 nan h);
     }
 
 module _ {s w : List Float} {n k i : ℕ} (x : Thinning s w n k i) where
@@ -145,9 +145,9 @@ module _ {s w : List Float} {n k i : ℕ} (x : Thinning s w n k i) where
           same = x.same ∙ rw (next, unrepeated_other a b (drop (i + 1) s) e, f, g, append_snoc);
         }
 
-  pub thinning_end : n ≤ i → (old : List Float) → s ≡ ordered old → Distinct old w (k + 1)
+  pub thinning_end : n ≤ i → {old : List Float} → s ≡ ordered old → Distinct old w (k + 1)
   unfolding distinct distinct_in_front unrepeated
-  thinning_end h old e =
+  thinning_end h e =
       let r : k + 1 ≤ length w = omega (arith, x.long, x.behind, x.upto) in
       let u : unrepeated s ≡ take (k + 1) w =
       x.same ∙ rw (drop_of_length-le s {i = i} (omega (arith, x.size)), add-one, take-suc w k nan (omega arith)) in
@@ -156,9 +156,6 @@ module _ {s w : List Float} {n k i : ℕ} (x : Thinning s w n k i) where
         values = sym (take-append-drop (k + 1) w) ∙ rw (← u, x.rest, over_pieces (unrepeated s) s (k + 1) l, e);
         count = rw (← e, l);
       }
-
-  pub thinning_long : (old : List Float) → s ≡ ordered old → length w ≡ length old
-  thinning_long old e = x.long ∙ sym x.size ∙ long_as old e
 
 -- at most one value is in order, and no other is alike
 pub few_left : (xs : List Float) → length xs < 2 → xs ≡ distinct_in_front xs

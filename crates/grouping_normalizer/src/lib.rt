@@ -5,7 +5,7 @@ ghost use Rattle.std.specs.Prelude.{◌≡◌, ◌<◌, length};
 ghost use Rattle.numeric_sort.specs.Ordered.{AllFinite};
 ghost use Rattle.grouping_normalizer.specs.Normalizer.{alike, holds, middle, middle_of, sets, NormalOf};
 ghost use Rattle.grouping_normalizer.specs.passes.Distinct.{Distinct};
-ghost use Rattle.grouping_normalizer.specs.passes.Sets.{SetEnd};
+ghost use Rattle.grouping_normalizer.specs.passes.Sets.{SetLen};
 
 use numeric::near::near;
 use numeric::order::total_order;
@@ -14,10 +14,7 @@ use numeric::order::total_order;
 fn is_alike(a: f64, b: f64) -> bool
     ensures { result ≡ alike a b }
 {
-    if total_order(a, b) {
-        return total_order(b, a);
-    }
-    false
+    total_order(a, b) && total_order(b, a)
 }
 
 // Puts the distinct values, in total order, in front. The result is how many there are.
@@ -26,50 +23,36 @@ fn distinct_values(values: &mut [f64]) -> usize
     ensures { Distinct values.old values.new result }
 {
     numeric_sort::sort(values);
-    let n = values.len();
-    if n == 0 {
+    if values.is_empty() {
         return 0;
     }
     let mut k = 0;
-    let mut i = 1;
-    while i < n {
-        if is_alike(values[k], values[i]) {
-            i += 1;
-        } else {
+    for i in 1..values.len() {
+        if !is_alike(values[k], values[i]) {
             k += 1;
             values[k] = values[i];
-            i += 1;
         }
     }
     k + 1
 }
 
-// Where the set that starts at `at` ends: before the first value behind `at` that is not near the one there.
-fn set_end(values: &[f64], margin: f64, at: usize) -> usize
-    requires { at < length values.now }
-    ensures { SetEnd margin values.now at result }
+// How many values the set in front has: those before the first that is not near the first one of all.
+fn set_len(values: &[f64], margin: f64) -> usize
+    requires { 0 < length values.now }
+    ensures { SetLen margin values.now result }
 {
-    let mut last = at;
-    while last + 1 < values.len() {
-        if !near(values[last + 1], values[at], margin) {
-            return last + 1;
+    for k in 1..values.len() {
+        if !near(values[k], values[0], margin) {
+            return k;
         }
-        last += 1;
     }
-    last + 1
+    values.len()
 }
 
 fn is_held(values: &[f64], x: f64) -> bool
     ensures { result ≡ holds x values.now }
 {
-    let mut i = 0;
-    while i < values.len() {
-        if is_alike(x, values[i]) {
-            return true;
-        }
-        i += 1;
-    }
-    false
+    values.iter().any(|v| is_alike(x, *v))
 }
 
 // The middle value of a set, or half the sum of the two. The source sorts the set first, which changes nothing of it.
@@ -79,25 +62,23 @@ fn middle_value(set: &[f64]) -> f64
 {
     let half = set.len() / 2;
     if set.len() % 2 == 1 {
-        return set[half];
+        set[half]
+    } else {
+        (set[half - 1] + set[half]) / 2.0
     }
-    let lower = set[half - 1];
-    let upper = set[half];
-    (lower + upper) / 2.0
 }
 
 // The middle of the set that holds x, of distinct values in order; x itself where none holds it.
 fn middle_of(values: &[f64], margin: f64, x: f64) -> f64
     ensures { result ≡ middle_of x (sets margin values.now) }
 {
-    let mut at = 0;
-    while at < values.len() {
-        let end = set_end(values, margin, at);
-        let set = &values[at..end];
+    let mut rest = values;
+    while !rest.is_empty() {
+        let (set, others) = rest.split_at(set_len(rest, margin));
         if is_held(set, x) {
             return middle_value(set);
         }
-        at = end;
+        rest = others;
     }
     x
 }

@@ -13,6 +13,7 @@ use grouping_colour::{alternating_mono_pattern, mono_streak};
 use grouping_hits::limit::SearchLimit;
 use grouping_marks::alike::Features;
 use grouping_marks::{group_firsts, group_numbers, group_places, group_sizes};
+use lent::fill;
 
 // How many streaks, alternating patterns and hit patterns there are, and the search limit of the intervals.
 #[derive(Clone, Copy)]
@@ -28,9 +29,7 @@ fn widen(kind: &[u8], wide: &mut [u16])
     requires { length wide.old ≡ length kind.now }
     ensures { wide.new ≡ kind.now }
 {
-    for (i, &k) in kind.iter().enumerate() {
-        wide[i] = u16::from(k);
-    }
+    fill::by_place(kind.len(), wide, |i| u16::from(kind[i]));
 }
 
 // Streaks: each object's number, their types and lengths; the result is their count.

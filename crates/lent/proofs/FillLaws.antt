@@ -5,9 +5,10 @@ use mathlib.Core.List.{List, [], ◌∷◌, ◌++◌, map}
 use Prim.Native.Nat.{ℕ, zero, suc, ◌+◌, ◌≤◌, ◌<◌}
 use native.Mathlib.Nat.{le_of_suc-le-suc, not-suc-le-zero, eq-or-lt_of_le, zero-add}
 use native.Mathlib.Numerals.{add-one}
+use Rattle.std.proofs.lemmas.List.{map-id}
 use native.Mathlib.Omega.{arith}
 use lib.ListN.{length, take, drop, get_or, length-drop, set, length-set, length-append, get_or-append, length-map}
-use lib.Seq.{get_or_at, drop-cons}
+use lib.Seq.{get_or_at, drop-cons, ext_get_or}
 use Rattle.lent.specs.Over.{over, put, part}
 use Rattle.lent.specs.Scan.{tabulate, gathered}
 use Rattle.lent.proofs.OverLaws.{put_front, put_nothing, put-kept, put_all, store, unread, get_or-part}
@@ -96,6 +97,12 @@ module _ {B : Type 0} (f : ℕ → B) where
       (λ l. get_or-append (tabulate f n) (f n ∷ []) d i (rw length-tabulate l) ∙ get_or-tabulate n i d l)
       (eq-or-lt_of_le (le_of_suc-le-suc h))
 
+-- a list is made by what stands at each place
+pub tabulate_places : {B : Type 0} (xs : List B) (d : B) (n : ℕ) → length xs ≡ n → tabulate (λ i. get_or xs i d) n ≡ xs
+tabulate_places xs d n e =
+    ext_get_or d _ xs (length-tabulate (λ i. get_or xs i d) n ∙ sym e)
+    (λ i h. get_or-tabulate (λ j. get_or xs j d) n i d (omega (arith, length-tabulate (λ j. get_or xs j d) n)))
+
 -- functions that are equal below n make equal lists
 pub tabulate-agree : {B : Type 0} (f g : ℕ → B) (n : ℕ) → ((i : ℕ) → i < n → f i ≡ g i) → tabulate f n ≡ tabulate g n
 unfolding tabulate
@@ -117,3 +124,7 @@ length-gathered table idx = length-map idx (λ (j : ℕ). get_or table j 0)
 pub get_or-gathered : (table idx : List ℕ) (i : ℕ) → i < length idx → get_or (gathered table idx) i 0 ≡ get_or table (get_or idx i 0) 0
 unfolding gathered
 get_or-gathered table idx i h = get_or-map (λ (j : ℕ). get_or table j 0) idx i 0 0 h
+
+-- numbers that are looked up to a slice of any width are what the table has
+pub as_wide : (xs old : List ℕ) {new : List ℕ} → new ≡ over (map (λ (x : ℕ). x) xs) old → new ≡ over xs old
+as_wide xs old e = e ∙ ap (λ (l : List ℕ). over l old) (map-id xs)

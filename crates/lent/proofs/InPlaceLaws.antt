@@ -6,10 +6,10 @@ use mathlib.Core.List.{List, [], ◌∷◌, ◌++◌, append_assoc}
 use Prim.Native.Nat.{ℕ, suc, ◌+◌, ◌≤◌, ◌<◌}
 use native.Mathlib.Numerals.{add-one}
 use native.Mathlib.Omega.{arith}
-use lib.ListN.{length, take, drop, get_or, set, length-set, length-append, drop_of_length-le, take-append-drop, length-drop}
+use lib.ListN.{length, take, drop, get_or, set, length-set, length-append}
 use lib.Seq.{take-suc-set, take-set-le, drop-set-lt, length-take-le, drop-drop, set_split}
 use Rattle.lent.specs.Over.{over}
-use Rattle.lent.specs.Scan.{scan, end_state}
+use Rattle.lent.specs.Scan.{scan}
 use Rattle.lent.proofs.PieceLaws.{over_whole}
 use Rattle.lent.proofs.FillLaws.{fill_unread}
 use Rattle.lent.proofs.ScanLaws.{Walk, start, turn_front, ended_front, length-scan}

@@ -1,12 +1,12 @@
 -- A slice that is cut into regions of n places each, and what follows them: a list that is written from a region's first place on is
 -- written over that region, and is read back there.
-use mathlib.Core.Path.{◌≡◌, refl, sym, ap, ◌∙◌}
+use mathlib.Core.Path.{◌≡◌, refl, ap, ◌∙◌}
 use mathlib.Core.List.{List, [], ◌∷◌, ◌++◌, append_assoc}
 use Prim.Native.Nat.{ℕ, zero, suc, ◌+◌, ◌*◌, ◌≤◌, ◌<◌}
 use native.Mathlib.Nat.{zero-add, suc-add, not-suc-le-zero, le_of_suc-le-suc}
 use native.Mathlib.Omega.{arith}
 use lib.ListN.{length, take, drop, get_or, set, length-append}
-use lib.Seq.{drop-append-add, drop-append-le, take-append-le, drop_at}
+use lib.Seq.{drop-append-add, drop-append-le, take-append-le}
 use Rattle.lent.specs.Over.{over, put, part}
 use Rattle.lent.proofs.OverLaws.{length-over}
 

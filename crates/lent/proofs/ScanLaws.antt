@@ -56,6 +56,7 @@ module _ {S A B : Type 0} {next : S → A → S} {emit : S → A → B} {s₀ : 
 
   pub ended : {to : ℕ} → Walk next emit s₀ xs m to w₀ w s i → m ≤ i → w ≡ put to (scan next emit s₀ xs) w₀
   ended x h = fill_end x.fill h
+
   -- ---- a walk that writes the front
 
   pub turn_front : {s' : S} {v : B} (d : A) → Walk next emit s₀ xs m 0 w₀ w s i → i < m → v ≡ emit s (get_or xs i d) → s' ≡ next s (get_or xs i d)

@@ -1,88 +1,45 @@
-// Filling a lent slice from its front: copies, look-ups and zeros.
-ghost use Rattle.std.specs.Prelude.{◌≡◌, ◌+◌, ◌≤◌, length, replicate};
-ghost use Rattle.std.specs.Float.Ieee as Ieee;
-ghost use Rattle.std.specs.Float.{binary64};
+// Filling a lent slice from its front: copies, look-ups and one value over and over.
+ghost use Rattle.std.specs.Prelude.{◌≡◌, ℕ, ◌+◌, ◌<◌, ◌≤◌, length, get_or, map, replicate};
 ghost use Rattle.lent.specs.Over.{over, put};
-ghost use Rattle.lent.specs.Scan.{gathered};
+ghost use Rattle.lent.specs.Scan.{gathered, tabulate};
 ghost use Rattle.lent.specs.passes.Bounds.{AllBelow};
 
-pub fn copy(src: &[u16], out: &mut [u16])
+use crate::narrow::Narrow;
+
+pub fn copy<T: Copy>(src: &[T], out: &mut [T])
     requires { length src.now ≤ length out.old }
     ensures { out.new ≡ over src.now out.old }
 {
-    let mut i = 0;
-    while i < src.len() {
-        out[i] = src[i];
-        i += 1;
-    }
+    let n = src.len();
+    out[..n].copy_from_slice(src);
 }
 
-pub fn copy_bytes(src: &[u8], out: &mut [u8])
-    requires { length src.now ≤ length out.old }
-    ensures { out.new ≡ over src.now out.old }
+// Sets each of the first n places to what f gives for it.
+pub fn by_place<T: Copy, F: Fn(usize) -> T>(n: usize, out: &mut [T], f: F)
+    requires room { n ≤ length out.old }
+    requires callable { (i : ℕ) → i < n → F.pre f i }
+    ensures { (value : ℕ → T) → ((i : ℕ) (given : T) → i < n → F.post f i given → given ≡ value i)
+        → out.new ≡ over (tabulate value n) out.old }
 {
-    let mut i = 0;
-    while i < src.len() {
-        out[i] = src[i];
-        i += 1;
+    for i in 0..n {
+        out[i] = f(i);
     }
 }
 
-// What the table has at each number.
-pub fn gather(table: &[u16], idx: &[u16], out: &mut [u16])
-    requires { (length idx.now ≤ length out.old) × AllBelow idx.now (length table.now) }
-    ensures { out.new ≡ over (gathered table.now idx.now) out.old }
-{
-    let mut i = 0;
-    while i < idx.len() {
-        let j = idx[i] as usize;
-        out[i] = table[j];
-        i += 1;
-    }
-}
-
-// What the table, all of bytes, has at each number.
-pub fn gather_bytes(table: &[u16], idx: &[u16], out: &mut [u8])
-    requires { (length idx.now ≤ length out.old)
-        × (AllBelow idx.now (length table.now) × AllBelow table.now 256) }
-    ensures { out.new ≡ over (gathered table.now idx.now) out.old }
-{
-    let mut i = 0;
-    while i < idx.len() {
-        let j = idx[i] as usize;
-        out[i] = table[j] as u8;
-        i += 1;
-    }
-}
-
-// Stores v in m places from `to` on.
-pub fn store_all(s: &mut [u16], to: usize, m: usize, v: u16)
-    requires { to + m ≤ length s.old }
-    ensures { s.new ≡ put to (replicate m v) s.old }
-{
-    let mut i = 0;
-    while i < m {
-        s[to + i] = v;
-        i += 1;
-    }
-}
-
-// Sets the first n places to 0.
-pub fn clear(s: &mut [u16], n: usize)
+// Sets the first n places to a value.
+pub fn front<T: Copy>(s: &mut [T], n: usize, value: T)
     requires { n ≤ length s.old }
-    ensures { s.new ≡ over (replicate n 0) s.old }
+    ensures { s.new ≡ over (replicate n value) s.old }
 {
-    store_all(s, 0, n, 0);
+    by_place(n, s, |_| value);
 }
 
-// Sets the first n places to +0.0.
-pub fn clear_floats(s: &mut [f64], n: usize)
-    requires { n ≤ length s.old }
-    ensures { s.new ≡ over (replicate n (Ieee.of_bits binary64 0)) s.old }
+// What the table has at each number, as numbers of the slice's width.
+pub fn gather<T: Narrow>(table: &[u16], idx: &[u16], out: &mut [T])
+    requires room { length idx.now ≤ length out.old }
+    requires inside { AllBelow idx.now (length table.now) }
+    requires fit { (i : ℕ) → i < length table.now → T.Fits (get_or table.now i 0) }
+    ensures { out.new ≡ over (map T.narrowed (gathered table.now idx.now)) out.old }
 {
-    let mut i = 0;
-    while i < n {
-        s[i] = 0.0;
-        i += 1;
-    }
+    by_place(idx.len(), out, |i| T::narrow(table[idx[i] as usize]));
 }

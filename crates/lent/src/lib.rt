@@ -2,3 +2,4 @@
 #![tactic(auto)]
 
 pub mod fill;
+pub mod narrow;

@@ -2,6 +2,7 @@
 use mathlib.Core.Path.{◌≡◌, refl}
 use mathlib.Core.List.{List, [], ◌∷◌, map}
 use Prim.Native.Nat.{ℕ}
+use Rattle.std.specs.Fmt.{digits}
 use Rattle.lent.specs.Scan.{scan, end_state, tabulate, gathered}
 use Rattle.grouping_marks.specs.Marks.{opened, group_count, group_numbers, place_by_mark, group_places, sizes_from, group_sizes, firsts_from, group_firsts}
 use Rattle.grouping_chart.specs.Object.{is_note, notes, note_idx, note_before, previous_note}
@@ -12,7 +13,6 @@ use Rattle.grouping_colour.specs.AlternatingMonoPattern.{opens_pattern, pattern_
 use Rattle.grouping_preprocessor.specs.Preprocessor.{patterns_open, first_lengths, streak_counts, pattern_types, coupled_patterns}
 use Rattle.grouping_preprocessor.specs.Preprocessor.{hits_open, hit_sizes, hit_firsts, hit_seconds, hit_intervals, alternating_of, hit_of, interval_of}
 use Rattle.letters_text.specs.Letters.{trimmed, is_letter, kind_of, letter_of, kinds_of, first_bad, reading}
-use Rattle.letters_text.specs.Decimal.{digit_at, decimal}
 use Rattle.letters_text.specs.Lines.{line_head, parting, first_letter, next_letter, lines_after, lines_of, object_at, objects, lines}
 use Rattle.letters_text.specs.Lines.{bad_line, long_line, printed}
 use Rattle.letters_answer.specs.Output.{columns, letters_output}
@@ -49,6 +49,6 @@ unfolding examples letters_output columns scan end_state tabulate gathered
     matches nearest_match interval_at intervals
     patterns_open first_lengths streak_counts pattern_types coupled_patterns hits_open hit_sizes hit_firsts hit_seconds hit_intervals
     alternating_of hit_of interval_of
-    trimmed is_letter kind_of letter_of kinds_of first_bad reading digit_at decimal
+    trimmed is_letter kind_of letter_of kinds_of first_bad reading digits
     line_head parting first_letter next_letter lines_after lines_of object_at objects lines bad_line long_line printed
 examples_right = refl

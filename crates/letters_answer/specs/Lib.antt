@@ -1,3 +1,2 @@
--- The letters program's output, and the room that it takes.
+-- The letters program's output.
 pub mod Output
-pub mod passes

@@ -5,7 +5,7 @@ use Rattle.grouping_colour.specs.MonoStreak.{streak_of}
 use Rattle.grouping_preprocessor.specs.Preprocessor.{alternating_of, hit_of, interval_of}
 use Rattle.grouping_chart.specs.Settings.{base_settings}
 use Rattle.letters_text.specs.Letters.{trimmed, kinds_of, reading, input_bytes}
-use Rattle.letters_text.specs.Lines.{Columns, lines, printed, Written}
+use Rattle.letters_text.specs.Lines.{Columns, lines, printed}
 
 -- the numbers of encode that the lines show
 unfoldable pub columns : List ℕ → Columns
@@ -21,11 +21,10 @@ columns kinds = record {
 unfoldable pub letters_output : List ℕ → List ℕ
 letters_output text = printed (reading (trimmed text)) (lines (columns (kinds_of (trimmed text))))
 
--- so many bytes were read to the front of `input`, which has places enough to tell all; of every text that begins with
--- these, and has no more of them unless `input` is full, the whole output stands at the front of the lent memory
-pub record InputAnswered (input old new : List ℕ) (count : ℕ) : Type 0 where
+-- so many bytes were read to the front of `input`, which has places enough to tell all; `answer` is all that is printed
+-- for every text that begins with these, and has no more of them unless `input` is full
+pub record InputAnswered (input answer : List ℕ) : Type 0 where
   pub places : length input ≡ input_bytes
   pub read : ℕ
   pub within : read ≤ length input
-  pub output : (text : List ℕ) → take (length input) text ≡ take read input
-      → Written (letters_output text) old new count
+  pub output : (text : List ℕ) → take (length input) text ≡ take read input → answer ≡ letters_output text

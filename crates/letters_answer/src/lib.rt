@@ -1,16 +1,15 @@
 // Everything that the letters program does but writing its output.
 #![tactic(auto)]
 
-ghost use Rattle.std.specs.Prelude.{◌≡◌, ◌≤◌, Some, IfSome, length, take, drop};
-ghost use Rattle.std.specs.Io.KnownBytes.{Consumes};
+ghost use Rattle.std.specs.Prelude.{◌≡◌, ◌≤◌, [], Some, IfSome, length, drop};
 ghost use Rattle.letters_text.specs.Letters.{input_bytes};
-ghost use Rattle.letters_text.specs.Lines.{lines, Written};
+ghost use Rattle.letters_text.specs.Lines.{lines};
 ghost use Rattle.letters_answer.specs.Output.{columns, letters_output, InputAnswered};
-ghost use Rattle.letters_answer.specs.passes.Room.{LettersRoom};
 
+use arrayvec::ArrayString;
 use grouping_chart::settings::SEARCH_LIMIT;
 use grouping_hits::limit::SearchLimit;
-use letters_text::Reading;
+use letters_text::{Columns, MOST_LETTERS, TextError};
 use std::io::Read;
 
 // 1,024 letters, a line feed, and a byte more that tells a longer input.
@@ -19,19 +18,26 @@ pub const INPUT_BYTES: usize = 1026;
 // Five bytes a letter.
 pub const OUTPUT_BYTES: usize = 5120;
 
+// All that is printed for an input.
+pub type Output = ArrayString<OUTPUT_BYTES>;
+
+// What encoding needs as memory, eight places a letter.
+const WORK: usize = 8 * MOST_LETTERS;
+
 // The lines of a text of letters, by the kinds of its letters.
-fn answer_letters(kinds: &[u8], out: &mut [u8]) -> usize
-    requires { LettersRoom (length kinds.now) (length out.old) }
-    ensures { Written (lines (columns kinds.now)) out.old out.new result }
+fn write_letters(kinds: &[u8], out: &mut Output)
+    requires { (length kinds.now ≤ 1024) × (out.old.bytes ≡ []) }
+    ensures { out.new.bytes ≡ lines (columns kinds.now) }
 {
     let n = kinds.len();
-    let mut streak = [0u16; 1024];
-    let mut streak_place = [0u16; 1024];
-    let mut pattern = [0u16; 1024];
-    let mut pattern_place = [0u16; 1024];
-    let mut hit = [0u16; 1024];
-    let mut interval = [0u8; 1024];
-    let mut work = [0u16; 8192];
+    // the memory that encoding is lent is fixed, with room for the most letters
+    let mut streak = [0u16; MOST_LETTERS];
+    let mut streak_place = [0u16; MOST_LETTERS];
+    let mut pattern = [0u16; MOST_LETTERS];
+    let mut pattern_place = [0u16; MOST_LETTERS];
+    let mut hit = [0u16; MOST_LETTERS];
+    let mut interval = [0u8; MOST_LETTERS];
+    let mut work = [0u16; WORK];
     let limit = SearchLimit {
         value: SEARCH_LIMIT,
     };
@@ -46,56 +52,39 @@ fn answer_letters(kinds: &[u8], out: &mut [u8]) -> usize
         &mut interval,
         &mut work,
     );
-    letters_text::write_lines(
+    let columns = Columns {
         kinds,
-        &streak[..n],
-        &pattern[..n],
-        &hit[..n],
-        &interval[..n],
-        out,
-    )
+        streak: &streak[..n],
+        pattern: &pattern[..n],
+        hit: &hit[..n],
+        interval: &interval[..n],
+    };
+    letters_text::write_lines(&columns, out);
 }
 
-// The text to print for a whole text stands in the first places of `out`. The result is its length.
-fn answer(text: &[u8], out: &mut [u8; OUTPUT_BYTES]) -> usize
-    ensures { Written (letters_output text.now) out.old out.new result }
+// All that is printed for a whole text.
+fn write_answer(text: &[u8], out: &mut Output)
+    requires { out.old.bytes ≡ [] }
+    ensures { out.new.bytes ≡ letters_output text.now }
 {
-    let mut kinds = [0u8; 1024];
+    let mut kinds = [0u8; MOST_LETTERS];
     match letters_text::read_letters(text, &mut kinds) {
-        Reading::Long => letters_text::write_long(out),
-        Reading::Bad(place) => letters_text::write_bad(place, out),
-        Reading::Letters(n) => answer_letters(&kinds[..n], out),
+        Ok(n) => write_letters(&kinds[..n], out),
+        Err(TextError::Long) => letters_text::write_long(out),
+        Err(TextError::Bad(place)) => letters_text::write_bad(place, out),
     }
 }
 
-// Reads until `buf` is full, or the input ends or a read fails. So many bytes stand at the front of `buf`.
-fn read_full<R: Read>(reader: &mut R, buf: &mut [u8]) -> usize
-    ensures within { result ≤ length buf.new }
-    ensures bytes { Consumes (R.remaining reader.old) (R.remaining reader.new) (take result buf.new) }
-{
-    let mut done = 0;
-    while done < buf.len() {
-        match reader.read(&mut buf[done..]) {
-            Ok(0) | Err(_) => break,
-            Ok(n) => done += n,
-        }
-    }
-    done
-}
-
-// Reads the input, as much of it as tells all, and answers it as `answer` does. A failed read counts as its end.
+// Reads the input, as much of it as tells all, and answers it as `write_answer` does. A failed read counts as its end.
 // Where the reader's bytes are known, and none of those that tell all are left, all of them are answered.
 // How many bytes standard input has no promise can say: tests/letters sees that none was passed over.
-pub fn answer_input<R: Read>(
-    reader: &mut R,
-    input: &mut [u8; INPUT_BYTES],
-    out: &mut [u8; OUTPUT_BYTES],
-) -> usize
-    ensures answered { InputAnswered input.new out.old out.new result }
+pub fn answer_input<R: Read>(reader: &mut R, input: &mut [u8; INPUT_BYTES]) -> Output
+    ensures answered { InputAnswered input.new result.bytes }
     ensures whole { IfSome (R.remaining reader.old) (λ text. R.remaining reader.new ≡ Some (drop input_bytes text)
-        → Written (letters_output text) out.old out.new result) }
+        → result.bytes ≡ letters_output text) }
 {
-    let n = read_full(reader, input);
-    let text: &[u8] = input;
-    answer(&text[..n], out)
+    let n = reading::read_full(reader, input);
+    let mut out = Output::new();
+    write_answer(&input[..n], &mut out);
+    out
 }

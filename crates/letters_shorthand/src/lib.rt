@@ -5,7 +5,7 @@ ghost use Rattle.letters_shorthand.specs.Input.{trimmed, ReadText};
 ghost use Rattle.letters_shorthand.specs.passes.Readers.{Front};
 
 use crate::reader::read_text;
-use lent::fill::copy_bytes;
+use lent::fill::copy;
 use letters_count::{MOST_OBJECTS, Read};
 
 mod reader;
@@ -50,7 +50,7 @@ pub fn read_input(s: &[u8], kinds: &mut [u8; MOST_OBJECTS]) -> Reading
         Read::Refused(number, place) => Reading::Refused(number, place),
         Read::Done(end) => {
             let count = end.count;
-            copy_bytes(&found[..count], kinds);
+            copy(&found[..count], kinds);
             Reading::Objects(count)
         }
     }

@@ -3,10 +3,10 @@ use mathlib.Core.Path.{◌≡◌, refl}
 use mathlib.Core.List.{List, [], ◌∷◌, ◌++◌, map}
 use Prim.Native.Nat.{ℕ}
 use lib.ListN.{replicate}
+use Rattle.std.proofs.Common.{Ok}
+use Rattle.std.specs.Fmt.{digits}
 use Rattle.lent.specs.Scan.{tabulate}
-use Rattle.letters_text.specs.declared.Reading.TheVariants.{Letters}
 use Rattle.letters_text.specs.Letters.{trimmed, is_letter, kind_of, letter_of, kinds_of, first_bad, reading}
-use Rattle.letters_text.specs.Decimal.{digit_at, decimal}
 use Rattle.letters_text.specs.Lines.{line_head, parting, first_letter, next_letter, lines_after, lines_of}
 use Rattle.letters_text.specs.Lines.{object_at, objects, lines, bad_line, long_line, printed}
 
@@ -70,11 +70,11 @@ examples =
     ∷ []
 
 computed_right : map computed examples ≡ map (λ (e : Example). e.output) examples
-unfolding bare computed examples tabulate trimmed is_letter kind_of letter_of kinds_of first_bad reading digit_at decimal
+unfolding bare computed examples tabulate trimmed is_letter kind_of letter_of kinds_of first_bad reading digits
     line_head parting first_letter next_letter lines_after lines_of object_at objects lines bad_line long_line printed
 computed_right = refl
 
 -- 1,024 letters are read, with a line feed or without
-all_read : map (λ (s : List ℕ). reading (trimmed s)) (replicate 1024 100 ∷ (replicate 1024 107 ++ 10 ∷ []) ∷ []) ≡ Letters 1024 ∷ Letters 1024 ∷ []
+all_read : map (λ (s : List ℕ). reading (trimmed s)) (replicate 1024 100 ∷ (replicate 1024 107 ++ 10 ∷ []) ∷ []) ≡ Ok 1024 ∷ Ok 1024 ∷ []
 unfolding trimmed is_letter first_bad reading
 all_read = refl

@@ -1,37 +1,47 @@
 -- The cases of what a text is, one law a case, and what is known of a text by its reading.
 use mathlib.Core.Path.{◌≡◌, refl, sym, ap, ◌∙◌}
-use mathlib.Core.Logic.{◌⊎◌, inl, inr, ⊎_elim}
 use mathlib.Core.List.{List, [], ◌∷◌}
-use mathlib.Core.Bool.{Bool, true, false, cond}
+use mathlib.Core.Bool.{Bool, true, false, cond, not, ◌&&◌}
 use Prim.Native.Nat.{ℕ, zero, suc, ◌+◌, ◌-◌, ◌≤◌, ◌<◌}
-use native.Mathlib.Numerals.{add-one}
 use native.Mathlib.Omega.{arith}
-use borrow.Author.Tests.{lt-ltb, le-ltb, eq-eqb, ne_eqb, eqb-true, ltb-true, ltb-false}
+use borrow.Author.Tests.{lt-ltb, le-ltb, eqb-true, ltb-true, ltb-false}
+use denote.Ref.{Bor}
 use lib.Dec.{eqb, ltb}
 use lib.ListN.{length, take, drop, get_or, length-map, drop_of_length-le}
-use lib.Seq.{drop-cons, take-length, length-take-le}
+use lib.Seq.{drop-cons, length-take-le}
+use Rattle.std.proofs.Common.{Option, Some, None, Result, Ok, Err, MatchOption}
+use Rattle.std.specs.List.{position, position_or_len}
+use Rattle.std.specs.Option.{unwrap_or}
+use Rattle.std.specs.Cmp.Lexicographic.{pointwise}
 use Rattle.lent.specs.Over.{over}
 use Rattle.lent.proofs.FillLaws.{get_or-map}
 use Rattle.lent.proofs.NeverLaws.{never}
-use Rattle.letters_text.specs.declared.Reading.{Reading}
-use Rattle.letters_text.specs.declared.Reading.TheVariants.{Long, Bad, Letters}
+use Rattle.letters_text.specs.declared.TextError.{TextError}
+use Rattle.letters_text.specs.declared.TextError.TheVariants.{Long, Bad}
 use Rattle.letters_text.specs.Letters.{trimmed, is_letter, kind_of, letter_of, kinds_of, first_bad, reading, kinds_after, ReadText}
-use Rattle.letters_text.specs.passes.Memory.{Front}
 
 -- ---- one line feed at the end
 
-pub trimmed_feed : (s : List ℕ) → get_or s (length s - 1) 0 ≡ 10 → Front s (trimmed s) (length s - 1)
-unfolding trimmed
-trimmed_feed s e = record { within = omega arith; same = rw (eq-eqb _ _ e) }
+and_true : (a : Bool) → (a && true) ≡ a
+and_true true = refl
+and_true false = refl
 
-pub trimmed-whole : (s : List ℕ) → (get_or s (length s - 1) 0 ≡ 10 → ⊥) → Front s (trimmed s) (length s)
-unfolding trimmed
-trimmed-whole s e = record { within = omega arith; same = rw (ne_eqb _ _ e) (sym (take-length s)) }
+-- whether the last byte is a line feed, as the library's `strip_suffix` tells it
+feed_last : (s : List ℕ) → pointwise eqb (drop (length s - 1) s) (10 ∷ []) ≡ eqb (get_or s (length s - 1) 0) 10
+feed_last [] = refl
+feed_last (b ∷ s) =
+    let h : length (b ∷ s) - 1 < length (b ∷ s) = omega arith in
+    rw (drop-cons (b ∷ s) (length (b ∷ s) - 1) 0 h, drop_of_length-le (b ∷ s) {i = suc (length (b ∷ s) - 1)} (omega arith))
+    (and_true (eqb (get_or (b ∷ s) (length (b ∷ s) - 1) 0) 10))
 
-pub trimmed_none : (s : List ℕ) → length s ≡ 0 → Front s (trimmed s) 0
+-- so what is left of a text without that suffix, or else the text, is the trimmed one
+pub trimmed_is : (s : Bor (List ℕ)) (r : Option (Bor (List ℕ)))
+    → MatchOption r (pointwise eqb (drop (length s.now - 1) s.now) (10 ∷ []) ≡ false)
+    (λ x. (pointwise eqb (drop (length s.now - 1) s.now) (10 ∷ []) ≡ true) × (x.now ≡ take (length s.now - 1) s.now) × (length x.now + 1 ≡ length s.now))
+    → trimmed s.now ≡ (unwrap_or r s).now
 unfolding trimmed
-trimmed_none [] e = record { within = omega arith; same = refl }
-trimmed_none (b ∷ s) e = absurd (omega arith)
+trimmed_is s None h = rw (sym (feed_last s.now) ∙ h)
+trimmed_is s (Some x) h = rw (sym (feed_last s.now) ∙ h.0) (sym h.1)
 
 pub length-trimmed : (s : List ℕ) → length s ≤ length (trimmed s) + 1
 unfolding trimmed
@@ -42,38 +52,6 @@ length-trimmed s = go (eqb (get_or s (length s - 1) 0) 10)
     go false = omega arith
 
 -- ---- letters and kinds
-
-pub letter_yes : (b : ℕ) → (b ≡ 100) ⊎ ((b ≡ 107) ⊎ (b ≡ 110)) → true ≡ is_letter b
-unfolding is_letter
-letter_yes b h = ⊎_elim (λ e. rw e) (⊎_elim (λ e. rw e) (λ e. rw e)) h
-
-pub letter_no : (b : ℕ) → ((b ≡ 100) ⊎ ((b ≡ 107) ⊎ (b ≡ 110)) → ⊥) → false ≡ is_letter b
-unfolding is_letter
-letter_no b h = rw (ne_eqb b 100 (λ e. h (inl e)), ne_eqb b 107 (λ e. h (inr (inl e))), ne_eqb b 110 (λ e. h (inr (inr e))))
-
-pub kind_d : (b : ℕ) → b ≡ 100 → 0 ≡ kind_of b
-unfolding kind_of
-kind_d b e = rw e
-
-pub kind_k : (b : ℕ) → b ≡ 107 → 1 ≡ kind_of b
-unfolding kind_of
-kind_k b e = rw e
-
-pub kind_n : (b : ℕ) → (b ≡ 100 → ⊥) → (b ≡ 107 → ⊥) → 2 ≡ kind_of b
-unfolding kind_of
-kind_n b d k = rw (ne_eqb _ _ d, ne_eqb _ _ k)
-
-pub letter_d : (k : ℕ) → k ≡ 0 → 100 ≡ letter_of k
-unfolding letter_of
-letter_d k e = rw e
-
-pub letter_k : (k : ℕ) → k ≡ 1 → 107 ≡ letter_of k
-unfolding letter_of
-letter_k k e = rw e
-
-pub letter_n : (k : ℕ) → (k ≡ 0 → ⊥) → (k ≡ 1 → ⊥) → 110 ≡ letter_of k
-unfolding letter_of
-letter_n k a b = rw (ne_eqb _ _ a, ne_eqb _ _ b)
 
 -- the letter of a letter's kind is that letter
 pub letter_again : (b : ℕ) → is_letter b ≡ true → letter_of (kind_of b) ≡ b
@@ -112,65 +90,71 @@ bad_le (b ∷ t) = go (is_letter b) (bad_le t)
     go true h = omega arith
     go false h = omega arith
 
--- i bytes are letters
-pub record LettersBefore (t : List ℕ) (i : ℕ) : Type 0 where
-  pub upto : i ≤ length t
-  pub later : i + first_bad (drop i t) ≡ first_bad t
+-- whether a byte is none
+abbrev no_letter : ℕ → Bool
+no_letter b = not (is_letter b)
 
-pub bad_start : (t : List ℕ) → LettersBefore t 0
-bad_start t = record { upto = omega arith; later = omega arith }
-
-pub bad_later : {t : List ℕ} {i : ℕ} {r : Bool} → LettersBefore t i → i < length t → r ≡ is_letter (get_or t i 0) → r ≡ true → LettersBefore t (i + 1)
+-- the library's count of the bytes before the first that is no letter
+first_bad-position : (t : List ℕ) → first_bad t ≡ position_or_len no_letter t
 unfolding first_bad
-bad_later {t} {i} {r} x h e l =
-    let s : first_bad (drop i t) ≡ suc (first_bad (drop (suc i) t)) = rw (drop-cons t i 0 h, ← e, l) in
-    record { upto = omega arith; later = rw add-one (omega arith) }
+first_bad-position [] = refl
+first_bad-position (b ∷ t) = go (is_letter b) (first_bad-position t)
+  where
+    go : (a : Bool) → first_bad t ≡ position_or_len no_letter t
+        → cond a (suc (first_bad t)) 0 ≡ cond (not (not a)) (1 + position_or_len no_letter t) 0
+    go true e = omega arith
+    go false e = refl
 
-pub bad_here : {t : List ℕ} {i : ℕ} {r : Bool} → LettersBefore t i → i < length t → r ≡ is_letter (get_or t i 0) → r ≡ false → i ≡ first_bad t
-unfolding first_bad
-bad_here {t} {i} {r} x h e l =
-    let s : first_bad (drop i t) ≡ 0 = rw (drop-cons t i 0 h, ← e, l) in
-    omega arith
+module _ (t : List ℕ) where
+  pub bad_some : {p : ℕ} → Some p ≡ position no_letter t → (p ≡ first_bad t) × (p < length t)
+  bad_some {p} e = go (ltb (position_or_len no_letter t) (length t)) refl e
+    where
+      go : (a : Bool) → ltb (position_or_len no_letter t) (length t) ≡ a → Some p ≡ cond a (Some (position_or_len no_letter t)) None
+          → (p ≡ first_bad t) × (p < length t)
+      go true l e = let x : p ≡ position_or_len no_letter t = cc in (x ∙ sym (first_bad-position t), omega (arith, ltb-true _ _ l))
+      go false l e = never (cc)
 
-pub bad_none : {t : List ℕ} {i : ℕ} → LettersBefore t i → length t ≤ i → i ≡ first_bad t
-unfolding first_bad
-bad_none {t} {i} x h =
-    let s : first_bad (drop i t) ≡ 0 = rw (drop_of_length-le t h) in
-    omega arith
+  pub bad_none : None ≡ position no_letter t → length t ≤ first_bad t
+  bad_none e = go (ltb (position_or_len no_letter t) (length t)) refl e
+    where
+      go : (a : Bool) → ltb (position_or_len no_letter t) (length t) ≡ a → None ≡ cond a (Some (position_or_len no_letter t)) None → length t ≤ first_bad t
+      go true l e = never (cc)
+      go false l e = omega (arith, ltb-false _ _ l, first_bad-position t)
 
 -- ---- the reading of a text
 
 module _ (t : List ℕ) where
-  pub reading_long : 1024 < length t → reading t ≡ Long
+  pub reading_long : 1024 < length t → reading t ≡ Err Long
   unfolding reading
   reading_long h = rw (lt-ltb _ _ h)
 
-  reading_bad : length t ≤ 1024 → first_bad t < length t → reading t ≡ Bad (first_bad t)
+  reading_bad : length t ≤ 1024 → first_bad t < length t → reading t ≡ Err (Bad (first_bad t))
   unfolding reading
   reading_bad h k = rw (le-ltb _ _ h, lt-ltb _ _ k)
 
-  reading_letters : length t ≤ 1024 → length t ≤ first_bad t → reading t ≡ Letters (length t)
+  reading_letters : length t ≤ 1024 → length t ≤ first_bad t → reading t ≡ Ok (length t)
   unfolding reading
   reading_letters h k = rw (le-ltb _ _ h, le-ltb _ _ k)
 
-  pub text_long : (w : List ℕ) → 1024 < length t → ReadText t w w Long
+  pub text_long : (w : List ℕ) → 1024 < length t → ReadText t w w (Err Long)
   unfolding kinds_after
   text_long w h = record { answer = sym (reading_long h); memory = rw (reading_long h) }
 
-  pub text_bad : (w : List ℕ) (p : ℕ) → length t ≤ 1024 → p ≡ first_bad t → p < length t → ReadText t w w (Bad p)
+  pub text_bad : (w : List ℕ) (p : ℕ) → length t ≤ 1024 → Some p ≡ position no_letter t → ReadText t w w (Err (Bad p))
   unfolding kinds_after
-  text_bad w p h e k =
-      let r : reading t ≡ Bad (first_bad t) = reading_bad h (omega arith) in
-      record { answer = ap Bad e ∙ sym r; memory = rw r }
+  text_bad w p h e =
+      let b = bad_some t e in
+      let r : reading t ≡ Err (Bad (first_bad t)) = reading_bad h (omega arith) in
+      record { answer = ap (λ (q : ℕ). Err (Bad q)) b.0 ∙ sym r; memory = rw r }
 
-  pub text_letters : (old new : List ℕ) (p : ℕ) → length t ≤ 1024 → p ≡ first_bad t → length t ≤ p → new ≡ over (kinds_of t) old
-      → ReadText t old new (Letters (length t))
+  pub text_letters : (old new : List ℕ) → length t ≤ 1024 → None ≡ position no_letter t → new ≡ over (kinds_of t) old
+      → ReadText t old new (Ok (length t))
   unfolding kinds_after
-  text_letters old new p h e k q =
-      let r : reading t ≡ Letters (length t) = reading_letters h (omega arith) in
+  text_letters old new h e q =
+      let r : reading t ≡ Ok (length t) = reading_letters h (bad_none t e) in
       record { answer = sym r; memory = rw r q }
 
-pub text_same : {t u old new : List ℕ} {r : Reading} → t ≡ u → ReadText u old new r → ReadText t old new r
+pub text_same : {t u old new : List ℕ} {r : Result ℕ TextError} → t ≡ u → ReadText u old new r → ReadText t old new r
 text_same e x = rw e x
 
 -- ---- what a reading tells of the text
@@ -188,33 +172,33 @@ pub record BadAt (t : List ℕ) (p : ℕ) : Type 0 where
   pub few : p < 1024
 
 -- the three cases of a reading
-data ReadingOf (t : List ℕ) : Reading → Type 0 where
-  long : ReadingOf t Long
-  bad : length t ≤ 1024 → first_bad t < length t → ReadingOf t (Bad (first_bad t))
-  letters : length t ≤ 1024 → length t ≤ first_bad t → ReadingOf t (Letters (length t))
+data ReadingOf (t : List ℕ) : Result ℕ TextError → Type 0 where
+  long : ReadingOf t (Err Long)
+  bad : length t ≤ 1024 → first_bad t < length t → ReadingOf t (Err (Bad (first_bad t)))
+  letters : length t ≤ 1024 → length t ≤ first_bad t → ReadingOf t (Ok (length t))
 
 reading_of : (t : List ℕ) → ReadingOf t (reading t)
 unfolding reading
 reading_of t = go (ltb 1024 (length t)) (ltb (first_bad t) (length t)) refl refl
   where
     go : (a b : Bool) → ltb 1024 (length t) ≡ a → ltb (first_bad t) (length t) ≡ b
-        → ReadingOf t (cond a Long (cond b (Bad (first_bad t)) (Letters (length t))))
+        → ReadingOf t (cond a (Err Long) (cond b (Err (Bad (first_bad t))) (Ok (length t))))
     go true b x y = long
     go false true x y = bad (ltb-false _ _ x) (ltb-true _ _ y)
     go false false x y = letters (ltb-false _ _ x) (ltb-false _ _ y)
 
-pub letters_told : (t : List ℕ) (n : ℕ) → reading t ≡ Letters n → AllLetters t n
+pub letters_told : (t : List ℕ) (n : ℕ) → reading t ≡ Ok n → AllLetters t n
 letters_told t n e = go (reading_of t) e
   where
-    go : {r : Reading} → ReadingOf t r → r ≡ Letters n → AllLetters t n
+    go : {r : Result ℕ TextError} → ReadingOf t r → r ≡ Ok n → AllLetters t n
     go long e = never (cc)
     go (bad h k) e = never (cc)
     go (letters h k) e = let l : length t ≡ n = cc in record { count = sym l; few = omega arith; letters = omega (arith, bad_le t) }
 
-pub bad_told : (t : List ℕ) (p : ℕ) → reading t ≡ Bad p → BadAt t p
+pub bad_told : (t : List ℕ) (p : ℕ) → reading t ≡ Err (Bad p) → BadAt t p
 bad_told t p e = go (reading_of t) e
   where
-    go : {r : Reading} → ReadingOf t r → r ≡ Bad p → BadAt t p
+    go : {r : Result ℕ TextError} → ReadingOf t r → r ≡ Err (Bad p) → BadAt t p
     go long e = never (cc)
     go (bad h k) e = let l : first_bad t ≡ p = cc in record { first = sym l; within = omega arith; few = omega arith }
     go (letters h k) e = never (cc)

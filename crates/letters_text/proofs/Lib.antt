@@ -1,7 +1,6 @@
 -- The laws of this crate. Those that are public are for the crates above, or are results of their own; the others serve the proofs of this crate alone.
 pub mod LetterLaws
 pub mod PrintedLaws
-pub mod WroteLaws
 mod DecimalLaws
 mod LinesLaws
 mod Examples

@@ -1,6 +1,6 @@
 -- The text of the lines, object by object, and how long it is; the invariant of the loop that writes it.
 use mathlib.Core.Path.{◌≡◌, refl, ap, ◌∙◌}
-use mathlib.Core.List.{List, [], ◌∷◌, ◌++◌}
+use mathlib.Core.List.{List, [], ◌∷◌, ◌++◌, append_assoc, append-nil}
 use mathlib.Core.Bool.{Bool, true, false, cond}
 use Prim.Native.Nat.{ℕ, suc, ◌+◌, ◌*◌, ◌≤◌, ◌<◌, suc-le-suc}
 use native.Mathlib.Numerals.{add-one}
@@ -9,15 +9,15 @@ use borrow.Author.Tests.{eq-eqb, ne_eqb}
 use lib.Dec.{eqb}
 use lib.ListN.{length, drop, get_or, length-append, drop_of_length-le}
 use lib.Seq.{drop-cons}
+use lib.Utf8.{encode}
+use Rattle.std.specs.Fmt.{decimal}
+use Rattle.std.proofs.lemmas.Fmt.{length-decimal-le}
+use Rattle.std.proofs.lemmas.Str.{encode_ascii}
 use Rattle.lent.proofs.FillLaws.{length-tabulate, get_or-tabulate}
-use Rattle.letters_text.specs.declared.Object.{Object}
+use Rattle.letters_text.specs.declared.columns.Object.{Object}
 use Rattle.letters_text.specs.Letters.{letter_of}
-use Rattle.letters_text.specs.Decimal.{decimal}
-use Rattle.letters_text.specs.Lines.{Columns, object_at, objects, line_head, parting, first_letter, next_letter, lines_after, lines_of, lines, Written}
-use Rattle.letters_text.specs.passes.Memory.{Wrote, LinesFit}
-use Rattle.letters_text.proofs.DecimalLaws.{decimal_two}
-use Rattle.letters_text.proofs.WroteLaws.{wrote_nothing, wrote_same, wrote_more, wrote_length, written}
-use Rattle.letters_text.proofs.WroteLaws.{Progress, progress_start, progress_room, progress_turn, progress_end}
+use Rattle.letters_text.specs.Lines.{Columns, object_at, objects, line_head, parting, first_letter, next_letter, lines_after, lines_of, lines}
+use Rattle.letters_text.specs.passes.Memory.{LinesFit}
 
 -- ---- what parts two objects
 
@@ -40,6 +40,11 @@ module _ (p o : Object) where
 
 -- ---- how long the lines are
 
+-- behind the line feed there is room for the head of the line
+pub head_room : (p o : Object) (out : List ℕ) {out' : List ℕ} (room : ℕ) → (o.hit ≡ p.hit → ⊥) → out' ≡ out ++ 10 ∷ []
+    → length out + length (parting p o) ≤ room → length out' + length (line_head o) ≤ room
+head_room p o out room a e h = omega (arith, ap length (parting_line p o a), ap length e, length-append out (10 ∷ []))
+
 pub head_length : (o : Object) → length (line_head o) ≡ length (decimal o.interval) + 1
 unfolding line_head
 head_length o = length-append (decimal o.interval) (32 ∷ [])
@@ -53,7 +58,7 @@ unfolding next_letter
 next_length p o = length-append (parting p o) (letter_of o.kind ∷ [])
 
 head_short : (o : Object) → o.interval < 100 → length (line_head o) ≤ 3
-head_short o h = omega (arith, head_length o, decimal_two o.interval h)
+head_short o h = omega (arith, head_length o, length-decimal-le 2 o.interval (omega arith) h (omega arith))
 
 parting_short : (p o : Object) → o.interval < 100 → length (parting p o) ≤ 4
 unfolding parting
@@ -64,6 +69,15 @@ parting_short p o h = go (eqb o.hit p.hit) (eqb o.pattern p.pattern) (eqb o.stre
     go true true false = omega arith
     go true false c = omega arith
     go false b c = omega (arith, head_short o h)
+
+pub decimal_four : (n : ℕ) → n < 10000 → length (decimal n) ≤ 4
+decimal_four n h = length-decimal-le 4 n (omega arith) h (omega arith)
+
+-- behind `bad P` there is room for the line feed
+pub bad_room : (p : ℕ) (before out : List ℕ) {out' : List ℕ} (room : ℕ) → p < 10000 → length out ≡ length before + 4 → out' ≡ out ++ decimal p
+    → length before + 9 ≤ room → length out' + length (encode 10) ≤ room
+unfolding encode
+bad_room p before out room l s e h = omega (arith, decimal_four p l, ap length e, length-append out (decimal p))
 
 -- each object's interval has at most two digits
 abbrev Small : List Object → Type 0
@@ -122,63 +136,68 @@ module _ (c : Columns) where
 
 -- ---- the loop that writes the lines
 
--- o's letter is written up to place `at`, and then those of all objects before object i, `last` the last of them
-pub record LinesWalk (c : Columns) (o : Object) (at : ℕ) (w₁ w : List ℕ) (last : Object) (to i : ℕ) : Type 0 where
+-- behind what was printed before, the letters of the objects before object i stand, `last` the last of them; what is left makes up the whole
+pub record LinesWalk (c : Columns) (before out : List ℕ) (last : Object) (i : ℕ) : Type 0 where
   pub upto : i ≤ length c.kinds
-  pub long : length w ≡ length w₁
-  pub progress : Progress (lines_after o (drop 1 (objects c))) (lines_after last (drop i (objects c))) at w₁ w to
+  pub whole : out ++ lines_after last (drop i (objects c)) ≡ before ++ lines c
 
-pub lines_none : (c : Columns) (w : List ℕ) → length c.kinds ≡ 0 → Written (lines c) w w 0
+pub lines_none : (c : Columns) → length c.kinds ≡ 0 → lines c ≡ []
 unfolding lines lines_of
-lines_none c w h = rw (objects-over c 0 (omega arith)) (written (wrote_nothing 0 w))
+lines_none c h = rw (objects-over c 0 (omega arith)) refl
 
 module _ (c : Columns) {o : Object} (some : 0 < length c.kinds) (first : o ≡ object_at c 0) where
   lines_split : lines c ≡ first_letter o ++ lines_after o (drop 1 (objects c))
   unfolding lines lines_of
   lines_split = rw first (ap lines_of (objects_here c 0 some))
 
-  lines-length : length (lines c) ≡ length (first_letter o) + length (lines_after o (drop 1 (objects c)))
-  lines-length = ap length lines_split ∙ length-append (first_letter o) (lines_after o (drop 1 (objects c)))
+  pub first_room : {used room : ℕ} → LinesFit c used room → used + length (first_letter o) ≤ room
+  first_room fit =
+      omega (arith, ap length lines_split, length-append (first_letter o) (lines_after o (drop 1 (objects c))), lines_short c fit.small, fit.enough)
 
-  pub first_room : {n : ℕ} → LinesFit c n → length (first_letter o) ≤ n
-  first_room fit = omega (arith, lines-length, lines_short c fit.small, fit.enough)
+  pub walk_start : {before out : List ℕ} → out ≡ before ++ first_letter o → LinesWalk c before out o 1
+  walk_start {before} e = record { upto = some; whole = rw (e, append_assoc, lines_split) refl }
 
-  pub lines-start : {w₀ w : List ℕ} {at : ℕ} → LinesFit c (length w₀) → Wrote (first_letter o) 0 w₀ w at → LinesWalk c o at w w o at 1
-  lines-start {w₀} {w} {at} fit x =
-      let l : length w ≡ length w₀ = wrote_length x (omega (arith, first_room fit)) in
-      record {
-        upto = some;
-        long = refl;
-        progress = progress_start _ at w (omega (arith, lines-length, lines_short c fit.small, fit.enough, x.next));
-      }
+module _ {c : Columns} {before out : List ℕ} {last : Object} {i : ℕ} (x : LinesWalk c before out last i) where
+  -- so all that is printed has room
+  walk_room : {room : ℕ} → LinesFit c (length before) room → length out + length (lines_after last (drop i (objects c))) ≤ room
+  walk_room fit =
+      omega (
+        arith,
+        ap length x.whole,
+        length-append out (lines_after last (drop i (objects c))),
+        length-append before (lines c),
+        lines_short c fit.small,
+        fit.enough,
+      )
 
-module _ {c : Columns} {o : Object} {at : ℕ} {w₁ w : List ℕ} {last : Object} {to i : ℕ} (x : LinesWalk c o at w₁ w last to i) where
   module _ {next : Object} (more : i < length c.kinds) (here : next ≡ object_at c i) where
-    going : Progress (lines_after o (drop 1 (objects c))) (next_letter last next ++ lines_after next (drop (i + 1) (objects c))) at w₁ w to
+    going : lines_after last (drop i (objects c)) ≡ next_letter last next ++ lines_after next (drop (i + 1) (objects c))
     unfolding lines_after
-    going =
-        let e : lines_after last (drop i (objects c)) ≡ next_letter last next ++ lines_after next (drop (i + 1) (objects c)) =
-        rw here (ap (lines_after last) (objects_here c i more)) in
-        rw e at x.progress
+    going = rw here (ap (lines_after last) (objects_here c i more))
 
-    pub lines_room : to + length (next_letter last next) ≤ length w
-    lines_room = progress_room (next_letter last next) (lines_after next (drop (i + 1) (objects c))) going
+    pub next_room : {room : ℕ} → LinesFit c (length before) room → length out + length (next_letter last next) ≤ room
+    next_room fit =
+        omega (arith, walk_room fit, ap length going, length-append (next_letter last next) (lines_after next (drop (i + 1) (objects c))))
 
-    pub lines_turn : {w' : List ℕ} {to' : ℕ} → Wrote (next_letter last next) to w w' to' → LinesWalk c o at w₁ w' next to' (i + 1)
-    lines_turn {w'} {to'} y = record {
-      upto = omega arith;
-      long = wrote_length y lines_room ∙ x.long;
-      progress = progress_turn (next_letter last next) (lines_after next (drop (i + 1) (objects c))) going w' to' y;
-    }
+    pub walk_turn : {out' : List ℕ} → out' ≡ out ++ next_letter last next → LinesWalk c before out' next (i + 1)
+    walk_turn e = record { upto = omega arith; whole = rw (e, append_assoc, ← going) x.whole }
 
   module _ (over : length c.kinds ≤ i) where
-    ending : Progress (lines_after o (drop 1 (objects c))) ((10 ∷ []) ++ []) at w₁ w to
+    ending : lines_after last (drop i (objects c)) ≡ 10 ∷ []
     unfolding lines_after
-    ending = rw (objects-over c i over) at x.progress
+    ending = rw (objects-over c i over) refl
 
-    pub last_room : to < length w
-    last_room = omega (arith, progress_room (10 ∷ []) [] ending)
+    pub last_room : {room : ℕ} → LinesFit c (length before) room → length out + length (encode 10) ≤ room
+    unfolding encode
+    last_room fit = omega (arith, walk_room fit, ap length ending)
 
-    pub lines-end : {w₀ w' : List ℕ} {r : ℕ} → 0 < length c.kinds → o ≡ object_at c 0 → Wrote (first_letter o) 0 w₀ w₁ at → Wrote (10 ∷ []) to w w' r
-        → Written (lines c) w₀ w' r
-    lines-end {w'} {r} some first y z = written (wrote_same (lines_split c some first) (wrote_more y (progress_end (progress_turn (10 ∷ []) [] ending w' r z))))
+    pub walk_end : {out' : List ℕ} → out' ≡ out ++ 10 ∷ [] → out' ≡ before ++ lines c
+    walk_end e = e ∙ rw ending at x.whole
+
+-- ---- what the functions that print need
+
+pub ruleset steps = (head_length, first_length, next_length, encode_ascii, append_assoc)
+
+pub ruleset partings = (parting_line, parting_bar, parting_comma, parting_none, encode_ascii, append_assoc, append-nil)
+
+pub ruleset bads = (decimal_four, encode_ascii, append_assoc)

@@ -9,32 +9,33 @@ use lib.Dec.{ltb}
 use lib.ListN.{length, take}
 use lib.Seq.{take_all, length-take-le}
 use Rattle.lent.specs.Over.{over}
-use Rattle.letters_text.specs.declared.Reading.{Reading}
-use Rattle.letters_text.specs.declared.Reading.TheVariants.{Long, Bad, Letters}
+use Rattle.std.proofs.Common.{Result, Ok, Err}
+use Rattle.letters_text.specs.declared.TextError.{TextError}
+use Rattle.letters_text.specs.declared.TextError.TheVariants.{Long, Bad}
 use Rattle.letters_text.specs.Letters.{trimmed, kinds_of, reading, kinds_after, ReadText, input_bytes}
 use Rattle.letters_text.specs.Lines.{bad_line, long_line, printed}
 use Rattle.letters_text.proofs.LetterLaws.{AllLetters, BadAt, letters_told, bad_told, length-trimmed, reading_long}
 
-module _ {t old new : List ℕ} {r : Reading} (x : ReadText t old new r) where
-  pub read_long : r ≡ Long → (ls : List ℕ) → printed (reading t) ls ≡ long_line
+module _ {t old new : List ℕ} {r : Result ℕ TextError} (x : ReadText t old new r) where
+  pub read_long : r ≡ Err Long → (ls : List ℕ) → printed (reading t) ls ≡ long_line
   unfolding printed
   read_long e ls = rw (sym x.answer ∙ e)
 
-  pub read_bad : (p : ℕ) → r ≡ Bad p → (ls : List ℕ) → printed (reading t) ls ≡ bad_line p
+  pub read_bad : (p : ℕ) → r ≡ Err (Bad p) → (ls : List ℕ) → printed (reading t) ls ≡ bad_line p
   unfolding printed
   read_bad p e ls = rw (sym x.answer ∙ e)
 
-  pub read_bad_at : (p : ℕ) → r ≡ Bad p → BadAt t p
+  pub read_bad_at : (p : ℕ) → r ≡ Err (Bad p) → BadAt t p
   read_bad_at p e = bad_told t p (sym x.answer ∙ e)
 
-  pub read_letters : (n : ℕ) → r ≡ Letters n → (ls : List ℕ) → printed (reading t) ls ≡ ls
+  pub read_letters : (n : ℕ) → r ≡ Ok n → (ls : List ℕ) → printed (reading t) ls ≡ ls
   unfolding printed
   read_letters n e ls = rw (sym x.answer ∙ e)
 
-  pub read_all : (n : ℕ) → r ≡ Letters n → AllLetters t n
+  pub read_all : (n : ℕ) → r ≡ Ok n → AllLetters t n
   read_all n e = letters_told t n (sym x.answer ∙ e)
 
-  pub read_kinds : (n : ℕ) → r ≡ Letters n → new ≡ over (kinds_of t) old
+  pub read_kinds : (n : ℕ) → r ≡ Ok n → new ≡ over (kinds_of t) old
   unfolding kinds_after
   read_kinds n e = x.memory ∙ rw (sym x.answer ∙ e)
 
@@ -50,6 +51,6 @@ printed_front lines n s h = go (ltb n (length s)) refl
     go true e =
         let k : n < length s = ltb-true _ _ e in
         let l : length (take n s) ≡ n = length-take-le n s (omega arith) in
-        let a : reading (trimmed (take n s)) ≡ Long = reading_long (trimmed (take n s)) (omega (arith, length-trimmed (take n s))) in
-        let b : reading (trimmed s) ≡ Long = reading_long (trimmed s) (omega (arith, length-trimmed s)) in
+        let a : reading (trimmed (take n s)) ≡ Err Long = reading_long (trimmed (take n s)) (omega (arith, length-trimmed (take n s))) in
+        let b : reading (trimmed s) ≡ Err Long = reading_long (trimmed s) (omega (arith, length-trimmed s)) in
         rw (a, b)

@@ -3,9 +3,10 @@
 -- else its first byte that is no letter is told.
 -- A text is a list of bytes.
 use Rattle.std.specs.Prelude.{◌≡◌, ℕ, suc, ◌-◌, Bool, true, cond, List, [], ◌∷◌, map, eqb, ltb, length, take, get_or}
+use Rattle.std.specs.Prelude.{Result, Ok, Err}
 use Rattle.lent.specs.Over.{over}
-use Rattle.letters_text.specs.declared.Reading.{Reading}
-use Rattle.letters_text.specs.declared.Reading.TheVariants.{Long, Bad, Letters}
+use Rattle.letters_text.specs.declared.TextError.{TextError}
+use Rattle.letters_text.specs.declared.TextError.TheVariants.{Long, Bad}
 
 abbrev pub line_feed : ℕ
 line_feed = 10
@@ -37,20 +38,20 @@ first_bad [] = 0
 first_bad (b ∷ bs) = cond (is_letter b) (suc (first_bad bs)) 0
 
 -- what a trimmed text is: too long, or bad at a place, or so many letters
-unfoldable pub reading : List ℕ → Reading
+unfoldable pub reading : List ℕ → Result ℕ TextError
 unfolding first_bad
 reading t =
-    cond (ltb 1024 (length t)) Long (cond (ltb (first_bad t) (length t)) (Bad (first_bad t)) (Letters (length t)))
+    cond (ltb 1024 (length t)) (Err Long)
+    (cond (ltb (first_bad t) (length t)) (Err (Bad (first_bad t))) (Ok (length t)))
 
 -- what the lent kinds hold after a reading: the kinds of the letters over their front, or what they held
-unfoldable pub kinds_after : Reading → List ℕ → List ℕ → List ℕ
+unfoldable pub kinds_after : Result ℕ TextError → List ℕ → List ℕ → List ℕ
 unfolding kinds_of
-kinds_after Long t old = old
-kinds_after (Bad p) t old = old
-kinds_after (Letters n) t old = over (kinds_of t) old
+kinds_after (Err e) t old = old
+kinds_after (Ok n) t old = over (kinds_of t) old
 
 -- the reading of the trimmed text t
-pub record ReadText (t old new : List ℕ) (r : Reading) : Type 0 where
+pub record ReadText (t old new : List ℕ) (r : Result ℕ TextError) : Type 0 where
   pub answer : r ≡ reading t
   pub memory : new ≡ kinds_after (reading t) t old
 

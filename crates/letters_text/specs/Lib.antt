@@ -1,5 +1,4 @@
--- The letters program's text: what is read, decimals, what is printed, and what lent memory holds.
+-- The letters program's text: what is read, what is printed, and what lent memory holds.
 pub mod Letters
-pub mod Decimal
 pub mod Lines
 pub mod passes

@@ -1,18 +1,16 @@
 -- What the letters program prints, by the scope's paragraph on it: a line for each hit pattern, with its interval
 -- and its letters, among which `|` parts alternating patterns and `,` streaks; or one line on what is wrong with the
 -- text. No letters, no line.
-use Rattle.std.specs.Prelude.{◌≡◌, ℕ, cond, List, [], ◌∷◌, ◌++◌, eqb, length, get_or}
-use Rattle.lent.specs.Over.{over}
+use Rattle.std.specs.Prelude.{ℕ, cond, List, [], ◌∷◌, ◌++◌, eqb, length, get_or, decimal, Result, Ok, Err}
 use Rattle.lent.specs.Scan.{tabulate}
-use Rattle.letters_text.specs.declared.Object.{Object}
-use Rattle.letters_text.specs.declared.Reading.{Reading}
-use Rattle.letters_text.specs.declared.Reading.TheVariants.{Long, Bad, Letters}
+use Rattle.letters_text.specs.declared.columns.Object.{Object}
+use Rattle.letters_text.specs.declared.columns.Columns as lent
+use Rattle.letters_text.specs.declared.TextError.{TextError}
+use Rattle.letters_text.specs.declared.TextError.TheVariants.{Long, Bad}
 use Rattle.letters_text.specs.Letters.{line_feed, letter_of}
-use Rattle.letters_text.specs.Decimal.{decimal}
 
 -- a line begins with the interval and a space
 unfoldable pub line_head : Object → List ℕ
-unfolding decimal
 line_head o = decimal o.interval ++ 32 ∷ []
 
 -- what stands between the letters of p and of o, the next object: where o opens a hit pattern a line feed and the next
@@ -53,14 +51,14 @@ pub record Columns : Type 0 where
   pub hits : List ℕ
   pub intervals : List ℕ
 
--- the columns that are made of five lists
-abbrev pub columns_of : List ℕ → List ℕ → List ℕ → List ℕ → List ℕ → Columns
-columns_of kinds streaks patterns hits intervals = record {
-  kinds = kinds;
-  streaks = streaks;
-  patterns = patterns;
-  hits = hits;
-  intervals = intervals;
+-- the columns that are lent
+abbrev pub columns_of : lent.Columns → Columns
+columns_of c = record {
+  kinds = c.kinds.now;
+  streaks = c.streak.now;
+  patterns = c.pattern.now;
+  hits = c.hit.now;
+  intervals = c.interval.now;
 }
 
 unfoldable pub object_at : Columns → ℕ → Object
@@ -82,7 +80,6 @@ lines c = lines_of (objects c)
 
 -- `bad P` and a line feed
 unfoldable pub bad_line : ℕ → List ℕ
-unfolding decimal
 bad_line p = (98 ∷ 97 ∷ 100 ∷ 32 ∷ []) ++ (decimal p ++ line_feed ∷ [])
 
 -- `long` and a line feed
@@ -90,13 +87,8 @@ unfoldable pub long_line : List ℕ
 long_line = 108 ∷ 111 ∷ 110 ∷ 103 ∷ line_feed ∷ []
 
 -- all that is printed for a text, where `ls` are the lines of its letters
-unfoldable pub printed : Reading → List ℕ → List ℕ
+unfoldable pub printed : Result ℕ TextError → List ℕ → List ℕ
 unfolding bad_line long_line
-printed Long ls = long_line
-printed (Bad p) ls = bad_line p
-printed (Letters n) ls = ls
-
--- the text stands at the front of what was `old` and is now `new`, and `count` is its length
-pub record Written (text old new : List ℕ) (count : ℕ) : Type 0 where
-  pub size : count ≡ length text
-  pub memory : new ≡ over text old
+printed (Err Long) ls = long_line
+printed (Err (Bad p)) ls = bad_line p
+printed (Ok n) ls = ls

@@ -1,282 +1,190 @@
-// The letters program's work on lent slices, all but the encoding: what the text read is, and the text to print.
+// The letters program's work on texts, all but the encoding: what the text read is, and the text to print.
 #![tactic(auto)]
 
-ghost use Rattle.std.specs.Prelude.{◌≡◌, [], ◌∷◌, ◌+◌, ◌≤◌, ◌<◌, length};
+ghost use Rattle.std.specs.Prelude.{◌≡◌, ◌++◌, [], ◌∷◌, ◌+◌, ◌-◌, ◌≤◌, ◌<◌, length, decimal, not, position};
 ghost use Rattle.lent.specs.Over.{over};
-ghost use Rattle.letters_text.specs.Letters.{trimmed, is_letter, kind_of, letter_of, kinds_of, first_bad, ReadText};
-ghost use Rattle.letters_text.specs.Decimal.{digit_at, decimal};
-ghost use Rattle.letters_text.specs.Lines.{columns_of, object_at, line_head, parting, first_letter, next_letter};
-ghost use Rattle.letters_text.specs.Lines.{lines, bad_line, long_line, Written};
-ghost use Rattle.letters_text.specs.passes.Memory.{Front, Wrote, OneLength, LinesFit};
+ghost use Rattle.grouping_chart.specs.Object.{kind_number};
+ghost use Rattle.arrayvec.specs.ArrayString.{array_string_len};
+ghost use Rattle.letters_text.specs.Letters.{trimmed, is_letter, kind_of, letter_of, kinds_of, ReadText};
+ghost use Rattle.letters_text.specs.Lines.{columns_of, line_head, parting, first_letter, next_letter};
+ghost use Rattle.letters_text.specs.Lines.{lines, bad_line, long_line};
+ghost use Rattle.letters_text.specs.passes.Memory.{LinesFit};
 
-// What a text is: over 1,024 bytes, a byte that is no letter at a place, or so many letters.
-#[derive(Clone, Copy)]
-pub enum Reading {
+use arrayvec::ArrayString;
+pub use columns::{Columns, Object};
+use grouping_chart::object::Kind;
+
+mod columns;
+
+// The most letters of a text.
+pub const MOST_LETTERS: usize = 1024;
+
+// What is wrong with a text: over 1,024 bytes, or the byte at a place is no letter.
+#[derive(Clone, Copy, Debug, PartialEq, Eq)]
+pub enum TextError {
     Long,
     Bad(usize),
-    Letters(usize),
 }
 
-// An object's kind, the numbers of its groups, and its hit pattern's interval.
-#[derive(Clone, Copy)]
-pub struct Object {
-    pub kind: u8,
-    pub streak: u16,
-    pub pattern: u16,
-    pub hit: u16,
-    pub interval: u8,
-}
-
-// The text's length without one line feed at its end.
-fn trimmed_length(s: &[u8]) -> usize
-    ensures { Front s.now (trimmed s.now) result }
-{
-    let n = s.len();
-    if n == 0 {
-        return 0;
-    }
-    let last = s[n - 1];
-    if last == b'\n' {
-        return n - 1;
-    }
-    n
-}
-
+#[tactic(auto, using(std::proofs::lemmas::Bool::Decides::nat_tests), unfolding(crate::specs::Letters::is_letter))]
 fn is_letter(b: u8) -> bool
     ensures { result ≡ is_letter b }
 {
-    match b {
-        b'd' | b'k' | b'n' => true,
-        _ => false,
-    }
+    matches!(b, b'd' | b'k' | b'n')
 }
 
-fn kind_of(b: u8) -> u8
-    ensures { result ≡ kind_of b }
+#[tactic(auto, using(std::proofs::lemmas::Bool::Decides::nat_tests), unfolding(crate::specs::Letters::kind_of))]
+fn kind_of(b: u8) -> Kind
+    ensures { kind_number result ≡ kind_of b }
 {
     match b {
-        b'd' => 0,
-        b'k' => 1,
-        _ => 2,
+        b'd' => Kind::Center,
+        b'k' => Kind::Rim,
+        _ => Kind::NonHit,
     }
 }
 
-fn letter_of(kind: u8) -> u8
+#[tactic(auto, using(std::proofs::lemmas::Bool::Decides::nat_tests), unfolding(crate::specs::Letters::letter_of))]
+fn letter_of(kind: u8) -> char
     ensures { result ≡ letter_of kind }
 {
-    match kind {
-        0 => b'd',
-        1 => b'k',
-        _ => b'n',
+    match Kind::try_from(kind) {
+        Ok(Kind::Center) => 'd',
+        Ok(Kind::Rim) => 'k',
+        Ok(Kind::NonHit) | Err(_) => 'n',
     }
 }
 
-// The place of the first byte that is no letter, or the length.
-fn first_bad(t: &[u8]) -> usize
-    ensures { result ≡ first_bad t.now }
+// The place of the first byte that is no letter.
+fn first_bad(t: &[u8]) -> Option<usize>
+    ensures { result ≡ position (λ b. not (is_letter b)) t.now }
 {
-    let mut place = 0;
-    while place < t.len() {
-        let b = t[place];
-        if is_letter(b) {
-            place += 1;
-        } else {
-            return place;
-        }
-    }
-    place
+    t.iter().position(|b| !is_letter(*b))
 }
 
 fn fill_kinds(t: &[u8], kinds: &mut [u8])
     requires { length t.now ≤ length kinds.old }
     ensures { kinds.new ≡ over (kinds_of t.now) kinds.old }
 {
-    let mut i = 0;
-    while i < t.len() {
-        let b = t[i];
-        kinds[i] = kind_of(b);
-        i += 1;
+    for (i, b) in t.iter().enumerate() {
+        kinds[i] = u8::from(kind_of(*b));
     }
 }
 
-fn read_text(t: &[u8], kinds: &mut [u8]) -> Reading
+fn read_text(t: &[u8], kinds: &mut [u8]) -> Result<usize, TextError>
     requires { 1024 ≤ length kinds.old }
     ensures { ReadText t.now kinds.old kinds.new result }
 {
     let n = t.len();
-    if 1024 < n {
-        return Reading::Long;
+    if MOST_LETTERS < n {
+        return Err(TextError::Long);
     }
-    let bad = first_bad(t);
-    if bad < n {
-        return Reading::Bad(bad);
+    if let Some(place) = first_bad(t) {
+        return Err(TextError::Bad(place));
     }
     fill_kinds(t, kinds);
-    Reading::Letters(n)
+    Ok(n)
 }
 
-// What was read: the kinds are filled where it is letters, else left as they are.
-pub fn read_letters(s: &[u8], kinds: &mut [u8]) -> Reading
+// How many letters the text has, but for one line feed at its end, or what is wrong with it.
+// The kinds are filled where it is letters, else left as they are.
+pub fn read_letters(s: &[u8], kinds: &mut [u8]) -> Result<usize, TextError>
     requires { 1024 ≤ length kinds.old }
     ensures { ReadText (trimmed s.now) kinds.old kinds.new result }
 {
-    let n = trimmed_length(s);
-    read_text(&s[..n], kinds)
+    read_text(s.strip_suffix(b"\n").unwrap_or(s), kinds)
 }
 
-// Each `put_` function writes a text from place `at` on and returns the place after it.
-fn put_byte(out: &mut [u8], at: usize, b: u8) -> usize
-    requires { at < length out.old }
-    ensures { Wrote (b ∷ []) at out.old out.new result }
+// Each `put_` function writes a text behind what is printed so far.
+fn put_number<const N: usize>(out: &mut ArrayString<N>, n: usize)
+    requires { array_string_len out.old + length (decimal n) ≤ N }
+    ensures { out.new.bytes ≡ out.old.bytes ++ decimal n }
 {
-    out[at] = b;
-    at + 1
-}
-
-fn put_word(out: &mut [u8], at: usize, word: &[u8]) -> usize
-    requires { at + length word.now ≤ length out.old }
-    ensures { Wrote word.now at out.old out.new result }
-{
-    let n = word.len();
-    let mut i = 0;
-    while i < n {
-        out[at + i] = word[i];
-        i += 1;
-    }
-    at + n
-}
-
-// The digit at the place worth `worth`, where n reaches it.
-fn put_digit(out: &mut [u8], at: usize, n: usize, worth: usize) -> usize
-    requires { (0 < worth) × (at + length (digit_at n worth) ≤ length out.old) }
-    ensures { Wrote (digit_at n worth) at out.old out.new result }
-{
-    if n < worth {
-        return at;
-    }
-    put_byte(out, at, (n / worth % 10 + 48) as u8)
-}
-
-// In decimal.
-fn put_number(out: &mut [u8], at: usize, n: usize) -> usize
-    requires { at + length (decimal n) ≤ length out.old }
-    ensures { Wrote (decimal n) at out.old out.new result }
-{
-    let a = put_digit(out, at, n, 1000);
-    let b = put_digit(out, a, n, 100);
-    let c = put_digit(out, b, n, 10);
-    put_byte(out, c, (n % 10 + 48) as u8)
+    let mut digits = itoa::Buffer::new();
+    out.push_str(digits.format(n));
 }
 
 // The head of the line that o opens.
-fn put_head(out: &mut [u8], at: usize, o: Object) -> usize
-    requires { at + length (line_head o) ≤ length out.old }
-    ensures { Wrote (line_head o) at out.old out.new result }
+#[tactic(auto, using(crate::proofs::LinesLaws::steps), unfolding(crate::specs::Lines::line_head))]
+fn put_head<const N: usize>(out: &mut ArrayString<N>, o: Object)
+    requires { array_string_len out.old + length (line_head o) ≤ N }
+    ensures { out.new.bytes ≡ out.old.bytes ++ line_head o }
 {
-    let to = put_number(out, at, o.interval as usize);
-    put_byte(out, to, b' ')
+    put_number(out, usize::from(o.interval));
+    out.push(' ');
 }
 
 // What stands between the letters of two neighbours.
-fn put_parting(out: &mut [u8], at: usize, p: Object, o: Object) -> usize
-    requires { at + length (parting p o) ≤ length out.old }
-    ensures { Wrote (parting p o) at out.old out.new result }
+#[tactic(auto, using(crate::proofs::LinesLaws::partings))]
+fn put_parting<const N: usize>(out: &mut ArrayString<N>, p: Object, o: Object)
+    requires { array_string_len out.old + length (parting p o) ≤ N }
+    ensures { out.new.bytes ≡ out.old.bytes ++ parting p o }
 {
     if o.hit != p.hit {
-        let to = put_byte(out, at, b'\n');
-        return put_head(out, to, o);
+        out.push('\n');
+        put_head(out, o);
+    } else if o.pattern != p.pattern {
+        out.push('|');
+    } else if o.streak != p.streak {
+        out.push(',');
     }
-    if o.pattern != p.pattern {
-        return put_byte(out, at, b'|');
-    }
-    if o.streak != p.streak {
-        return put_byte(out, at, b',');
-    }
-    at
 }
 
 // The first object's letter, with the head of its line.
-fn put_first(out: &mut [u8], o: Object) -> usize
-    requires { length (first_letter o) ≤ length out.old }
-    ensures { Wrote (first_letter o) 0 out.old out.new result }
+#[tactic(auto, using(crate::proofs::LinesLaws::steps), unfolding(crate::specs::Lines::first_letter))]
+fn put_first<const N: usize>(out: &mut ArrayString<N>, o: Object)
+    requires { array_string_len out.old + length (first_letter o) ≤ N }
+    ensures { out.new.bytes ≡ out.old.bytes ++ first_letter o }
 {
-    let to = put_head(out, 0, o);
-    put_byte(out, to, letter_of(o.kind))
+    put_head(out, o);
+    out.push(letter_of(o.kind));
 }
 
 // The letter of o, with what parts it from p's.
-fn put_next(out: &mut [u8], at: usize, p: Object, o: Object) -> usize
-    requires { at + length (next_letter p o) ≤ length out.old }
-    ensures { Wrote (next_letter p o) at out.old out.new result }
+#[tactic(auto, using(crate::proofs::LinesLaws::steps), unfolding(crate::specs::Lines::next_letter))]
+fn put_next<const N: usize>(out: &mut ArrayString<N>, p: Object, o: Object)
+    requires { array_string_len out.old + length (next_letter p o) ≤ N }
+    ensures { out.new.bytes ≡ out.old.bytes ++ next_letter p o }
 {
-    let to = put_parting(out, at, p, o);
-    put_byte(out, to, letter_of(o.kind))
-}
-
-fn object_at(
-    kinds: &[u8],
-    streak: &[u16],
-    pattern: &[u16],
-    hit: &[u16],
-    interval: &[u8],
-    i: usize,
-) -> Object
-    requires { (i < length kinds.now)
-        × OneLength (columns_of kinds.now streak.now pattern.now hit.now interval.now) }
-    ensures { result ≡ object_at (columns_of kinds.now streak.now pattern.now hit.now interval.now) i }
-{
-    Object {
-        kind: kinds[i],
-        streak: streak[i],
-        pattern: pattern[i],
-        hit: hit[i],
-        interval: interval[i],
-    }
+    put_parting(out, p, o);
+    out.push(letter_of(o.kind));
 }
 
 // The lines of a text of letters, from the numbers of its objects.
-pub fn write_lines(
-    kinds: &[u8],
-    streak: &[u16],
-    pattern: &[u16],
-    hit: &[u16],
-    interval: &[u8],
-    out: &mut [u8],
-) -> usize
-    requires { LinesFit (columns_of kinds.now streak.now pattern.now hit.now interval.now) (length out.old) }
-    ensures { Written (lines (columns_of kinds.now streak.now pattern.now hit.now interval.now)) out.old out.new
-        result }
+pub fn write_lines<const N: usize>(columns: &Columns, out: &mut ArrayString<N>)
+    requires { LinesFit (columns_of columns.now) (array_string_len out.old) N }
+    ensures { out.new.bytes ≡ out.old.bytes ++ lines (columns_of columns.now) }
 {
-    let n = kinds.len();
+    let n = columns.kinds.len();
     if n == 0 {
-        return 0;
+        return;
     }
-    let mut last = object_at(kinds, streak, pattern, hit, interval, 0);
-    let mut to = put_first(out, last);
-    let mut i = 1;
-    while i < n {
-        let next = object_at(kinds, streak, pattern, hit, interval, i);
-        to = put_next(out, to, last, next);
+    let mut last = columns.object(0);
+    put_first(out, last);
+    for i in 1..n {
+        let next = columns.object(i);
+        put_next(out, last, next);
         last = next;
-        i += 1;
     }
-    put_byte(out, to, b'\n')
+    out.push('\n');
 }
 
 // `bad P`, where P is the place of the first byte that is no letter.
-pub fn write_bad(place: usize, out: &mut [u8]) -> usize
-    requires { (place < 10000) × (9 ≤ length out.old) }
-    ensures { Written (bad_line place) out.old out.new result }
+#[tactic(auto, using(crate::proofs::LinesLaws::bads), unfolding(crate::specs::Lines::bad_line))]
+pub fn write_bad<const N: usize>(place: usize, out: &mut ArrayString<N>)
+    requires { (place < 10000) × (array_string_len out.old + 9 ≤ N) }
+    ensures { out.new.bytes ≡ out.old.bytes ++ bad_line place }
 {
-    let to = put_word(out, 0, b"bad ");
-    let end = put_number(out, to, place);
-    put_byte(out, end, b'\n')
+    out.push_str("bad ");
+    put_number(out, place);
+    out.push('\n');
 }
 
 // `long`, for a text of over 1,024 bytes.
-pub fn write_long(out: &mut [u8]) -> usize
-    requires { 5 ≤ length out.old }
-    ensures { Written long_line out.old out.new result }
+#[tactic(auto, unfolding(crate::specs::Lines::long_line))]
+pub fn write_long<const N: usize>(out: &mut ArrayString<N>)
+    requires { array_string_len out.old + 5 ≤ N }
+    ensures { out.new.bytes ≡ out.old.bytes ++ long_line }
 {
-    put_word(out, 0, b"long\n")
+    out.push_str("long\n");
 }

@@ -6,6 +6,8 @@ pub mod Bounded
 pub mod ConstantLaws
 pub mod Minus
 pub mod MinusZero
+mod NanLaws
+mod RoundLaws
 mod Sign
 mod Closest
 mod Units

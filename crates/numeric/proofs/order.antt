@@ -2,3 +2,4 @@
 pub mod Rank
 pub mod Laws
 mod Arms
+pub mod Keys

@@ -7,16 +7,16 @@ ghost use Rattle.std.specs.Float.{binary64};
 pub fn canonical(x: f64) -> f64
     ensures { result ≡ x }
 {
-    if x != x { 0.0 / 0.0 } else { x }
+    if x.is_nan() { 0.0 / 0.0 } else { x }
 }
 
 // The bits of x; of a NaN 7FF8000000000000, which is what `to_bits` gives.
 pub fn bits(x: f64) -> u64
     ensures { result ≡ Ieee.to_bits binary64 x }
 {
-    if x != x {
+    if x.is_nan() {
         0x7FF8_0000_0000_0000
     } else {
-        f64::to_bits(x)
+        x.to_bits()
     }
 }

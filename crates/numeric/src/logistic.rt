@@ -269,21 +269,25 @@ const T: [f64; 264] = [
     7.593073934298546e-309,
 ];
 
-// T's values in an array of the caller's.
-pub fn table() -> [f64; 264]
-    ensures { result ≡ logistic_table }
-{
-    T
+// T's values, in the caller's memory: who looks steps up makes it once, as `T[n]` would build T anew each time.
+#[derive(Clone, Copy)]
+pub struct LogisticTable {
+    pub values: [f64; 264],
+    ghost is_table: { values ≡ logistic_table },
 }
 
-// T(n) for a step below 264, and +0.0 from there on. The caller makes the table and lends it: `T[n]` here would
-// build it anew at each call.
-pub fn logistic(table: &[f64], n: usize) -> f64
-    requires { table.now ≡ logistic_table }
-    ensures { result ≡ logistic_at n }
-{
-    match n {
-        0..=263 => table[n],
-        _ => 0.0,
+impl LogisticTable {
+    pub fn new() -> LogisticTable {
+        LogisticTable { values: T }
+    }
+
+    // T(n) for a step below 264, and +0.0 from there on.
+    pub fn at(&self, n: usize) -> f64
+        ensures { result ≡ logistic_at n }
+    {
+        match n {
+            0..=263 => self.values[n],
+            _ => 0.0,
+        }
     }
 }

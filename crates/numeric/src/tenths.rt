@@ -14,7 +14,7 @@ fn size_of(x: f64) -> Scaled
     requires { InTenthsRange x }
     ensures { ScaledOf x result.digits result.shift }
 {
-    let bits: u64 = f64::to_bits(x);
+    let bits: u64 = x.to_bits();
     let field: u64 = bits % 0x8000_0000_0000_0000 / 0x10_0000_0000_0000;
     let rest: u64 = bits % 0x10_0000_0000_0000;
     if field == 0 {

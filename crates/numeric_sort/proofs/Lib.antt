@@ -3,6 +3,4 @@ pub mod InsertLaws
 pub mod OrderedLaws
 pub mod AscendingLaws
 pub mod ShuffleLaws
-mod HeapLaws
-mod SortLaws
-mod RunLaws
+mod CompareLaws

@@ -1,6 +1,6 @@
 -- The laws of `ordered`. To exchange two values changes nothing of it, since to put v in the place of w is to insert v and undo the insertion of w; an
 -- ascending list is ordered.
-use mathlib.Core.Path.{◌≡◌, refl, ap, ◌∙◌}
+use mathlib.Core.Path.{◌≡◌, refl, sym, ap, ◌∙◌, subst}
 use mathlib.Core.Logic.{⊎_elim}
 use mathlib.Core.List.{List, [], ◌∷◌}
 use Prim.Native.Nat.{ℕ, zero, suc, ◌<◌}
@@ -12,7 +12,9 @@ use lib.Seq.{lt-length-set, get_or-set_same, get_or-set_other}
 use lib.Ieee.{Float, nan, fits, binary64}
 use Rattle.numeric.proofs.Values.{Number}
 use Rattle.numeric_sort.specs.Ordered.{insert, ordered, AllFinite}
-use Rattle.numeric_sort.specs.passes.Heap.{Before, swapped}
+use Rattle.numeric.specs.TotalOrder.{total_order}
+use Rattle.std.specs.List.{swap}
+use Rattle.std.proofs.lemmas.List.Edits.{swap_is}
 use Rattle.numeric_sort.proofs.InsertLaws.{equal, rank_le, Numbers, none, also, numbers-insert, length-insert, insert_here, insert_commute, insert_undo}
 
 -- ---- numbers by their places
@@ -68,14 +70,12 @@ replaced {v} (suc i) (also {x} {xs} p n) q h =
     insert_commute (number_at i n k) p (numbers-ordered (numbers-set i n q)) ∙ ap (insert x) (replaced i n q k) ∙ insert_commute p q (numbers-ordered n)
 
 module _ (i j : ℕ) {xs : List Float} (n : Numbers xs) (h : i < length xs) (k : j < length xs) where
-  pub numbers-swapped : Numbers (swapped i j xs)
-  unfolding swapped
-  numbers-swapped = numbers-set j (numbers-set i n (number_at j n k)) (number_at i n h)
+  pub numbers-swap : Numbers (swap xs i j)
+  numbers-swap = subst Numbers (swap_is xs i j nan h k) (numbers-set j (numbers-set i n (number_at j n k)) (number_at i n h))
 
   -- an exchange: b in the place of a, and a in the place of b
-  pub ordered-swapped : ordered (swapped i j xs) ≡ ordered xs
-  unfolding swapped
-  ordered-swapped =
+  pub ordered-swap : ordered (swap xs i j) ≡ ordered xs
+  ordered-swap =
       let a : Float = get_or xs i nan in
       let b : Float = get_or xs j nan in
       let ys : List Float = set xs i b in
@@ -87,10 +87,11 @@ module _ (i j : ℕ) {xs : List Float} (n : Numbers xs) (h : i < length xs) (k :
       let r : insert (get_or ys j nan) (ordered (set ys j a)) ≡ insert a (ordered ys) = replaced j m (number_at i n h) (lt-length-set xs i b k) in
       let s : insert b (ordered (set ys j a)) ≡ insert b (ordered xs) =
       (rw e at r) ∙ replaced i n (number_at j n k) h in
-      insert_undo (number_at j n k) (numbers-ordered (numbers-set j m (number_at i n h))) (numbers-ordered n) s
+      ap ordered (sym (swap_is xs i j nan h k))
+      ∙ insert_undo (number_at j n k) (numbers-ordered (numbers-set j m (number_at i n h))) (numbers-ordered n) s
 
 -- an ascending list
-pub ordered_same : {xs : List Float} → Numbers xs → ((i j : ℕ) → i < j → j < length xs → Before xs i j) → ordered xs ≡ xs
+pub ordered_same : {xs : List Float} → Numbers xs → ((i j : ℕ) → i < j → j < length xs → T (total_order (get_or xs i nan) (get_or xs j nan))) → ordered xs ≡ xs
 unfolding ordered insert
 ordered_same none f = refl
 ordered_same (also p none) f = refl

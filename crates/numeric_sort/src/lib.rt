@@ -1,73 +1,28 @@
 // Sorting by the total order, in linear time where the values rise or fall already.
 #![tactic(auto)]
 
-ghost use Rattle.std.specs.Prelude.{◌≡◌, length};
-ghost use Rattle.numeric_sort.specs.passes.Heap.{Shuffled};
+ghost use Rattle.std.specs.Prelude.{◌≡◌};
 ghost use Rattle.numeric_sort.specs.Ordered.{ordered, AllFinite};
-ghost use Rattle.numeric_sort.specs.passes.Sort.{rising, falling};
+ghost use Rattle.numeric_sort.specs.passes.Sort.{comparison};
 
-use crate::heap::{heap_sort, swap};
 use numeric::order::total_order;
+use std::cmp::Ordering;
 
-pub mod heap;
-
-// Whether each value stands at or before the next one.
-fn is_rising(values: &[f64]) -> bool
-    ensures { result ≡ rising values.now }
+// How two values stand in the total order. It has no place for a NaN, which stands last here.
+fn compare(a: &f64, b: &f64) -> Ordering
+    ensures { result ≡ comparison a.now b.now }
 {
-    let mut i = 0;
-    while i + 1 < values.len() {
-        if !total_order(values[i], values[i + 1]) {
-            return false;
-        }
-        i += 1;
-    }
-    true
-}
-
-// Whether each value stands behind the next one. Of other values the first pairs mostly tell.
-fn is_falling(values: &[f64]) -> bool
-    ensures { result ≡ falling values.now }
-{
-    let mut i = 0;
-    while i + 1 < values.len() {
-        if total_order(values[i], values[i + 1]) {
-            return false;
-        }
-        i += 1;
-    }
-    true
-}
-
-// Turns the values round, by exchanges.
-fn reverse(values: &mut [f64])
-    ensures { Shuffled (length values.old) values.old values.new }
-{
-    let n = values.len();
-    let mut i = 0;
-    while i < n / 2 {
-        swap(values, i, n - 1 - i);
-        i += 1;
+    if a.is_nan() || b.is_nan() {
+        a.is_nan().cmp(&b.is_nan())
+    } else {
+        total_order(*b, *a).cmp(&total_order(*a, *b))
     }
 }
 
-// Turns falling values round: they rise then.
-fn turn_if_falling(values: &mut [f64])
-    ensures { Shuffled (length values.old) values.old values.new }
-{
-    if is_falling(values) {
-        reverse(values);
-    }
-}
-
-// Puts the values in total order.
+// Puts the values in total order. That they are finite is a clause here and above: a type for it would hold a `&mut`.
 pub fn sort(values: &mut [f64])
     requires { AllFinite values.old }
     ensures { values.new ≡ ordered values.old }
 {
-    turn_if_falling(values);
-    if is_rising(values) {
-        return;
-    }
-    heap_sort(values);
+    values.sort_unstable_by(compare);
 }

@@ -4,39 +4,13 @@
 // `Broken`, which counts as a difference, are allowed at any time. How many cases were read, the program prints.
 #![tactic(auto)]
 
-ghost use Rattle.std.specs.Prelude.{ℕ, ◌≤◌, length};
+ghost use Rattle.std.specs.Prelude.{ℕ, ◌≤◌};
 ghost use Rattle.replay_read.specs.Read.{ChartRead, PartRead, CaseRead, FileRead};
 
 use replay_cases::count::{Replay, Replayed};
 use replay_cases::{Next, count};
 use std::fs::File;
-use std::io::Read;
 use vectors::case::Head;
-
-// Reads once, and returns how many bytes it put at the start of `buf`: none at the file's end, or where the read fails.
-fn read_some(file: &mut File, buf: &mut [u8]) -> usize
-    ensures { result ≤ length buf.new }
-{
-    match file.read(buf) {
-        Ok(n) => n,
-        Err(_) => 0,
-    }
-}
-
-// Reads until `buf` is full, the file ends or a read fails, and returns how many bytes it put at the start of `buf`.
-fn read_full(file: &mut File, buf: &mut [u8]) -> usize
-    ensures { result ≤ length buf.new }
-{
-    let mut done = 0;
-    while done < buf.len() {
-        let n = read_some(file, &mut buf[done..]);
-        if n == 0 {
-            break;
-        }
-        done += n;
-    }
-    done
-}
 
 // Reads the body of a case with a chart of its own, and replays it.
 fn chart_case(file: &mut File, spare: usize, h: Head, body: &mut [u8]) -> Replayed
@@ -47,7 +21,7 @@ fn chart_case(file: &mut File, spare: usize, h: Head, body: &mut [u8]) -> Replay
     if body.len() < size {
         return Replayed::Broken;
     }
-    if read_full(file, &mut body[..size]) != size {
+    if reading::read_full(file, &mut body[..size]) != size {
         return Replayed::Broken;
     }
     let held = replay_cases::chart_holds(h, &body[..size], spare);
@@ -74,7 +48,7 @@ fn part_case(
     if part.len() < size {
         return Replayed::Broken;
     }
-    if read_full(file, &mut part[..size]) != size {
+    if reading::read_full(file, &mut part[..size]) != size {
         return Replayed::Broken;
     }
     let held = replay_cases::part_holds(chart, &body[..whole], h, &part[..size], spare);
@@ -92,7 +66,7 @@ fn next_case(
 ) -> Replayed
     ensures { CaseRead call r head.new body.old body.new part.new result }
 {
-    let got = read_full(file, head);
+    let got = reading::read_full(file, head);
     if got == 0 {
         return Replayed::End;
     }

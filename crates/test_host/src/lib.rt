@@ -52,8 +52,7 @@ pub extern "C" fn numeric_tenths(x: f64) -> i64
 pub extern "C" fn numeric_logistic(n: usize) -> f64
     ensures { result ≡ logistic_at n }
 {
-    let table = numeric::logistic::table();
-    numeric::logistic::logistic(&table, n)
+    numeric::logistic::LogisticTable::new().at(n)
 }
 
 #[unsafe(no_mangle)]

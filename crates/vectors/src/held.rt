@@ -66,7 +66,7 @@ pub fn bytes_held(s: &[u8], at: usize, n: usize, sentinel: u8, got: &[u8]) -> bo
         return false;
     }
     let mut want = [sentinel; MOST_PLACES];
-    lent::fill::copy_bytes(&s[at..at + n], &mut want);
+    lent::fill::copy(&s[at..at + n], &mut want);
     check::same(got, &want[..room])
 }
 

@@ -214,10 +214,37 @@ pub fn tree_names() -> BTreeSet<String> {
     all
 }
 
-/// The line that declares a function given as `crate::module::function`.
+/// The lines of the blocks `impl` and `trait` of a type, or all lines where no type is given.
+fn lines_of<'a>(text: &'a str, owner: Option<&str>) -> Vec<&'a str> {
+    let Some(owner) = owner else {
+        return text.lines().collect();
+    };
+    let mut inside = false;
+    let mut lines = Vec::new();
+    for line in text.lines() {
+        if line.starts_with("impl") || line.starts_with("pub trait") || line.starts_with("trait") {
+            inside = line
+                .split(|c: char| !c.is_alphanumeric() && c != '_')
+                .any(|word| word == owner);
+        } else if line == "}" {
+            inside = false;
+        }
+        if inside {
+            lines.push(line);
+        }
+    }
+    lines
+}
+
+/// The line that declares a function given as `crate::module::function`, or as `crate::module::Type::function`.
 pub fn declaration(function: &str) -> Option<String> {
     let parts: Vec<&str> = function.split("::").collect();
     let (name, modules) = parts.split_last()?;
+    let is_type = |part: &&str| part.starts_with(|c: char| c.is_uppercase());
+    let (owner, modules) = match modules.split_last() {
+        Some((last, inner)) if is_type(last) => (Some(*last), inner),
+        _ => (None, modules),
+    };
     let file = match modules {
         [krate] => format!("crates/{krate}/src/lib.rt"),
         [krate, inner @ ..] => format!("crates/{krate}/src/{}.rt", inner.join("/")),
@@ -232,5 +259,8 @@ pub fn declaration(function: &str) -> Option<String> {
                 .is_some_and(|rest| rest.starts_with(['(', '<']))
         })
     };
-    text.lines().find(declares).map(str::to_string)
+    lines_of(&text, owner)
+        .into_iter()
+        .find(declares)
+        .map(str::to_string)
 }

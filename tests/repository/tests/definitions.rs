@@ -7,13 +7,7 @@ use std::path::Path;
 use repository_tests::{defined, files_in, root};
 
 /// What every call has of its own: its lent slices, what they must be like, and what it leaves in them.
-const OF_EVERY_CALL: [&str; 5] = [
-    "Memory",
-    "answer_lengths",
-    "filled",
-    "judged",
-    "memory",
-];
+const OF_EVERY_CALL: [&str; 5] = ["Memory", "answer_lengths", "filled", "judged", "memory"];
 
 /// What the reader of letters and that of drills both define, until the letters program reads drills.
 const OF_BOTH_READERS: [&str; 9] = [

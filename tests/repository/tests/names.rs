@@ -39,7 +39,16 @@ const ORIGINAL: [&str; 14] = [
 ];
 
 /// Words of the kit, and of promises.
-const KIT: [&str; 6] = ["closest", "ensures", "old", "refl", "requires", "to_bits"];
+const KIT: [&str; 8] = [
+    "closest",
+    "copy_from_slice",
+    "ensures",
+    "old",
+    "refl",
+    "requires",
+    "sort_unstable_by",
+    "to_bits",
+];
 
 /// A variable, or kinds as letters.
 fn is_short_or_letters(name: &str) -> bool {

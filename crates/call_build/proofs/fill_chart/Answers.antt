@@ -26,5 +26,5 @@ returns c =
     let r = raw c.args.kind.now c.args.time.now in
     let m = memory c.args.built_kind.now c.args.start.now c.args.delta.now c.args.ratio.now in
     chart-filled _ r m c.requires.raw.size
-    (c.copy_bytes.ensures ∙ ap (λ (l : List ℕ). over l c.args.built_kind.now) (lent-kinds c.args.kind.now _ c.requires.raw.size))
+    (c.copy.ensures ∙ ap (λ (l : List ℕ). over l c.args.built_kind.now) (lent-kinds c.args.kind.now _ c.requires.raw.size))
     c.fill_starts.ensures c.fill_deltas.ensures c.fill_ratios.ensures

@@ -9,7 +9,7 @@ fill_values-requires c =
     let room = c.requires in
     record {
       sources =
-          record { steps = c.table-table.ensures; tabled = tabled room.regions c.encode_levels-k.ensures.tables; ratio = room.ratio };
+          record { tabled = tabled room.regions c.encode_levels-k.ensures.tables; ratio = room.ratio };
       room = room.values;
     }
 
@@ -17,4 +17,4 @@ pub returns : goal.returns
 returns c =
     let a = c.args in
     filled_is a.s _ (memory a.value.now a.work.now a.scratch.now) c.encode_levels-k.ensures.tables c.fill_values.ensures
-    c.clear.ensures c.clear_floats.ensures
+    c.front.ensures c.front-2.ensures

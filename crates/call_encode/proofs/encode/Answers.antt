@@ -22,8 +22,8 @@ encode_kinds-hits-requires c =
     kinds_room c.base-s.result ch m (is_permitted c.base-s.ensures)
     (verdict-judged ch (answer_lengths m) _ _ (short_joined (size ch) _ _) c.judge.ensures c.in-Accepted.is)
 
-pub clear_floats-requires : goal.clear_floats-requires
-clear_floats-requires c =
+pub front-requires : goal.front-requires
+front-requires c =
     let ch = chart c.args.kind.now c.args.start.now c.args.delta.now c.args.ratio.now in
     let a = c.args in
     let m = memory a.streak.now a.streak_place.now a.pattern.now a.pattern_place.now a.hit.now a.interval.now a.work.now a.scratch.now in
@@ -43,7 +43,7 @@ returns-in-Accepted c =
     let a = c.args in
     let m = memory a.streak.now a.streak_place.now a.pattern.now a.pattern_place.now a.hit.now a.interval.now a.work.now a.scratch.now in
     let set = c.base-s.result in
-    let f = filled_is set ch m c.encode_kinds-hits.ensures.filled c.clear_floats.ensures in
+    let f = filled_is set ch m c.encode_kinds-hits.ensures.filled c.front.ensures in
     done-outcome set ch m _ _ (verdict-judged ch (answer_lengths m) _ _ (short_joined (size ch) _ _) c.judge.ensures c.in-Accepted.is)
     c.encode_kinds-hits.ensures.count f
     ∙ ap (λ (x : Settings). encode_outcome x ch m) c.base-s.ensures

@@ -15,8 +15,8 @@ pub overflow_mul-n : goal.overflow_mul-n
 overflow_mul-n c =
     omega (arith, c.requires)
 
-pub clear-requires : goal.clear-requires
-clear-requires c =
+pub front-requires : goal.front-requires
+front-requires c =
     omega (arith, c.requires, c.encode_levels-k.ensures.tables.outside)
 
 pub returns : goal.returns
@@ -27,5 +27,5 @@ returns c =
     record {
       count = tables.count_h;
       filled =
-          encoded tables c.requires p.pattern p.streak p.streak_place q.pattern_place q.hit q.interval c.clear.ensures;
+          encoded tables c.requires p.pattern p.streak p.streak_place q.pattern_place q.hit q.interval c.front.ensures;
     }

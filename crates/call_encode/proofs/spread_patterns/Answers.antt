@@ -4,6 +4,7 @@ use Prim.Native.Nat.{◌*◌}
 use native.Mathlib.Omega.{arith}
 use lib.ListN.{length-take}
 use lib.Seq.{length-take-le}
+use Rattle.lent.proofs.FillLaws.{as_wide}
 use Rattle.lent.proofs.OverLaws.{lent_front}
 use Rattle.call_encode.proofs.SpreadLaws.{looked_up_lem, streak_front, streaks-inside}
 use Rattle.call_encode.proofs.spread_patterns.Goals as goal
@@ -20,7 +21,11 @@ slice_bounds-gather-end-3 c = sym (length-take-le _ _ (omega arith))
 pub gather-requires : goal.gather-requires
 gather-requires c =
     let r = c.requires in
-    (simp length-take (omega arith), streaks-inside r (streak_front r _ c.copy.ensures) (4 * c.args.n) (omega (arith, r)))
+    record {
+      room = simp length-take (omega arith);
+      inside = streaks-inside r (streak_front r _ c.copy.ensures) (4 * c.args.n) (omega (arith, r));
+      fit = λ _ _. tt;
+    }
 
 pub slice_bounds-gather-end-6 : goal.slice_bounds-gather-end-6
 slice_bounds-gather-end-6 c = sym (length-take-le _ _ (omega arith))
@@ -28,7 +33,11 @@ slice_bounds-gather-end-6 c = sym (length-take-le _ _ (omega arith))
 pub gather-requires-2 : goal.gather-requires-2
 gather-requires-2 c =
     let r = c.requires in
-    (simp length-take (omega arith), streaks-inside r (streak_front r _ c.copy.ensures) (3 * c.args.n) (omega (arith, r)))
+    record {
+      room = simp length-take (omega arith);
+      inside = streaks-inside r (streak_front r _ c.copy.ensures) (3 * c.args.n) (omega (arith, r));
+      fit = λ _ _. tt;
+    }
 
 pub returns : goal.returns
 returns c =
@@ -36,6 +45,6 @@ returns c =
     let f = streak_front c.requires _ c.copy.ensures in
     record {
       streak = rw (lent_front a.n a.work.now) at c.copy.ensures;
-      streak_place = looked_up_lem (4 * a.n) a.k.streaks a.work.now f _ c.gather.ensures;
-      pattern = looked_up_lem (3 * a.n) a.k.streaks a.work.now f _ c.gather-2.ensures;
+      streak_place = looked_up_lem (4 * a.n) a.k.streaks a.work.now f _ (as_wide _ _ c.gather.ensures);
+      pattern = looked_up_lem (3 * a.n) a.k.streaks a.work.now f _ (as_wide _ _ c.gather-2.ensures);
     }

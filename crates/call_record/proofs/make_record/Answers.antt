@@ -10,5 +10,5 @@ returns c =
       made =
           recorded a.s a.kind.now a.start.now a.delta.now a.g a.window e.found c.ratio-ratio.ensures c.canonical.ensures
           c.repeated_interval_penalty-penalty.ensures c.canonical-2.ensures;
-      cleared = cleared_is _ c.requires e.work e.rest c.clear.ensures c.clear_floats.ensures;
+      cleared = cleared_is _ c.requires e.work e.rest c.front.ensures c.front-2.ensures;
     }

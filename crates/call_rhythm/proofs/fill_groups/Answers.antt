@@ -14,5 +14,5 @@ returns c =
     record {
       counts = t.count;
       filled =
-          filled_is c.args.s c.requires t.count t.work t.scratch e.group e.pattern e.work c.clear.ensures c.clear_floats.ensures;
+          filled_is c.args.s c.requires t.count t.work t.scratch e.group e.pattern e.work c.front.ensures c.front-2.ensures;
     }

@@ -1,6 +1,5 @@
 -- What the evaluator asks of the encoder's tables, and what it reads there.
 use Rattle.std.specs.Prelude.{◌≡◌, ℕ, ◌<◌, List, length, get_or, Float}
-use Rattle.numeric.specs.Logistic.{logistic_table}
 use Rattle.grouping_colour.specs.MonoStreak.{streak_of}
 use Rattle.grouping_preprocessor.specs.Preprocessor.{alternating_of, hit_of}
 use Rattle.grouping_preprocessor.specs.passes.Steps.{Regions, Tables}
@@ -26,8 +25,7 @@ pub record NumbersAt (kinds : List ℕ) (k : Levels) (i : ℕ) (r : Numbers) : T
   pub in_patterns : r.pattern < k.patterns
   pub in_hits : r.hit < k.hits
 
--- what the values are made of: T, the encoder's tables, and a ratio for each object
-pub record Sources (table : List Float) (kinds : List ℕ) (ratios : List Float) (w : List ℕ) (k : Levels) : Type 0 where
-  pub steps : table ≡ logistic_table
+-- what the values are made of: the encoder's tables, and a ratio for each object
+pub record Sources (kinds : List ℕ) (ratios : List Float) (w : List ℕ) (k : Levels) : Type 0 where
   pub tabled : Tabled kinds w k
   pub ratio : length ratios ≡ length kinds

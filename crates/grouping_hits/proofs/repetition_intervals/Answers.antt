@@ -4,7 +4,7 @@ use Rattle.grouping_hits.proofs.IntervalLaws.{search_start, search_turn, search_
 use Rattle.grouping_hits.proofs.repetition_intervals.Goals as goal
 
 pub loop-k-init : goal.loop-k-init
-loop-k-init c = search_start _ _ _ _ _ c.args.limit.some c.requires (rw c.len.ensures at c.store_all.ensures)
+loop-k-init c = search_start _ _ _ _ _ c.args.limit.some c.requires (rw c.len.ensures at c.front.ensures)
 
 pub loop-k-preserved : goal.loop-k-preserved
 loop-k-preserved c = search_turn _ _ _ _ _ c.loop-k.invariant (omega arith) (omega arith) c.take_matches.ensures

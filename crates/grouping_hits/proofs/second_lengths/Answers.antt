@@ -1,13 +1,8 @@
--- A turn stores one more.
-use native.Mathlib.Omega.{arith}
-use Rattle.grouping_hits.proofs.HitLaws.{seconds_start, seconds_turn, seconds_end}
+-- Each place takes the second length of its pattern.
+use borrow.Author.Rules.{rules}
+use Rattle.grouping_hits.specs.RepeatingHitPatterns.{second_at, second_lengths}
 use Rattle.grouping_hits.proofs.second_lengths.Goals as goal
 
-pub loop-i-init : goal.loop-i-init
-loop-i-init c = seconds_start _ _ _ c.requires.room
-
-pub loop-i-preserved : goal.loop-i-preserved
-loop-i-preserved c = seconds_turn _ _ c.loop-i.invariant c.loop-i-test.true c.second_at.ensures
-
 pub returns : goal.returns
-returns c = seconds_end _ _ c.loop-i.invariant (omega arith)
+unfolding second_lengths
+returns c = c.by_place.ensures (second_at c.args.lengths.now c.args.marks.now) (λ i given h e. search rules)

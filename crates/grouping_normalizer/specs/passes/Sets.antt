@@ -1,5 +1,5 @@
--- Where a set of the normaliser ends. The law that ties it to the sets is `sets_at`, in proofs/SetLaws.antt.
-use Rattle.std.specs.Prelude.{◌≡◌, ℕ, suc, ◌+◌, ◌≤◌, ◌<◌, cond, List, [], ◌∷◌, length, drop, get_or, Float}
+-- How long a set of the normaliser is. The law that ties it to the sets is `sets_front`, in proofs/SetLaws.antt.
+use Rattle.std.specs.Prelude.{◌≡◌, ℕ, suc, ◌≤◌, ◌<◌, cond, List, [], ◌∷◌, length, drop, get_or, Float}
 use Rattle.std.specs.Float.{nan}
 use Rattle.numeric.specs.Near.{is_near}
 
@@ -8,12 +8,12 @@ unfoldable pub running : Float → Float → List Float → ℕ
 running margin first [] = 0
 running margin first (v ∷ values) = cond (is_near margin v first) (suc (running margin first values)) 0
 
--- the position after the set that starts at position `at`
-unfoldable pub set_end : Float → List Float → ℕ → ℕ
-set_end margin values at = at + 1 + running margin (get_or values at nan) (drop (at + 1) values)
+-- how many values the set in front has: the first one, and those behind it that are near it
+unfoldable pub set_len : Float → List Float → ℕ
+set_len margin values = suc (running margin (get_or values 0 nan) (drop 1 values))
 
--- what `set_end` promises: that position, and that the set has a value at least
-pub record SetEnd (margin : Float) (values : List Float) (at r : ℕ) : Type 0 where
-  pub position : r ≡ set_end margin values at
-  pub on : at < r
+-- what `set_len` promises: that number, and that the set has a value at least
+pub record SetLen (margin : Float) (values : List Float) (r : ℕ) : Type 0 where
+  pub number : r ≡ set_len margin values
+  pub some : 0 < r
   pub upto : r ≤ length values

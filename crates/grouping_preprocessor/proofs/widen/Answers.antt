@@ -1,15 +1,15 @@
--- A turn stores one more.
-use native.Mathlib.Omega.{arith}
-use mathlib.Core.Path.{refl, sym, ◌∙◌}
-use Rattle.lent.proofs.FillLaws.{fill_start_front, fill_turn_front, fill_end_front}
+-- Each place takes its kind.
+use Rattle.std.proofs.Common.{sym, ap, ◌∙◌, rules}
+use lib.ListN.{length, get_or}
+use Rattle.lent.specs.Over.{over}
+use Rattle.lent.proofs.FillLaws.{tabulate_places}
 use Rattle.lent.proofs.PieceLaws.{over_whole}
+use mathlib.Core.Path.{refl}
 use Rattle.grouping_preprocessor.proofs.widen.Goals as goal
 
-pub loop-i-init : goal.loop-i-init
-loop-i-init c = fill_start_front _ _ _ refl (omega arith)
-
-pub loop-i-preserved : goal.loop-i-preserved
-loop-i-preserved c = fill_turn_front 0 c.loop-i.invariant c.loop-i-test.true c.from.ensures
-
 pub returns : goal.returns
-returns c = fill_end_front c.loop-i.invariant c.loop-i-test.false ∙ over_whole _ _ (sym c.requires)
+returns c =
+    let kinds = c.args.kind.now in
+    c.by_place.ensures (λ i. get_or kinds i 0) (λ i given h e. search rules)
+    ∙ ap (λ l. over l c.args.wide.now) (tabulate_places kinds 0 (length kinds) refl)
+    ∙ over_whole kinds c.args.wide.now (sym c.requires)

@@ -14,4 +14,4 @@ pub returns-in-Done : goal.returns-in-Done
 returns-in-Done c =
     answers-objects c.trimmed_length-n.ensures c.if-n-gt-MOST_BYTES.false c.read_text.ensures _ _ c.in-Done.is
     (omega (arith, c.read_text.auto.kinds, text_few c.read_text.ensures c.in-Done.is))
-    c.copy_bytes.ensures
+    c.copy.ensures

@@ -1,28 +1,26 @@
 -- `write_lines` meets its contract: by the laws of a walk over the objects.
-use Rattle.std.proofs.Common.{arith}
-use Rattle.letters_text.proofs.LinesLaws.{lines_none, first_room, lines-start, lines_room, lines_turn, last_room, lines-end}
+use Rattle.std.proofs.Common.{sym, append-nil, rules, arith}
+use Rattle.letters_text.specs.Lines.{columns_of}
+use Rattle.letters_text.proofs.LinesLaws.{lines_none, first_room, walk_start, next_room, walk_turn, last_room, walk_end}
 use Rattle.letters_text.proofs.write_lines.Goals as goal
 
 pub returns-then-n-eq0 : goal.returns-then-n-eq0
-returns-then-n-eq0 c = lines_none _ _ c.if-n-eq0.true
+returns-then-n-eq0 g c = rw (lines_none (columns_of c.args.columns.now) c.if-n-eq0.true) (sym (append-nil _))
 
-pub put_first-to-requires : goal.put_first-to-requires
-put_first-to-requires c = first_room _ (omega arith) c.object_at-last.ensures c.requires
+pub put_first-requires : goal.put_first-requires
+put_first-requires g c = (search rules, first_room _ (omega arith) c.object-last.ensures c.requires)
 
 pub loop-i-init : goal.loop-i-init
-loop-i-init c = lines-start _ (omega arith) c.object_at-last.ensures c.requires c.put_first-to.ensures
+loop-i-init g c = walk_start _ (omega arith) c.object-last.ensures c.put_first.ensures
 
-pub put_next-to-requires : goal.put_next-to-requires
-put_next-to-requires c = lines_room c.loop-i.invariant c.loop-i-test.true c.object_at-next.ensures
+pub put_next-requires : goal.put_next-requires
+put_next-requires g c = (search rules, next_room c.loop-i.invariant c.loop-i-test.true c.object-next.ensures c.requires)
 
 pub loop-i-preserved : goal.loop-i-preserved
-loop-i-preserved c =
-    lines_turn c.loop-i.invariant c.loop-i-test.true c.object_at-next.ensures c.put_next-to.ensures
+loop-i-preserved g c = walk_turn c.loop-i.invariant c.loop-i-test.true c.object-next.ensures c.put_next.ensures
 
-pub put_byte-requires : goal.put_byte-requires
-put_byte-requires c = last_room c.loop-i.invariant c.loop-i-test.false
+pub push-requires : goal.push-requires
+push-requires g c = (search rules, last_room c.loop-i.invariant c.loop-i-test.false c.requires)
 
 pub returns : goal.returns
-returns c =
-    lines-end c.loop-i.invariant c.loop-i-test.false (omega arith) c.object_at-last.ensures c.put_first-to.ensures
-    c.put_byte.ensures
+returns g c = walk_end c.loop-i.invariant c.loop-i-test.false (c.push.ensures.ascii (omega arith))

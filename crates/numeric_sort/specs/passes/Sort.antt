@@ -1,21 +1,10 @@
--- What the steps of `sort` answer before heap sort is asked: whether the values rise, and whether they fall. Values
--- that fall are turned round by exchanges, and tested: nothing is promised of where each one then stands.
-use Rattle.std.specs.Prelude.{Bool, true, not, ◌&&◌, List, [], ◌∷◌, Float}
+-- What `sort` compares by: the total order, and after all values that it has a place for, the NaN.
+use Rattle.std.specs.Prelude.{◌||◌, if◌then◌else◌, is_nan, Float}
+use Rattle.std.specs.Ordering.{bool_cmp}
+use Rattle.std.specs.declared.cmp.Ordering.{Ordering}
 use Rattle.numeric.specs.TotalOrder.{total_order}
 
--- the test holds of each value and the next one
-unfoldable pub neighbours : (Float → Float → Bool) → List Float → Bool
-neighbours test [] = true
-neighbours test (x ∷ []) = true
-neighbours test (x ∷ y ∷ ys) = test x y && neighbours test (y ∷ ys)
-
--- each value stands at or before the next one
-unfoldable pub rising : List Float → Bool
-rising values = neighbours total_order values
-
-unfoldable pub behind : Float → Float → Bool
-behind x y = not (total_order x y)
-
--- each value stands behind the next one
-unfoldable pub falling : List Float → Bool
-falling values = neighbours behind values
+-- x is less where y does not stand at or before it, and equal where each stands at or before the other
+abbrev pub comparison : Float → Float → Ordering
+comparison x y =
+    if is_nan x || is_nan y then bool_cmp (is_nan x) (is_nan y) else bool_cmp (total_order y x) (total_order x y)

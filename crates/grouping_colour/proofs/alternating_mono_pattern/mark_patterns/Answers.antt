@@ -1,13 +1,8 @@
--- A turn stores one more.
-use native.Mathlib.Omega.{arith}
-use Rattle.grouping_colour.proofs.PatternLaws.{marks_start, marks_turn, marks_end}
+-- Each place takes the mark of its streak.
+use borrow.Author.Rules.{rules}
+use Rattle.grouping_colour.specs.AlternatingMonoPattern.{opens_pattern, pattern_marks}
 use Rattle.grouping_colour.proofs.alternating_mono_pattern.mark_patterns.Goals as goal
 
-pub loop-i-init : goal.loop-i-init
-loop-i-init c = marks_start _ _ c.requires
-
-pub loop-i-preserved : goal.loop-i-preserved
-loop-i-preserved c = marks_turn _ c.loop-i.invariant c.loop-i-test.true c.opens_pattern.ensures
-
 pub returns : goal.returns
-returns c = marks_end _ c.loop-i.invariant (omega arith)
+unfolding pattern_marks
+returns c = c.by_place.ensures (opens_pattern c.args.lengths.now) (λ i given h e. search rules)

@@ -1,0 +1,33 @@
+// The widths that a number of a table may have in the slice where it is looked up to.
+ghost use Rattle.std.specs.Prelude.{◌≡◌, ℕ, ◌<◌, ⊤};
+
+pub trait Narrow: Copy {
+    // Whether a number is one of this width.
+    ghost Fits: { ℕ → Type 0 };
+
+    ghost narrowed: { ℕ → Self };
+
+    fn narrow(x: u16) -> Self
+        requires { Fits x }
+        ensures { result ≡ narrowed x };
+}
+
+impl Narrow for u16 {
+    ghost Fits = { λ _. ⊤ };
+
+    ghost narrowed = { λ x. x };
+
+    fn narrow(x: u16) -> u16 {
+        x
+    }
+}
+
+impl Narrow for u8 {
+    ghost Fits = { λ x. x < 256 };
+
+    ghost narrowed = { λ x. x };
+
+    fn narrow(x: u16) -> u8 {
+        x as u8
+    }
+}
