@@ -13,6 +13,7 @@ use grouping_chart::refusal::Verdict;
 use grouping_chart::room::judge;
 use grouping_chart::settings;
 use grouping_chart::settings::Settings;
+use grouping_hits::limit::SearchLimit;
 use lent::fill;
 use numeric::logistic::LogisticTable;
 
@@ -46,7 +47,10 @@ fn fill_chart(
         (memory value.old work.old scratch.old) }
 {
     let n = kind.len();
-    let k = grouping_preprocessor::encode_levels(kind, work, s.limit as u16);
+    let limit = SearchLimit {
+        value: s.limit as u16,
+    };
+    let k = grouping_preprocessor::encode_levels(kind, work, limit);
     let table = LogisticTable::new();
     evaluator_values::fill_values(&table, kind, ratio, work, k, s.tolerance, value);
     fill::front(work, 8 * n, 0);

@@ -66,7 +66,6 @@ module _ (s : Settings) (c : Chart) (m : Memory) where
         hit = r.long.1.1.1.1.0;
         interval = r.long.1.1.1.1.1.0;
         work = r.regions;
-        some = omega (arith, p.least);
         bytes = omega (arith, p.most);
       }
 

@@ -15,6 +15,7 @@ use grouping_chart::object::ObjectIndex;
 use grouping_chart::refusal::Verdict;
 use grouping_chart::room::judge;
 use grouping_chart::settings;
+use grouping_hits::limit::SearchLimit;
 use grouping_preprocessor::Levels;
 use lent::fill;
 
@@ -73,7 +74,7 @@ fn spread_hits(
 // The six numbers of each object, by the kinds alone, under a search limit. The result is the number of hit patterns.
 pub fn encode_kinds(
     kind: &[u8],
-    limit: u16,
+    limit: SearchLimit,
     streak: &mut [u16],
     streak_place: &mut [u16],
     pattern: &mut [u16],
@@ -82,12 +83,12 @@ pub fn encode_kinds(
     interval: &mut [u8],
     work: &mut [u16],
 ) -> usize
-    requires { KindsRoom (length kind.now) limit
+    requires { KindsRoom (length kind.now) limit.value
         (kinds_memory streak.old streak_place.old pattern.old pattern_place.old hit.old interval.old work.old) }
     ensures count { result ≡ hit_count kind.now }
     ensures filled { kinds_memory streak.new streak_place.new pattern.new pattern_place.new hit.new interval.new
         work.new
-        ≡ encoded_kinds limit kind.now
+        ≡ encoded_kinds limit.value kind.now
         (kinds_memory streak.old streak_place.old pattern.old pattern_place.old hit.old interval.old work.old) }
 {
     let n = kind.len();
@@ -128,10 +129,12 @@ pub fn encode(
         Verdict::Refused(number, place) => Encoding::Refused(number, place),
         Verdict::Accepted => {
             let s = settings::base();
-            let m = s.limit as u16;
+            let limit = SearchLimit {
+                value: s.limit as u16,
+            };
             let hits = encode_kinds(
                 kind,
-                m,
+                limit,
                 streak,
                 streak_place,
                 pattern,

@@ -1,20 +1,18 @@
 -- The two passes over regions of the work slice: of the notes the marks, then the firsts by them, then the numbers in the marks' places; of the groups what is
 -- lent of the work slice, written whole and put back.
 use mathlib.Core.Path.{◌≡◌, refl, sym, ap, ◌∙◌}
-use mathlib.Core.Logic.{inl, inr}
 use mathlib.Core.List.{List, [], ◌∷◌, ◌++◌}
 use Prim.Native.Nat.{ℕ, ◌+◌, ◌-◌, ◌*◌, ◌≤◌}
 use native.Mathlib.Omega.{arith}
-use lib.ListN.{length, take, drop, get_or}
-use lib.Seq.{length-take-le}
+use lib.ListN.{length, take, drop, get_or, take-append-drop}
+use lib.Seq.{length-take-le, drop-drop, take-take}
 use lib.Ieee.{Float}
 use Rattle.lent.specs.Over.{over, put, part, written}
 use Rattle.grouping_marks.specs.Marks.{group_count, group_numbers, group_firsts}
 use Rattle.grouping_marks.specs.Parted.{parted}
-use Rattle.lent.specs.passes.Regions.{Room}
-use Rattle.lent.proofs.OverLaws.{length-over, front, length-part, get_or-part, lent-part, lent_front}
-use Rattle.lent.proofs.OverLaws.{length-put, part-put_same, part-put_before, part-put_after, put_nothing, put_twice, put_swap}
-use Rattle.lent.proofs.PieceLaws.{put-back}
+use Rattle.lent.proofs.OverLaws.{length-over, front, length-part, lent-part}
+use Rattle.lent.proofs.OverLaws.{length-put, take-put, drop-put, part-put_same, part-put_before, put_nothing}
+use Rattle.lent.proofs.PieceLaws.{put-back, put_piece, put_piece₂, over_whole, part_then}
 use Rattle.grouping_marks.proofs.MarksLaws.{length-numbers, count_le, count_none}
 use Rattle.grouping_marks.proofs.MarksLaws.{length-firsts as length-firsts-of}
 use Rattle.grouping_marks.proofs.NumberLaws.{number_last}
@@ -70,72 +68,68 @@ module _ (margin : Float) (deltas : List Float) (n : ℕ) (work₀ : List ℕ) (
       nothing [] h = refl
       nothing (x ∷ l) h = absurd (omega arith)
 
-  -- ---- the marks are in region 2
-  module _ (work₁ : List ℕ) (marked : work₁ ≡ put (2 * n) marks work₀) where
+  -- ---- taken apart, with the marks in region 2: the objects, region 1, the marks and what follows
+  module _ (work₁ : List ℕ) (marked : work₁ ≡ put (2 * n) marks work₀) (front back : List ℕ) (o : front ≡ take n work₁) (b : back ≡ drop n work₁)
+      (region rest : List ℕ) (f : region ≡ take n back) (t : rest ≡ drop n back) where
     long₁ : length work₁ ≡ length work₀
     long₁ = ap length marked ∙ length-put (2 * n) marks work₀ (omega (arith, marked_each, r))
 
-    pub firsts_room : Room work₁ (2 * n) (length deltas) n × Room work₁ 0 (length deltas) n
-    firsts_room = (
-      record { few = omega (arith, r); read = omega (arith, long₁, r); write = omega (arith, long₁, r); clear = inr (omega arith) },
-      record {
-        few = omega (arith, r.few, r.notes);
-        read = omega (arith, long₁, r);
-        write = omega (arith, long₁, r);
-        clear = inl (omega (arith, r));
-      },
-    )
+    front_is : front ≡ take n work₀
+    front_is = o ∙ ap (take n) marked ∙ take-put n (2 * n) marks work₀ (omega arith) (omega (arith, r))
 
-    marks₁ : part (2 * n) (length deltas) work₁ ≡ marks
-    marks₁ = ap (part (2 * n) (length deltas)) marked ∙ part-put_same (2 * n) (length deltas) marks work₀ marked_each (omega (arith, r))
+    region_is : region ≡ part n n work₀
+    unfolding part
+    region_is = rw (f, b, marked) (part-put_before n n (2 * n) marks work₀ (omega arith) (omega (arith, r)))
 
-    objects₁ : part 0 (length deltas) work₁ ≡ objects
-    objects₁ =
-        ap (part 0 (length deltas)) marked
-        ∙ part-put_before 0 (length deltas) (2 * n) marks work₀ (omega (arith, r)) (omega (arith, r))
-        ∙ sym (lent_front (length deltas) work₀)
+    rest_is : rest ≡ drop (2 * n) work₁
+    rest_is = let k : n + n ≡ 2 * n = omega arith in rw (t, b, drop-drop, k)
 
-    -- ---- and the firsts in region 1
-    module _ (work₂ : List ℕ) (listed : work₂ ≡ put n (group_firsts (part (2 * n) (length deltas) work₁) (part 0 (length deltas) work₁)) work₁) where
-      written₂ : work₂ ≡ put n firsts work₁
-      written₂ = rw (marks₁, objects₁, firsts-parted marks objects) at listed
+    pub marks_are : take (length deltas) rest ≡ marks
+    unfolding part
+    marks_are = rw (rest_is, marked) (part-put_same (2 * n) (length deltas) marks work₀ marked_each (omega (arith, r)))
 
-      long₂ : length work₂ ≡ length work₀
-      long₂ = ap length written₂ ∙ length-put n firsts work₁ (omega (arith, firsts-few, long₁, r)) ∙ long₁
+    behind_is : drop (length deltas) rest ≡ drop (2 * n + length deltas) work₀
+    behind_is = rw (rest_is, drop-drop, marked) (drop-put (2 * n + length deltas) (2 * n) marks work₀ (omega (arith, marked_each)))
 
-      pub numbers_room : Room work₂ (2 * n) (length deltas) (2 * n)
-      numbers_room = record { few = omega (arith, r); read = omega (arith, long₂, r); write = omega (arith, long₂, r); clear = inr (omega arith) }
+    pub objects_are : take (length deltas) front ≡ objects
+    objects_are = rw (front_is, take-take (length deltas) n work₀ (omega (arith, r)))
 
-      marks₂ : part (2 * n) (length deltas) work₂ ≡ marks
-      marks₂ = ap (part (2 * n) (length deltas)) written₂ ∙ part-put_after (2 * n) (length deltas) n firsts work₁ (omega (arith, firsts-few, r)) ∙ marks₁
+    -- ---- the firsts are listed in region 1, and the numbers are in the marks' places
+    module _ (firsts₁ : List ℕ) (listed : firsts₁ ≡ over (group_firsts (take (length deltas) rest) (take (length deltas) front)) region) (numbers : List ℕ)
+        (counted : numbers ≡ group_numbers (take (length deltas) rest)) where
+      numbers_are : numbers ≡ group_numbers marks
+      numbers_are = rw marks_are at counted
 
-      -- ---- and the numbers in the marks' places
-      module _ (work₃ : List ℕ) (counted : work₃ ≡ put (2 * n) (group_numbers (part (2 * n) (length deltas) work₂)) work₂) where
-        abbrev below : List ℕ
-        below = put n firsts work₀
+      firsts_are : firsts₁ ≡ over firsts (part n n work₀)
+      firsts_are = rw (marks_are, objects_are, firsts-parted marks objects, region_is) at listed
 
-        long_below : length below ≡ length work₀
-        long_below = length-put n firsts work₀ (omega (arith, firsts-few, r))
+      -- the work slice as it was, in the same pieces
+      whole : work₀ ≡ take n work₀ ++ (part n n work₀ ++ (part (2 * n) (length deltas) work₀ ++ drop (2 * n + length deltas) work₀))
+      whole =
+          let k : n + n ≡ 2 * n = omega arith in
+          let second : part n n work₀ ++ drop (2 * n) work₀ ≡ drop n work₀ = rw (← k) (part_then n n work₀) in
+          rw (part_then (2 * n) (length deltas) work₀, second) (sym (take-append-drop n work₀))
 
-        written₃ : work₃ ≡ put (2 * n) (group_numbers marks) below
-        written₃ =
-            rw (marks₂, written₂, marked) at counted
-            ∙ ap (put (2 * n) (group_numbers marks)) (put_swap n (2 * n) firsts marks work₀ (omega (arith, firsts-few, r)) (omega (arith, r)))
-            ∙ put_twice (2 * n) marks (group_numbers marks) below (sym (length-numbers marks))
-            (omega (arith, long_below, length-group-numbers margin deltas, r))
+      written_is : front ++ (firsts₁ ++ (numbers ++ drop (length deltas) rest)) ≡ written (numbers_writes n marks objects) work₀
+      written_is =
+          let fits : length firsts ≤ length (part n n work₀) = omega (arith, firsts-few, length-part n n work₀ (omega (arith, r)), r) in
+          let each : length (group_numbers marks) ≡ length (part (2 * n) (length deltas) work₀) =
+          length-group-numbers margin deltas ∙ sym (length-part (2 * n) (length deltas) work₀ (omega (arith, r))) in
+          let two : length (take n work₀) + length (over firsts (part n n work₀)) ≡ 2 * n =
+          omega (arith, length-take-le n work₀ (omega (arith, r)), length-over firsts (part n n work₀) fits, length-part n n work₀ (omega (arith, r))) in
+          rw (front_is, firsts_are, numbers_are, behind_is)
+          (sym (ap (λ (w : List ℕ). put (2 * n) (group_numbers marks) (put n firsts w)) whole
+          ∙ ap (put (2 * n) (group_numbers marks)) (put_piece n _ _ _ firsts (length-take-le n work₀ (omega (arith, r))) fits)
+          ∙ put_piece₂ (2 * n) _ _ _ _ (group_numbers marks) two (omega (arith, each))
+          ∙ ap (λ (l : List ℕ). take n work₀ ++ (over firsts (part n n work₀) ++ (l ++ drop (2 * n + length deltas) work₀)))
+          (over_whole (group_numbers marks) _ each)))
 
-        -- the last number is one less than the count
-        pub notes_numbered : (k : ℕ) → (length deltas ≡ 0 → ⊥) → k ≡ get_or work₃ (2 * n + length deltas - 1) 0
-            → (k + 1 ≡ group_count marks) × (work₃ ≡ written (numbers_writes n marks objects) work₀)
-        notes_numbered k some e =
-            let i : ℕ = length deltas - 1 in
-            let at : 2 * n + length deltas - 1 ≡ 2 * n + i = omega arith in
-            let numbers : part (2 * n) (length deltas) work₃ ≡ group_numbers marks =
-            ap (part (2 * n) (length deltas)) written₃
-            ∙ part-put_same (2 * n) (length deltas) (group_numbers marks) below (length-group-numbers margin deltas) (omega (arith, long_below, r)) in
-            let last : get_or work₃ (2 * n + i) 0 ≡ get_or (group_numbers marks) i 0 =
-            sym (get_or-part (2 * n) (length deltas) work₃ i 0 (omega arith)) ∙ rw numbers in
-            (rw (e, at, last) (number_last marks i (omega (arith, marked_each))), written₃)
+      -- the last number is one less than the count
+      pub notes_numbered : (k : ℕ) → (length deltas ≡ 0 → ⊥) → k ≡ get_or numbers (length deltas - 1) 0
+          → (k + 1 ≡ group_count marks) × (front ++ (firsts₁ ++ (numbers ++ drop (length deltas) rest)) ≡ written (numbers_writes n marks objects) work₀)
+      notes_numbered k some e =
+          let i : ℕ = length deltas - 1 in
+          (rw (e, numbers_are) (number_last marks i (omega (arith, marked_each))), written_is)
 
 -- ---- the groups' patterns
 

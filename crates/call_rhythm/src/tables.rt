@@ -38,9 +38,12 @@ pub fn number_notes(deltas: &[f64], margin: f64, work: &mut [u16], n: usize) -> 
         return 0;
     }
     mark_intervals(deltas, margin, work, 2 * n);
-    group_firsts(work, 2 * n, notes, 0, n);
-    group_numbers(work, 2 * n, notes, 2 * n);
-    as_usize(work[2 * n + notes - 1]) + 1
+    let (objects, rest) = work.split_at_mut(n);
+    let (firsts, rest) = rest.split_at_mut(n);
+    let numbers = &mut rest[..notes];
+    group_firsts(numbers, &objects[..notes], firsts);
+    group_numbers(numbers);
+    as_usize(numbers[notes - 1]) + 1
 }
 
 // Fills region 3, from the intervals, which are put in the scratch slice. The result is how many pattern groups there

@@ -4,4 +4,3 @@ pub mod StreakListLaws
 pub mod StreakCutLaws
 pub mod PatternCutLaws
 mod StreakLaws
-mod PatternLaws

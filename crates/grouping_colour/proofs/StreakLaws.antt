@@ -2,12 +2,12 @@
 use mathlib.Core.Path.{◌≡◌, refl, sym, ap, ◌∙◌}
 use mathlib.Core.Bool.{Bool, true, false, cond}
 use mathlib.Core.List.{List, [], ◌∷◌}
-use Prim.Native.Nat.{ℕ, ◌+◌, ◌<◌}
+use Prim.Native.Nat.{ℕ, ◌+◌, ◌≤◌, ◌<◌}
 use native.Mathlib.Omega.{arith}
 use lib.Dec.{eqb}
 use lib.ListN.{length, take, get_or}
 use lib.Seq.{ext_get_or}
-use Rattle.lent.specs.Over.{put}
+use Rattle.lent.specs.Over.{over}
 use Rattle.lent.specs.Scan.{scan, end_state, tabulate}
 use Rattle.lent.proofs.ScanLaws.{length-scan}
 use Rattle.lent.proofs.WalkLaws.{after_none, after_first, get_or-scan}
@@ -44,8 +44,8 @@ streak_marks_scan kinds =
     get_or-tabulate (opens_streak kinds) (length kinds) i 0 r ∙ opens_seen_lem kinds i ∙ sym (get_or_seen seen₀ kinds i r))
 
 -- the marks that the walk stored
-pub marks_stored : (to : ℕ) (kinds w₀ w : List ℕ) → w ≡ put to (scan seen_next opens_seen seen₀ kinds) w₀ → w ≡ put to (streak_marks kinds) w₀
-marks_stored to kinds w₀ w e = rw (streak_marks_scan kinds) e
+pub marks_stored : (kinds w₀ w : List ℕ) → w ≡ over (scan seen_next opens_seen seen₀ kinds) w₀ → w ≡ over (streak_marks kinds) w₀
+marks_stored kinds w₀ w e = rw (streak_marks_scan kinds) e
 
 -- ---- a step of the walk, as the code takes it: by the note's number, the last note's kind, and the two as they are after the object
 
@@ -71,9 +71,9 @@ seen_moves next last k next' last' n l =
     λ i. record { notes = n' i; last = l' i }
 
 -- the walk never counts more notes than objects
-pub seen_few : (next k next' i : ℕ) → next' ≡ cond (is_note k) (next + 1) next → next < i + 1 → next' < i + 1 + 1
+pub seen_few : (next k next' i : ℕ) → next' ≡ cond (is_note k) (next + 1) next → next ≤ i → next' ≤ i + 1
 seen_few next k next' i e h = rw e (by (is_note k))
   where
-    by : (b : Bool) → cond b (next + 1) next < i + 1 + 1
+    by : (b : Bool) → cond b (next + 1) next ≤ i + 1
     by true = omega arith
     by false = omega arith

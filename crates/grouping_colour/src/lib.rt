@@ -1,4 +1,4 @@
-// The colour encoder's first two levels, streaks and alternating patterns, inside one work slice.
+// The colour encoder's first two levels, streaks and alternating patterns.
 #![tactic(auto)]
 
 pub mod alternating_mono_pattern;

@@ -4,7 +4,7 @@ pub mod LengthLaws
 pub mod RangeLaws
 pub mod SearchLaws
 pub mod HitCutLaws
-pub mod IntervalCutLaws
 mod HitLaws
 mod IntervalLaws
 mod Examples
+pub mod IntervalCutLaws

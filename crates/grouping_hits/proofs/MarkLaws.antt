@@ -1,5 +1,5 @@
--- The pass over the coupled flags makes the marks of the definition. At stage 0 the open hit pattern takes no more patterns,
--- at stage 1 the coupled ones ahead and two more, at stage 2 one.
+-- The pass over the coupled flags makes the marks of the definition. Where none is open no more patterns are taken, behind
+-- coupled ones the coupled ones ahead and two more, behind the first uncoupled one one more.
 use mathlib.Core.Path.{◌≡◌, refl}
 use mathlib.Core.Bool.{Bool, true, false}
 use mathlib.Core.List.{List, [], ◌∷◌, ◌++◌, map}
@@ -12,19 +12,20 @@ use Rattle.lent.specs.Scan.{scan}
 use Rattle.lent.proofs.WalkLaws.{scan_none, scan_first}
 use Rattle.grouping_hits.specs.RepeatingHitPatterns.{coupled_run, hit_size, hit_marks_after, hit_marks}
 use Rattle.grouping_hits.specs.passes.Stages.{stage_after, opens_hit}
+use Rattle.grouping_hits.specs.declared.Stage.TheVariants.{Closed, Coupled, Uncoupled}
 
 -- what the pass writes from each stage on
 record FromStages (flags : List ℕ) : Type 0 where
-  none : scan stage_after opens_hit 0 flags ≡ hit_marks_after 0 flags
-  run : scan stage_after opens_hit 1 flags ≡ hit_marks_after (coupled_run flags + 2) flags
-  last : scan stage_after opens_hit 2 flags ≡ hit_marks_after 1 flags
+  none : scan stage_after opens_hit Closed flags ≡ hit_marks_after 0 flags
+  run : scan stage_after opens_hit Coupled flags ≡ hit_marks_after (coupled_run flags + 2) flags
+  last : scan stage_after opens_hit Uncoupled flags ≡ hit_marks_after 1 flags
 
 from_stages : (flags : List ℕ) → FromStages flags
 unfolding stage_after opens_hit coupled_run hit_size hit_marks_after
 from_stages [] = record {
-  none = scan_none stage_after opens_hit 0;
-  run = scan_none stage_after opens_hit 1;
-  last = scan_none stage_after opens_hit 2;
+  none = scan_none stage_after opens_hit Closed;
+  run = scan_none stage_after opens_hit Coupled;
+  last = scan_none stage_after opens_hit Uncoupled;
 }
 from_stages (c ∷ cs) = by (from_stages cs) (eqb c 0) refl
   where
@@ -46,7 +47,7 @@ from_stages (c ∷ cs) = by (from_stages cs) (eqb c 0) refl
       last = rw (scan_first, f.none);
     }
 
-pub hit_marks-scan : (flags : List ℕ) → scan stage_after opens_hit 0 flags ≡ hit_marks flags
+pub hit_marks-scan : (flags : List ℕ) → scan stage_after opens_hit Closed flags ≡ hit_marks flags
 unfolding hit_marks
 hit_marks-scan flags = (from_stages flags).none
 

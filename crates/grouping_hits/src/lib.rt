@@ -1,43 +1,60 @@
 // Hit patterns: which patterns open one, and each hit pattern's repetition interval.
 #![tactic(auto)]
 
-ghost use Rattle.std.specs.Prelude.{◌≡◌, cond, ◌≤◌, ◌<◌, eqb};
-ghost use Rattle.lent.specs.Over.{put, part};
-ghost use Rattle.lent.specs.passes.Regions.{Room, Pair, PairApart, TripleApart};
-ghost use Rattle.grouping_hits.specs.RepeatingHitPatterns.{hit_marks, second_at, second_lengths};
-ghost use Rattle.grouping_hits.specs.passes.Stages.{stage_after, opens_hit, taken_in, intervals_in};
+ghost use Rattle.std.specs.Prelude.{◌≡◌, cond, ◌≤◌, ◌<◌, eqb, length};
+ghost use Rattle.lent.specs.Over.{over};
+ghost use Rattle.grouping_hits.specs.RepeatingHitPatterns.{hit_marks, second_at, second_lengths, intervals};
+ghost use Rattle.grouping_hits.specs.passes.Stages.{stage_after, opens_hit, matches_taken};
 
-use grouping_marks::alike::alike_at;
+pub mod limit;
+
+use grouping_marks::alike::Features;
 use lent::fill;
+use limit::SearchLimit;
 
-fn stage_after(stage: u16, coupled: u16) -> u16
+// Where a pattern stands in the hit pattern that is open before it.
+#[derive(Clone, Copy)]
+enum Stage {
+    // None is open.
+    Closed,
+    // Coupled patterns went before.
+    Coupled,
+    // The first uncoupled one did too.
+    Uncoupled,
+}
+
+// The stage behind a pattern, by its coupled flag.
+#[tactic(auto, unfolding(crate::specs::passes::Stages::stage_after))]
+fn stage_after(stage: Stage, coupled: u16) -> Stage
     ensures { result ≡ stage_after stage coupled }
 {
-    match stage {
-        0 => if coupled == 0 { 0 } else { 1 },
-        1 => if coupled == 0 { 2 } else { 1 },
-        _ => 0,
+    match (stage, coupled) {
+        (Stage::Closed, 0) | (Stage::Uncoupled, _) => Stage::Closed,
+        (Stage::Coupled, 0) => Stage::Uncoupled,
+        _ => Stage::Coupled,
     }
 }
 
-fn opens_hit(stage: u16, coupled: u16) -> u16
+// The mark of a pattern at this stage.
+#[tactic(auto, unfolding(crate::specs::passes::Stages::opens_hit))]
+fn opens_hit(stage: Stage, coupled: u16) -> u16
     ensures { result ≡ opens_hit stage coupled }
 {
-    if stage == 0 { 1 } else { 0 }
+    match stage {
+        Stage::Closed => 1,
+        Stage::Coupled | Stage::Uncoupled => 0,
+    }
 }
 
-// Turns the flags of m coupled patterns into the marks of those that open a hit pattern, in place.
-pub fn mark_hits(w: &mut [u16], at: usize, m: usize)
-    requires { Room w.old at m at }
-    ensures { w.new ≡ put at (hit_marks (part at m w.old)) w.old }
+// Puts in place of each pattern's coupled flag the mark whether it opens a hit pattern.
+pub fn mark_hits(flags: &mut [u16])
+    ensures { flags.new ≡ hit_marks flags.old }
 {
-    let mut stage: u16 = 0;
-    let mut i = 0;
-    while i < m {
-        let coupled = w[at + i];
-        w[at + i] = opens_hit(stage, coupled);
+    let mut stage = Stage::Closed;
+    for flag in flags.iter_mut() {
+        let coupled = *flag;
+        *flag = opens_hit(stage, coupled);
         stage = stage_after(stage, coupled);
-        i += 1;
     }
 }
 
@@ -48,37 +65,27 @@ fn second_by(mark: u16, length: u16) -> u16
     if mark == 0 { length } else { 0 }
 }
 
-fn second_at(w: &[u16], lengths: usize, marks: usize, m: usize, i: usize) -> u16
-    requires tables { Pair w.now lengths marks m }
-    requires inside { i < m }
-    ensures { result ≡ second_at (part lengths m w.now) (part marks m w.now) i }
+#[tactic(auto, unfolding(crate::specs::RepeatingHitPatterns::second_at))]
+fn second_at(lengths: &[u16], marks: &[u16], i: usize) -> u16
+    requires each { length lengths.now ≤ length marks.now }
+    requires inside { i < length lengths.now }
+    ensures { result ≡ second_at lengths.now marks.now i }
 {
-    let j = i + 1;
-    if j < m {
-        let mark = w[marks + j];
-        let length = w[lengths + j];
-        return second_by(mark, length);
+    let next = i + 1;
+    if next < lengths.len() {
+        second_by(marks[next], lengths[next])
+    } else {
+        0
     }
-    0
 }
 
 // For each pattern the first-streak length of the next one in its hit pattern.
-pub fn second_lengths(w: &mut [u16], lengths: usize, marks: usize, m: usize, to: usize)
-    requires { PairApart w.old lengths marks m to }
-    ensures { w.new
-        ≡ put to (second_lengths (part lengths m w.old) (part marks m w.old)) w.old }
+pub fn second_lengths(lengths: &[u16], marks: &[u16], seconds: &mut [u16])
+    requires each { length lengths.now ≤ length marks.now }
+    requires room { length lengths.now ≤ length seconds.old }
+    ensures { seconds.new ≡ over (second_lengths lengths.now marks.now) seconds.old }
 {
-    if m == 0 {
-        return;
-    }
-    let mut i = 0;
-    while i + 1 < m {
-        let second = second_at(w, lengths, marks, m, i);
-        w[to + i] = second;
-        i += 1;
-    }
-    let last = second_at(w, lengths, marks, m, i);
-    w[to + i] = last;
+    fill::by_place(lengths.len(), seconds, |i| second_at(lengths, marks, i));
 }
 
 fn nearer(found: bool, k: u16, other: u16) -> u16
@@ -87,52 +94,30 @@ fn nearer(found: bool, k: u16, other: u16) -> u16
     if found { k } else { other }
 }
 
-// Gives k to each of m hit patterns that matches the one k before it. The others keep what stands at `to`.
-fn take_matches(
-    w: &mut [u16],
-    sizes: usize,
-    firsts: usize,
-    seconds: usize,
-    m: usize,
-    k: u16,
-    to: usize,
-)
-    requires { TripleApart w.old sizes firsts seconds m to }
-    ensures { w.new ≡ put to (taken_in k sizes firsts seconds m to w.old) w.old }
+// Gives k to each hit pattern that matches the one k before it. The others keep what they have.
+fn take_matches(patterns: &Features, k: u16, taken: &mut [u16])
+    requires { length patterns.now.first.now ≤ length taken.old }
+    ensures { taken.new
+        ≡ over (matches_taken k patterns.now.first.now patterns.now.second.now patterns.now.third.now taken.old)
+        taken.old }
 {
-    let back = k as usize;
-    if m <= back {
-        return;
-    }
-    let mut h = back;
-    while h < m {
-        let other = w[to + h];
-        let found = alike_at(w, sizes, firsts, seconds, m, h - back, h);
-        w[to + h] = nearer(found, k, other);
-        h += 1;
+    let back = usize::from(k);
+    for h in back..patterns.len() {
+        let other = taken[h];
+        taken[h] = nearer(patterns.alike(h - back, h), k, other);
     }
 }
 
 // Each hit pattern's interval, searched below the limit: from the largest k down, so that the smallest one stays.
-pub fn repetition_intervals(
-    w: &mut [u16],
-    sizes: usize,
-    firsts: usize,
-    seconds: usize,
-    m: usize,
-    limit: u16,
-    to: usize,
-)
-    requires tables { TripleApart w.old sizes firsts seconds m to }
-    requires least { 1 ≤ limit }
-    requires most { limit < 65535 }
-    ensures { w.new
-        ≡ put to (intervals_in limit sizes firsts seconds m w.old) w.old }
+pub fn repetition_intervals(patterns: &Features, limit: SearchLimit, found: &mut [u16])
+    requires { length patterns.now.first.now ≤ length found.old }
+    ensures { found.new
+        ≡ over (intervals limit.value patterns.now.first.now patterns.now.second.now patterns.now.third.now)
+        found.old }
 {
-    fill::store_all(w, to, m, limit + 1);
-    let mut k = limit;
-    while 1 < k {
-        k -= 1;
-        take_matches(w, sizes, firsts, seconds, m, k, to);
+    let below = limit.value;
+    fill::front(found, patterns.len(), below + 1);
+    for k in (1..below).rev() {
+        take_matches(patterns, k, found);
     }
 }

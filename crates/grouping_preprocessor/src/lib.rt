@@ -1,11 +1,19 @@
 // The encoder: from the kinds to the tables from which each object's six numbers are looked up.
 #![tactic(auto)]
 
-ghost use Rattle.std.specs.Prelude.{◌≤◌, ◌<◌, length};
-ghost use Rattle.grouping_preprocessor.specs.passes.Steps.{Regions, Streaks, PatternsFound, HitMarksFound};
-ghost use Rattle.grouping_preprocessor.specs.passes.Steps.{HitsFound, Encodes};
+ghost use Rattle.std.specs.Prelude.{◌≡◌, ◌≤◌, [], ◌∷◌, length};
+ghost use Rattle.lent.specs.Over.{over};
+ghost use Rattle.grouping_marks.specs.Marks.{group_count, group_numbers, group_places, group_sizes, group_firsts};
+ghost use Rattle.grouping_hits.specs.RepeatingHitPatterns.{hit_marks, second_lengths};
+ghost use Rattle.grouping_colour.specs.MonoStreak.{streak_marks, streak_of, streak_lengths, streak_types};
+ghost use Rattle.grouping_colour.specs.AlternatingMonoPattern.{pattern_marks, coupled};
+ghost use Rattle.grouping_preprocessor.specs.passes.Steps.{Regions, Encodes, AsLong, hits_by, intervals_found};
 
 use grouping_colour::{alternating_mono_pattern, mono_streak};
+use grouping_hits::limit::SearchLimit;
+use grouping_marks::alike::Features;
+use grouping_marks::{group_firsts, group_numbers, group_places, group_sizes};
+use lent::fill;
 
 // How many streaks, alternating patterns and hit patterns there are, and the search limit of the intervals.
 #[derive(Clone, Copy)]
@@ -16,83 +24,174 @@ pub struct Levels {
     pub limit: u16,
 }
 
-// Streaks: each object's number, their lengths and types; the result is their count.
-fn find_streaks(kind: &[u8], w: &mut [u16]) -> usize
-    requires { Regions (length kind.now) w.old }
-    ensures { Streaks kind.now w.old w.new result }
+// The kinds as numbers of 16 bits.
+fn widen(kind: &[u8], wide: &mut [u16])
+    requires { length wide.old ≡ length kind.now }
+    ensures { wide.new ≡ kind.now }
 {
-    let n = kind.len();
-    let marks = 7 * n;
-    mono_streak::mark_streaks(kind, w, marks);
-    grouping_marks::group_numbers(w, marks, n, 0);
-    grouping_marks::group_firsts_of(kind, w, marks, 2 * n);
-    grouping_marks::group_sizes(w, marks, n, n)
+    fill::by_place(kind.len(), wide, |i| u16::from(kind[i]));
 }
 
-// From s streaks to alternating patterns; the result is their count.
-fn find_patterns(w: &mut [u16], n: usize, s: usize) -> usize
-    requires regions { Regions n w.old }
-    requires few { s ≤ n }
-    ensures { PatternsFound n s w.old w.new result }
+// Streaks: each object's number, their types and lengths; the result is their count.
+fn find_streaks(
+    kind: &[u8],
+    marks: &mut [u16],
+    streak: &mut [u16],
+    types: &mut [u16],
+    lengths: &mut [u16],
+) -> usize
+    requires few { length kind.now ≤ 16384 }
+    requires regions { AsLong (length kind.now) (marks.old ∷ streak.old ∷ types.old ∷ lengths.old ∷ []) }
+    ensures count { result ≡ group_count (streak_marks kind.now) }
+    ensures few { result ≤ length kind.now }
+    ensures marks { marks.new ≡ streak_marks kind.now }
+    ensures streak { streak.new ≡ streak_of kind.now }
+    ensures types { types.new ≡ over (streak_types kind.now) types.old }
+    ensures lengths { lengths.new ≡ over (streak_lengths kind.now) lengths.old }
 {
-    let marks = 7 * n;
-    let types = 2 * n;
-    alternating_mono_pattern::mark_patterns(w, n, s, marks);
-    grouping_marks::group_numbers(w, marks, s, 3 * n);
-    grouping_marks::group_places(w, marks, s, 4 * n);
-    grouping_marks::group_firsts(w, marks, s, n, n);
-    grouping_marks::group_firsts(w, marks, s, types, types);
-    grouping_marks::group_sizes(w, marks, s, 5 * n)
+    mono_streak::mark_streaks(kind, marks);
+    widen(kind, streak);
+    group_firsts(marks, streak, types);
+    streak.copy_from_slice(marks);
+    group_numbers(streak);
+    group_sizes(marks, lengths)
 }
 
-// Marks in region 6 the patterns that open a hit pattern, and leaves their second lengths in region 2.
-fn find_hit_marks(w: &mut [u16], n: usize, p: usize)
-    requires regions { Regions n w.old }
-    requires few { p ≤ n }
-    ensures { HitMarksFound n p w.old w.new }
+// Puts what stands at each group's first item over the front of the items, by way of a spare slice.
+fn keep_firsts(marks: &[u16], groups: usize, items: &mut [u16], spare: &mut [u16])
+    requires groups { groups ≡ group_count marks.now }
+    requires regions { AsLong (length marks.now) (items.old ∷ spare.old ∷ []) }
+    ensures items { items.new ≡ over (group_firsts marks.now items.old) items.old }
+    ensures spare { spare.new ≡ over (group_firsts marks.now items.old) spare.old }
 {
-    let marks = 6 * n;
-    alternating_mono_pattern::flag_coupled(w, n, 5 * n, 2 * n, p, marks);
-    grouping_hits::mark_hits(w, marks, p);
-    grouping_hits::second_lengths(w, n, marks, p, 2 * n);
+    group_firsts(marks, items, spare);
+    items[..groups].copy_from_slice(&spare[..groups]);
 }
 
-// From p alternating patterns to hit patterns and their intervals; the result is their count.
-fn find_hits(w: &mut [u16], n: usize, p: usize, limit: u16) -> usize
-    requires regions { Regions n w.old }
-    requires few { p ≤ n }
-    requires least { 1 ≤ limit }
-    requires most { limit < 65535 }
-    ensures { HitsFound limit n p w.old w.new result }
+// From the streaks' lengths and types to alternating patterns: each streak's pattern and its place there, each
+// pattern's first length and type in place of these, and its streak count; the result is their count.
+fn find_patterns(
+    lengths: &mut [u16],
+    types: &mut [u16],
+    marks: &mut [u16],
+    numbers: &mut [u16],
+    places: &mut [u16],
+    counts: &mut [u16],
+) -> usize
+    requires few { length lengths.old ≤ 16384 }
+    requires regions { AsLong (length lengths.old)
+        (types.old ∷ marks.old ∷ numbers.old ∷ places.old ∷ counts.old ∷ []) }
+    ensures count { result ≡ group_count (pattern_marks lengths.old) }
+    ensures few { result ≤ length lengths.old }
+    ensures lengths { lengths.new ≡ over (group_firsts (pattern_marks lengths.old) lengths.old) lengths.old }
+    ensures types { types.new ≡ over (group_firsts (pattern_marks lengths.old) types.old) types.old }
+    ensures marks { marks.new ≡ pattern_marks lengths.old }
+    ensures numbers { numbers.new ≡ group_numbers (pattern_marks lengths.old) }
+    ensures places { places.new ≡ group_places (pattern_marks lengths.old) }
+    ensures counts { counts.new ≡ over (group_sizes (pattern_marks lengths.old)) counts.old }
 {
-    let marks = 6 * n;
-    let sizes = 5 * n;
-    let seconds = 2 * n;
-    find_hit_marks(w, n, p);
-    let h = grouping_marks::group_sizes(w, marks, p, sizes);
-    grouping_marks::group_firsts(w, marks, p, n, n);
-    grouping_marks::group_firsts(w, marks, p, seconds, seconds);
-    grouping_hits::repetition_intervals(w, sizes, n, seconds, h, limit, 7 * n);
-    grouping_marks::group_numbers(w, marks, p, n);
-    grouping_marks::group_places(w, marks, p, seconds);
-    h
+    alternating_mono_pattern::mark_patterns(lengths, marks);
+    let patterns = group_sizes(marks, counts);
+    keep_firsts(marks, patterns, lengths, numbers);
+    keep_firsts(marks, patterns, types, numbers);
+    numbers.copy_from_slice(marks);
+    group_numbers(numbers);
+    places.copy_from_slice(marks);
+    group_places(places);
+    patterns
+}
+
+// Marks the patterns that open a hit pattern, by their first lengths, streak counts and types, and leaves their second
+// lengths in place of the types.
+fn find_hit_marks(lengths: &[u16], counts: &[u16], types: &mut [u16], marks: &mut [u16])
+    requires { AsLong (length lengths.now) (counts.now ∷ types.old ∷ marks.old ∷ []) }
+    ensures marks { marks.new ≡ hit_marks (coupled lengths.now counts.now types.old) }
+    ensures types { types.new ≡ second_lengths lengths.now (hit_marks (coupled lengths.now counts.now types.old)) }
+{
+    let patterns = Features {
+        first: lengths,
+        second: counts,
+        third: types,
+    };
+    alternating_mono_pattern::flag_coupled(&patterns, marks);
+    grouping_hits::mark_hits(marks);
+    grouping_hits::second_lengths(lengths, marks, types);
+}
+
+// From alternating patterns, by their first lengths, streak counts and types, to hit patterns: each pattern's hit
+// pattern and its place there in place of its length and type, and each hit pattern's interval; the result is their
+// count.
+fn find_hits(
+    lengths: &mut [u16],
+    counts: &mut [u16],
+    types: &mut [u16],
+    marks: &mut [u16],
+    found: &mut [u16],
+    limit: SearchLimit,
+) -> usize
+    requires few { length lengths.old ≤ 16384 }
+    requires regions { AsLong (length lengths.old) (counts.old ∷ types.old ∷ marks.old ∷ found.old ∷ []) }
+    ensures count { result ≡ group_count (hits_by lengths.old counts.old types.old) }
+    ensures few { result ≤ length lengths.old }
+    ensures lengths { lengths.new ≡ group_numbers (hits_by lengths.old counts.old types.old) }
+    ensures counts { counts.new ≡ over (group_sizes (hits_by lengths.old counts.old types.old)) counts.old }
+    ensures types { types.new ≡ group_places (hits_by lengths.old counts.old types.old) }
+    ensures marks { marks.new ≡ hits_by lengths.old counts.old types.old }
+    ensures found { found.new
+        ≡ over (intervals_found limit.value lengths.old (hits_by lengths.old counts.old types.old)) found.old }
+{
+    find_hit_marks(lengths, counts, types, marks);
+    let hits = group_sizes(marks, counts);
+    keep_firsts(marks, hits, lengths, found);
+    keep_firsts(marks, hits, types, found);
+    let patterns = Features {
+        first: &counts[..hits],
+        second: &lengths[..hits],
+        third: &types[..hits],
+    };
+    grouping_hits::repetition_intervals(&patterns, limit, found);
+    lengths.copy_from_slice(marks);
+    group_numbers(lengths);
+    types.copy_from_slice(marks);
+    group_places(types);
+    hits
 }
 
 // Finds all levels. Their tables are in the work slice, in eight regions of n places.
-pub fn encode_levels(kind: &[u8], w: &mut [u16], limit: u16) -> Levels
-    requires regions { Regions (length kind.now) w.old }
-    requires least { 1 ≤ limit }
-    requires most { limit < 65535 }
-    ensures { Encodes limit kind.now w.old w.new result }
+pub fn encode_levels(kind: &[u8], w: &mut [u16], limit: SearchLimit) -> Levels
+    requires { Regions (length kind.now) w.old }
+    ensures { Encodes limit.value kind.now w.old w.new result }
 {
     let n = kind.len();
-    let s = find_streaks(kind, w);
-    let p = find_patterns(w, n, s);
-    let h = find_hits(w, n, p, limit);
-    Levels {
-        streaks: s,
-        patterns: p,
-        hits: h,
+    let (streak, rest) = w.split_at_mut(n);
+    let (lengths, rest) = rest.split_at_mut(n);
+    let (types, rest) = rest.split_at_mut(n);
+    let (numbers, rest) = rest.split_at_mut(n);
+    let (places, rest) = rest.split_at_mut(n);
+    let (counts, rest) = rest.split_at_mut(n);
+    let (hits_open, rest) = rest.split_at_mut(n);
+    let (found, _) = rest.split_at_mut(n);
+    let streaks = find_streaks(kind, found, streak, types, lengths);
+    let patterns = find_patterns(
+        &mut lengths[..streaks],
+        &mut types[..streaks],
+        &mut found[..streaks],
+        &mut numbers[..streaks],
+        &mut places[..streaks],
+        &mut counts[..streaks],
+    );
+    let hits = find_hits(
+        &mut lengths[..patterns],
+        &mut counts[..patterns],
+        &mut types[..patterns],
+        &mut hits_open[..patterns],
+        &mut found[..patterns],
         limit,
+    );
+    Levels {
+        streaks,
+        patterns,
+        hits,
+        limit: limit.value,
     }
 }

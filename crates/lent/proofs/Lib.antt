@@ -5,6 +5,8 @@ pub mod StoreLaws
 pub mod ScanLaws
 pub mod PieceLaws
 pub mod WalkLaws
+pub mod InPlaceLaws
+pub mod JoinLaws
 pub mod AppendLaws
 pub mod WrittenLaws
 pub mod NeverLaws

@@ -1,11 +1,12 @@
 -- `over`, `put` and `part` by the pieces of a list, as code takes a slice apart and puts it together again.
 use mathlib.Core.Path.{◌≡◌, refl, sym, ap, ◌∙◌}
-use mathlib.Core.List.{List, [], ◌++◌, append-nil}
+use mathlib.Core.List.{List, [], ◌++◌, append-nil, append_assoc}
 use Prim.Native.Nat.{ℕ, ◌+◌, ◌-◌, ◌≤◌, ◌<◌}
 use native.Mathlib.Omega.{arith}
-use lib.ListN.{length, take, drop, get_or, length-take, drop_of_length-le, take-append-drop, get_or-append}
-use lib.Seq.{drop-drop, take-take}
+use lib.ListN.{length, take, drop, get_or, length-append, length-take, drop_of_length-le, take-append-drop, get_or-append}
+use lib.Seq.{drop-drop, take-take, take_at, drop_at, drop-append-le}
 use Rattle.lent.specs.Over.{over, put, part}
+use Rattle.lent.proofs.OverLaws.{drop-over, over-agree}
 
 module _ {A : Type 0} where
   -- what was written, and what stood behind it
@@ -22,6 +23,41 @@ module _ {A : Type 0} where
   pub put_pieces : (a n : ℕ) (new old : List A) → length new ≡ n → take a old ++ (new ++ drop n (drop a old)) ≡ put a new old
   unfolding put over
   put_pieces a n new old l = rw l
+
+  -- a list as long as what it is written over
+  pub over_whole : (new old : List A) → length new ≡ length old → over new old ≡ new
+  unfolding over
+  over_whole new old e = rw (drop_of_length-le old {i = length new} (omega arith)) (append-nil new)
+
+  -- k places at the front, lent, written over and put back
+  pub over-back : (k : ℕ) (new w lent : List A) → length new ≤ k → k ≤ length w → lent ≡ over new (take k w) → lent ++ drop k w ≡ over new w
+  unfolding over
+  over-back k new w lent l h e =
+      let fits : length new ≤ length (take k w) = omega (arith, length-take k w) in
+      rw (e, append_assoc, ← drop-append-le (length new) (take k w) (drop k w) fits, take-append-drop)
+
+  -- what is written over is of no account to what is written over all of it
+  pub over-absorb : (new newer old : List A) → length new ≤ length newer → over newer (over new old) ≡ over newer old
+  over-absorb new newer old h = over-agree newer (over new old) old (length newer) refl (drop-over new old (length newer) h)
+
+  -- written over the second of three pieces
+  pub put_piece : (a : ℕ) (front region rest new : List A) → length front ≡ a → length new ≤ length region
+      → put a new (front ++ (region ++ rest)) ≡ front ++ (over new region ++ rest)
+  unfolding put over
+  put_piece a front region rest new e h =
+      rw (take_at front (region ++ rest) a e, drop_at front (region ++ rest) a e, drop-append-le (length new) region rest h, append_assoc)
+
+  -- the same, behind two pieces
+  pub put_piece₂ : (a : ℕ) (first second region rest new : List A) → length first + length second ≡ a → length new ≤ length region
+      → put a new (first ++ (second ++ (region ++ rest))) ≡ first ++ (second ++ (over new region ++ rest))
+  put_piece₂ a first second region rest new e h =
+      rw (← append_assoc first second (region ++ rest), ← append_assoc first second (over new region ++ rest))
+      (put_piece a (first ++ second) region rest new (length-append first second ∙ e) h)
+
+  -- a part and what follows it
+  pub part_then : (a n : ℕ) (w : List A) → part a n w ++ drop (a + n) w ≡ drop a w
+  unfolding part
+  part_then a n w = rw (← drop-drop n a w) (take-append-drop n (drop a w))
 
   -- k places from place a on, lent, written whole and put back
   pub put-back : (a k : ℕ) (new w region : List A) → length new ≡ k → region ≡ over new (take k (drop a w))

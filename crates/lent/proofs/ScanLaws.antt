@@ -2,15 +2,16 @@
 use mathlib.Core.Path.{◌≡◌, refl, sym, ap, ◌∙◌}
 use mathlib.Core.List.{List, [], ◌∷◌, ◌++◌}
 use Prim.Native.Nat.{ℕ, suc, ◌+◌, ◌≤◌, ◌<◌}
+use native.Mathlib.Nat.{zero-add}
 use native.Mathlib.Numerals.{add-one}
 use native.Mathlib.Omega.{arith}
 use lib.ListN.{length, drop, get_or, set}
 use lib.Seq.{drop-cons}
-use Rattle.lent.specs.Over.{put, part}
+use Rattle.lent.specs.Over.{over, put, part}
 use Rattle.lent.specs.Scan.{scan, end_state}
 use Rattle.lent.specs.passes.Regions.{Room}
 use Rattle.lent.proofs.OverLaws.{length-part}
-use Rattle.lent.proofs.FillLaws.{Fill, Onward, fill_start, fill_next, fill_end, fill_read}
+use Rattle.lent.proofs.FillLaws.{Fill, Onward, fill_start, fill_next, fill_end, fill_end_front, fill_read}
 
 pub after_append : {S A : Type 0} (next : S → A → S) (s : S) (xs ys : List A) → end_state next s (xs ++ ys) ≡ end_state next (end_state next s xs) ys
 unfolding end_state
@@ -55,7 +56,15 @@ module _ {S A B : Type 0} {next : S → A → S} {emit : S → A → B} {s₀ : 
 
   pub ended : {to : ℕ} → Walk next emit s₀ xs m to w₀ w s i → m ≤ i → w ≡ put to (scan next emit s₀ xs) w₀
   ended x h = fill_end x.fill h
+
   -- ---- a walk that writes the front
+
+  pub turn_front : {s' : S} {v : B} (d : A) → Walk next emit s₀ xs m 0 w₀ w s i → i < m → v ≡ emit s (get_or xs i d) → s' ≡ next s (get_or xs i d)
+      → Walk next emit s₀ xs m 0 w₀ (set w i v) s' (i + 1)
+  turn_front d x h q e = rw (zero-add i) at (turn d x h q e)
+
+  pub ended_front : Walk next emit s₀ xs m 0 w₀ w s i → m ≤ i → w ≡ over (scan next emit s₀ xs) w₀
+  ended_front x h = fill_end_front x.fill h
 
 -- ---- a walk over m places of the very slice that it writes
 

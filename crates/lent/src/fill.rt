@@ -43,15 +43,3 @@ pub fn gather<T: Narrow>(table: &[u16], idx: &[u16], out: &mut [T])
 {
     by_place(idx.len(), out, |i| T::narrow(table[idx[i] as usize]));
 }
-
-// Stores v in m places from `to` on.
-pub fn store_all(s: &mut [u16], to: usize, m: usize, v: u16)
-    requires { to + m ≤ length s.old }
-    ensures { s.new ≡ put to (replicate m v) s.old }
-{
-    let mut i = 0;
-    while i < m {
-        s[to + i] = v;
-        i += 1;
-    }
-}

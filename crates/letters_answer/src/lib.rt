@@ -7,6 +7,8 @@ ghost use Rattle.letters_text.specs.Lines.{lines};
 ghost use Rattle.letters_answer.specs.Output.{columns, letters_output, InputAnswered};
 
 use arrayvec::ArrayString;
+use grouping_chart::settings::SEARCH_LIMIT;
+use grouping_hits::limit::SearchLimit;
 use letters_text::{Columns, MOST_LETTERS, TextError};
 use std::io::Read;
 
@@ -36,9 +38,12 @@ fn write_letters(kinds: &[u8], out: &mut Output)
     let mut hit = [0u16; MOST_LETTERS];
     let mut interval = [0u8; MOST_LETTERS];
     let mut work = [0u16; WORK];
+    let limit = SearchLimit {
+        value: SEARCH_LIMIT,
+    };
     call_encode::encode_kinds(
         kinds,
-        grouping_chart::settings::SEARCH_LIMIT,
+        limit,
         &mut streak,
         &mut streak_place,
         &mut pattern,

@@ -11,8 +11,8 @@ use Rattle.call_encode.specs.Call.{memory, answer_lengths, encode_outcome}
 use Rattle.call_encode.proofs.CallLaws.{done-outcome, kinds_room, scratch_room, filled_is}
 use Rattle.call_encode.proofs.encode.Goals as goal
 
-pub overflow_cast-m : goal.overflow_cast-m
-overflow_cast-m c = omega (arith, is_permitted c.base-s.ensures)
+pub overflow_cast-limit : goal.overflow_cast-limit
+overflow_cast-limit c = omega (arith, is_permitted c.base-s.ensures)
 
 pub encode_kinds-hits-requires : goal.encode_kinds-hits-requires
 encode_kinds-hits-requires c =

@@ -52,5 +52,4 @@ pub record KindsRoom (n limit : ℕ) (m : Memory) : Type 0 where
   pub hit : n ≤ length m.hit
   pub interval : n ≤ length m.interval
   pub work : 8 * n ≤ length m.work
-  pub some : 1 ≤ limit
   pub bytes : limit ≤ 254

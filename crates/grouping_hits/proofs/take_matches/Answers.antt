@@ -1,22 +1,14 @@
--- What the checker asks of `take_matches` and does not find by itself.
+-- A turn looks at one hit pattern more; those before the k-th keep what they have.
 use native.Mathlib.Omega.{arith}
-use Rattle.lent.proofs.FillLaws.{fill_end}
-use Rattle.grouping_hits.proofs.IntervalLaws.{taken_from, taken_none, taken_turn}
+use Rattle.grouping_hits.proofs.IntervalLaws.{taken_start, taken_turn, taken_end}
 use Rattle.grouping_hits.proofs.take_matches.Goals as goal
 
-pub returns-then-m-back : goal.returns-then-m-back
-returns-then-m-back c = taken_none _ c.requires (omega arith)
-
 pub loop-h-init : goal.loop-h-init
-loop-h-init c = (taken_from _ c.requires _ (omega arith) (omega arith), omega arith)
+loop-h-init c = rw c.from-back.ensures (taken_start _ _ _ _ _ c.requires)
 
 pub loop-h-preserved : goal.loop-h-preserved
 loop-h-preserved c =
-    let x = c.loop-h.invariant in
-    (taken_turn _ c.requires x.0 (omega arith) x.1 c.alike_at-found.ensures c.nearer.ensures, omega arith)
-
-pub shape_of-w : goal.shape_of-w
-shape_of-w c = c.loop-h.invariant.0.long
+    taken_turn _ _ _ _ _ c.loop-h.invariant (omega arith) (rw c.from-back.ensures at c.alike.ensures) c.nearer.ensures
 
 pub returns : goal.returns
-returns c = fill_end c.loop-h.invariant.0 (omega arith)
+returns c = taken_end _ _ _ _ _ c.loop-h.invariant (omega arith)

@@ -16,6 +16,6 @@ returns g c =
     let d = f 0 in
     c.by_place.ensures (λ i. get_or values i d)
     (λ i given h e.
-        let is : given ≡ f (get_or table (get_or idx i 0) 0) = search rules in
-        is ∙ ap f (sym (get_or-gathered table idx i h)) ∙ sym (get_or-map f found i 0 d (omega (arith, length-gathered table idx))))
+    let is : given ≡ f (get_or table (get_or idx i 0) 0) = search rules in
+    is ∙ ap f (sym (get_or-gathered table idx i h)) ∙ sym (get_or-map f found i 0 d (omega (arith, length-gathered table idx))))
     ∙ ap (λ l. over l c.args.out.now) (tabulate_places values d _ (length-map found f ∙ length-gathered table idx))
