@@ -6,13 +6,14 @@ use Prim.Native.Nat.{ℕ, suc, ◌+◌, ◌-◌, ◌≤◌, ◌<◌}
 use native.Mathlib.Omega.{arith}
 use lib.Dec.{T}
 use lib.ListN.{length, take, drop, get_or}
-use lib.Seq.{get_or-take, length-take-le}
+use lib.Seq.{length-take-le}
 use lib.Ieee.{Float, nan, binary64, sub}
 use lib.Ieee.Scale.{finite}
 use Rattle.lent.specs.Over.{over, put, part, written}
 use Rattle.grouping_marks.specs.Parted.{parted}
 use Rattle.lent.proofs.OverLaws.{drop-over, put_front, get_or-part}
-use Rattle.lent.proofs.PieceLaws.{over_pieces}
+use Rattle.lent.proofs.PieceLaws.{over_pieces, part_pieces}
+use Rattle.std.proofs.lemmas.List.{drop-take, take-take}
 use Rattle.grouping_chart.specs.Object.{notes}
 use Rattle.grouping_interval.specs.Notes.{note_objects, of_notes}
 use Rattle.grouping_chart.proofs.ObjectLaws.{notes-few}
@@ -28,14 +29,6 @@ use Rattle.call_rhythm.proofs.TablesLaws.{groups-counted, NotesLeft, notes_left,
 use Rattle.call_record.specs.Record.{objects_in, owns_at, duration_of}
 use Rattle.call_record.specs.passes.Found.{GroupRoom, located_at, locate_writes}
 use Rattle.call_record.specs.declared.found.LocatedGroup.{LocatedGroup}
-
--- the group's objects can be read, and each has a start
-pub record Readable (starts : List Float) (work : List ℕ) (r : Reached) : Type 0 where
-  pub from : r.at < r.end
-  pub few : r.end ≤ 16384
-  pub within : (i : ℕ) → i < r.end → i < length work
-  pub small : (i : ℕ) → i < r.end → get_or work i 0 < 16384
-  pub started : (i : ℕ) → i < r.end → get_or work i 0 < length starts
 
 -- ---- the notes are listed
 module _ {margin : Float} {kinds : List ℕ} {starts deltas : List Float} {g : ℕ} {work₀ work₁ : List ℕ} {scratch₀ scratch₁ : List Float} {m : ℕ}
@@ -72,9 +65,6 @@ module _ {margin : Float} {kinds : List ℕ} {starts deltas : List Float} {g : �
     few : m ≤ length kinds
     few = omega (arith, x.noted, notes-few kinds)
 
-    object_at_lem : (i : ℕ) → i < m → get_or work₂ i 0 ≡ get_or (note_objects kinds) i 0
-    object_at_lem i h = sym (get_or-take (length (notes kinds)) work₂ i 0 (omega (arith, x.noted))) ∙ rw kept.objects
-
     -- ---- and group g is reached
     module _ {left : List Float} {r : Reached} (reached : ReachedIs margin (take m scratch₁) left g r) where
       abbrev objects : List ℕ
@@ -83,18 +73,9 @@ module _ {margin : Float} {kinds : List ℕ} {starts deltas : List Float} {g : �
       end-inside : r.end ≤ m
       end-inside = omega (arith, reached.upto, front_long)
 
-      object-below_all : (i : ℕ) → i < r.end → get_or work₂ i 0 < length kinds
-      object-below_all i h =
-          omega (arith, object_at_lem i (omega (arith, end-inside)), object-below kinds i (omega (arith, end-inside, x.noted, length_note_objects kinds)))
-
-      pub readable : Readable starts work₂ r
-      readable = record {
-        from = reached.from;
-        few = omega (arith, end-inside, few, room.tables.few);
-        within = λ i h. omega (arith, end-inside, few, kept.regions, room.tables.regions);
-        small = λ i h. omega (arith, object-below_all i h, room.tables.few);
-        started = λ i h. omega (arith, object-below_all i h, room.tables.started);
-      }
+      -- they are a part of the work slice
+      pub objects_end : r.end ≤ length work₂
+      objects_end = omega (arith, end-inside, few, kept.regions, room.tables.regions)
 
       group-notes : objects ≡ part r.at (r.end - r.at) (note_objects kinds)
       unfolding objects_in
@@ -106,20 +87,35 @@ module _ {margin : Float} {kinds : List ℕ} {starts deltas : List Float} {g : �
       noted_long =
           rw objects-grouped (part-notes reached (note_objects kinds) (omega (arith, length_note_objects kinds, x.noted, front_long)))
 
-      noted_at : (i : ℕ) → i < r.end - r.at → get_or objects i 0 ≡ get_or work₂ (r.at + i) 0
-      noted_at i h =
-          rw group-notes
-          (get_or-part r.at (r.end - r.at) (note_objects kinds) i 0 h ∙ sym (object_at_lem (r.at + i) (omega (arith, reached.from, end-inside))))
+      -- as lent
+      objects-lent : take (r.end - r.at) (drop r.at work₂) ≡ objects
+      objects-lent =
+          let n : ℕ = length (notes kinds) in
+          let e : n ≡ r.at + (n - r.at) = omega (arith, reached.from, end-inside, x.noted) in
+          let h : r.end - r.at ≤ n - r.at = omega (arith, reached.from, end-inside, x.noted) in
+          let cut : take (r.end - r.at) (drop r.at (take n work₂)) ≡ take (r.end - r.at) (drop r.at work₂) =
+          ap (λ (k : ℕ). take (r.end - r.at) (drop r.at (take k work₂))) e
+          ∙ rw (drop-take r.at (n - r.at) work₂) (take-take (r.end - r.at) (n - r.at) (drop r.at work₂) h) in
+          sym cut
+          ∙ ap (λ (l : List ℕ). take (r.end - r.at) (drop r.at l)) kept.objects
+          ∙ part_pieces r.at (r.end - r.at) (note_objects kinds)
+          ∙ sym group-notes
 
-      first_is : get_or work₂ r.at 0 ≡ get_or objects 0 0
-      first_is =
-          let e : r.at ≡ r.at + 0 = omega arith in
-          rw e (sym (noted_at 0 (omega (arith, reached.from))))
+      below : (i : ℕ) → i < length objects → get_or objects i 0 < length kinds
+      below i h =
+          let k : i < r.end - r.at = omega (arith, noted_long) in
+          rw (group-notes, get_or-part r.at (r.end - r.at) (note_objects kinds) i 0 k)
+          (object-below kinds (r.at + i) (omega (arith, end-inside, x.noted, length_note_objects kinds)))
 
-      last_is : get_or work₂ (r.end - 1) 0 ≡ get_or objects (length objects - 1) 0
-      last_is =
-          let e : r.end - 1 ≡ r.at + (r.end - r.at - 1) = omega (arith, reached.from) in
-          rw (noted_long, e) (sym (noted_at (r.end - r.at - 1) (omega (arith, reached.from))))
+      abbrev lent : List ℕ
+      lent = take (r.end - r.at) (drop r.at work₂)
+
+      -- there is one, and each has a start
+      pub objects_some : 0 < length lent
+      objects_some = rw objects-lent (omega (arith, noted_long, reached.from))
+
+      pub objects_started : (i : ℕ) → i < length lent → get_or lent i 0 < length starts
+      objects_started = rw objects-lent (λ i h. omega (arith, below i h, room.tables.started))
 
       owns_is : r.owns ≡ owns_at margin kinds deltas g
       unfolding owns_at
@@ -130,19 +126,19 @@ module _ {margin : Float} {kinds : List ℕ} {starts deltas : List Float} {g : �
 
       pub located : ◌≡◌ {A = LocatedGroup} (
           record {
-            first = record { 0 = get_or work₂ r.at 0 };
-            notes = r.end - r.at;
+            first = record { 0 = get_or lent 0 0 };
+            notes = length lent;
             owns = r.owns;
-            duration = sub binary64 (get_or starts (get_or work₂ (r.end - 1) 0) nan) (get_or starts (get_or work₂ r.at 0) nan);
+            duration = sub binary64 (get_or starts (get_or lent (length lent - 1) 0) nan) (get_or starts (get_or lent 0 0) nan);
             groups = groups;
           }
           ) (located_at margin kinds starts deltas g)
       unfolding duration_of
       located t = record {
-        first = record { 0 = first_is t };
-        notes = sym noted_long t;
+        first = record { 0 = get_or (objects-lent t) 0 0 };
+        notes = length (objects-lent t);
         owns = owns_is t;
-        duration = sub binary64 (get_or starts (last_is t) nan) (get_or starts (first_is t) nan);
+        duration = sub binary64 (get_or starts (get_or (objects-lent t) (length (objects-lent t) - 1) 0) nan) (get_or starts (get_or (objects-lent t) 0 0) nan);
         groups = x.grouped t;
       }
 

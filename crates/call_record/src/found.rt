@@ -50,18 +50,15 @@ fn locate(
     let m = list_notes(kind, delta, work, scratch);
     let groups = number_notes(&scratch[..m], margin, work, n);
     let reached = reach(&mut scratch[..m], margin, g);
-    let at = reached.at;
-    let end = reached.end;
-    let owns = reached.owns;
-    let first = work[at] as usize;
-    let last = work[end - 1] as usize;
-    let notes = end - at;
-    let duration = start[last] - start[first];
+    let objects = &work[reached.at..reached.end];
+    let notes = objects.len();
+    let first = objects[0] as usize;
+    let last = objects[notes - 1] as usize;
     LocatedGroup {
         first: ObjectIndex(first),
         notes,
-        owns,
-        duration,
+        owns: reached.owns,
+        duration: start[last] - start[first],
         groups,
     }
 }

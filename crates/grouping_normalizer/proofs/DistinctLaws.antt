@@ -43,9 +43,6 @@ pub length_left : (xs : List Float) → length (distinct_in_front xs) ≡ length
 unfolding distinct_in_front
 length_left xs = length-over (distinct xs) (ordered xs) (omega (arith, length-distinct xs, length-ordered xs)) ∙ length-ordered xs
 
-pub long_as : {s : List Float} (old : List Float) → s ≡ ordered old → length s ≡ length old
-long_as old e = ap length e ∙ length-ordered old
-
 -- ---- cases
 
 pub alike_same : {x y : Float} → Number x → Number y → alike x y ≡ true → x ≡ y

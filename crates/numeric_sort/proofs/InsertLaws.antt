@@ -1,28 +1,21 @@
 -- The laws of `insert`. By its rank a value's place in the total order is a number, so that two insertions commute, and an insertion can be undone.
 use mathlib.Core.Path.{◌≡◌, refl, sym, ap, ◌∙◌}
-use mathlib.Core.Logic.{◌≢◌, ◌⊎◌, inl, inr, ⊎_elim}
+use mathlib.Core.Logic.{⊎_elim}
 use mathlib.Core.Bool.{Bool, true, false, cond}
 use mathlib.Core.List.{List, [], ◌∷◌}
 use Prim.Native.Nat.{ℕ, suc, ◌≤◌, ◌<◌}
 use native.Mathlib.Nat.{le_of_lt, le_antisymm}
 use native.Mathlib.Omega.{arith}
-use lib.Dec.{T, leb, eqb}
+use lib.Dec.{T, leb}
 use lib.ListN.{length}
 use lib.Ieee.{Float}
-use borrow.Author.Tests.{leb-false, le-leb, lt-leb, eqb-true, eqb-false}
+use borrow.Author.Tests.{le-leb, lt-leb}
 use Rattle.numeric.specs.TotalOrder.{total_order}
 use Rattle.numeric.proofs.Tests.{le_or_lt}
 use Rattle.numeric.proofs.Values.{Number}
 use Rattle.numeric.proofs.order.Rank.{key, keyed, key_inj}
 use Rattle.numeric.proofs.order.Laws.{to_key, of_key}
 use Rattle.numeric_sort.specs.Ordered.{insert}
-
-pub equal : (a b : ℕ) → (a ≡ b) ⊎ (a ≢ b)
-equal a b = go (eqb a b) (eqb-true a b) (eqb-false a b)
-  where
-    go : (t : Bool) → (t ≡ true → a ≡ b) → (t ≡ false → a ≢ b) → (a ≡ b) ⊎ (a ≢ b)
-    go true h k = inl (h refl)
-    go false h k = inr (k refl)
 
 -- ---- ranks
 
@@ -51,9 +44,6 @@ module _ {x y : Float} (p : Number x) (q : Number y) where
 
   out_of_order : rank y < rank x → total_order x y ≡ false
   out_of_order h = by_rank ∙ lt-leb (rank x) (rank y) h
-
-  pub rank_of_not : total_order x y ≡ false → rank y < rank x
-  rank_of_not e = leb-false (rank x) (rank y) (sym by_rank ∙ e)
 
 -- all are finite values of the format
 pub data Numbers : List Float → Type 0 where

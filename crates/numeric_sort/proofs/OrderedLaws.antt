@@ -14,8 +14,9 @@ use Rattle.numeric.proofs.Values.{Number}
 use Rattle.numeric_sort.specs.Ordered.{insert, ordered, AllFinite}
 use Rattle.numeric.specs.TotalOrder.{total_order}
 use Rattle.std.specs.List.{swap}
+use Rattle.std.proofs.lemmas.Bool.{cases_eq}
 use Rattle.std.proofs.lemmas.List.Edits.{swap_is}
-use Rattle.numeric_sort.proofs.InsertLaws.{equal, rank_le, Numbers, none, also, numbers-insert, length-insert, insert_here, insert_commute, insert_undo}
+use Rattle.numeric_sort.proofs.InsertLaws.{rank_le, Numbers, none, also, numbers-insert, length-insert, insert_here, insert_commute, insert_undo}
 
 -- ---- numbers by their places
 
@@ -31,9 +32,6 @@ numbers_of (x ∷ xs) f = also (f zero (omega arith)) (numbers_of xs (λ i h. f 
 -- the finite values of a slice of f64
 pub slice_numbers : {xs : List Float} → AllFinite xs → ((i : ℕ) → T (fits binary64 (get_or xs i nan))) → Numbers xs
 slice_numbers {xs} a f = numbers_of xs (λ i h. record { is_finite = a.each i h; is_held = f i })
-
-pub all_finite : {xs : List Float} → Numbers xs → AllFinite xs
-all_finite n = record { each = λ i h. (number_at i n h).is_finite }
 
 numbers-set : {xs : List Float} (i : ℕ) {v : Float} → Numbers xs → Number v → Numbers (set xs i v)
 numbers-set i none q = none
@@ -83,7 +81,7 @@ module _ (i j : ℕ) {xs : List Float} (n : Numbers xs) (h : i < length xs) (k :
       let e : get_or ys j nan ≡ b = ⊎_elim
       (λ e. cc (get_or-set_same xs i b nan h))
       (λ d. get_or-set_other xs i j b nan d)
-      (equal j i) in
+      (cases_eq j i) in
       let r : insert (get_or ys j nan) (ordered (set ys j a)) ≡ insert a (ordered ys) = replaced j m (number_at i n h) (lt-length-set xs i b k) in
       let s : insert b (ordered (set ys j a)) ≡ insert b (ordered xs) =
       (rw e at r) ∙ replaced i n (number_at j n k) h in
