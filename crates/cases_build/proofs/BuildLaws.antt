@@ -1,33 +1,30 @@
 -- What build hands back on the lent slices is what its definition gives on slices full of sentinels; and each of its parts is held to the case.
 use mathlib.Core.Path.{◌≡◌, ap, ◌∙◌}
 use mathlib.Core.List.{List}
-use mathlib.Core.Bool.{Bool, false, ◌&&◌}
-use Prim.Native.Nat.{ℕ, ◌+◌, ◌-◌, ◌*◌, ◌≤◌}
-use native.Mathlib.Omega.{arith}
+use Rattle.std.specs.Prelude.{Some}
+use mathlib.Core.Bool.{Bool, false}
+use Prim.Native.Nat.{ℕ, ◌+◌, ◌-◌, ◌*◌}
 use lib.Dec.{eqb}
-use lib.ListN.{length, take, drop, replicate}
+use lib.ListN.{take, drop, replicate}
 use lib.Ieee.{Float, binary64, of_bits}
-use Rattle.lent.specs.Over.{over, part}
+use Rattle.lent.specs.Over.{over}
 use Rattle.lent.proofs.OverLaws.{lent-part}
 use Rattle.lent.proofs.NeverLaws.{never}
-use Rattle.grouping_chart.specs.Chart.{largest}
-use Rattle.grouping_chart.specs.Outcome.{Outcome}
 use Rattle.grouping_chart.specs.declared.object.ObjectIndex.{ObjectIndex}
 use Rattle.call_build.specs.Build.{Raw}
 use Rattle.call_build.specs.Call.{Memory, largest_raw, build_outcome}
 use Rattle.call_build.specs.declared.Building.{Building}
 use Rattle.call_build.specs.declared.Building.TheVariants.{Done, Refused}
-use Rattle.vectors.specs.Held.{Tells, FrontHeld}
+use Rattle.vectors.specs.Held.{Tells}
 use Rattle.vectors.specs.Table.{entries}
+use Rattle.vectors.specs.declared.call.Call.TheVariants.{Build}
 use Rattle.vectors.specs.declared.case.Head.{Head}
-use Rattle.vectors.specs.Form.{Formed}
 use Rattle.vectors.specs.Sentinel.{byte_sentinel, float_sentinel}
 use Rattle.vectors.specs.passes.Room.{most_places, Few}
 use Rattle.vectors.proofs.TableLaws.{entries_front}
-use Rattle.vectors.proofs.TellsLaws.{denied, tells_as, tells_both, tells_four, tells_of, tells_eqb}
+use Rattle.vectors.proofs.TellsLaws.{denied, tells_as, tells_of, tells_eqb}
 use Rattle.vectors.proofs.SentinelLaws.{bytes-lent, floats-lent}
-use Rattle.cases_build.specs.Build.{stored_rate, stored_raw, build_lent, FloatsHeld, ChartHeld, BuildStored, BuildForm, BuildHolds}
-use Rattle.cases_build.specs.passes.Room.{BuildRoom}
+use Rattle.cases_build.specs.Build.{stored_rate, stored_raw, build_lent, BuildStored, BuildHolds}
 
 -- ---- the answer
 
@@ -37,23 +34,6 @@ module _ (n : ℕ) (answer : Building) where
 
   pub refused-told : (number : ℕ) (place : ObjectIndex) → answer ≡ Refused number place → Tells false (answer ≡ Done n)
   refused-told number place e = denied (λ h. never (cc))
-
--- ---- answer and slices: each part is compared by itself, and what is told of the parts is put together
-
-pub chart-told : {at n : ℕ} {body : List ℕ} {m : Memory} {a b c d ab cd r : Bool}
-    → Tells a (FrontHeld (part at n body) byte_sentinel m.kind)
-    → Tells b (FloatsHeld body (at + n) n m.start)
-    → Tells c (FloatsHeld body (at + 9 * n) n m.delta)
-    → Tells d (FloatsHeld body (at + 17 * n) n m.ratio)
-    → ab ≡ (a && b) → cd ≡ (c && d) → r ≡ (ab && cd) → Tells r (ChartHeld at n body m)
-chart-told ta tb tc td p q e =
-    tells_as (λ x. record { kinds = x.0.0; starts = x.0.1; deltas = x.1.0; ratios = x.1.1 })
-    (λ x. ((x.kinds, x.starts), (x.deltas, x.ratios))) (tells_four p q e ta tb tc td)
-
-pub outcome-told : {at n : ℕ} {body : List ℕ} {o : Outcome Building Memory} {a b r : Bool}
-    → Tells a (o.answer ≡ Done n) → Tells b (ChartHeld at n body o.memory) → r ≡ (a && b) → Tells r (BuildStored at n body o)
-outcome-told ta tb e =
-    tells_as (λ x. record { answer = x.0; chart = x.1 }) (λ x. (x.answer, x.chart)) (tells_both _ _ e ta tb)
 
 -- ---- the raw objects and the slices, as fronts of what the code makes
 
@@ -87,17 +67,6 @@ module _ {n spare : ℕ} (few : Few n spare) (m : ℕ) (body : List ℕ) {times 
 
 -- ---- the case
 
-pub form-told : {m : ℕ} {h : Head} {body : List ℕ} {size : ℕ} {a r : Bool}
-    → Tells a (Formed 6 8 8 (10 + 9 * m + 25 * h.objects) h (length body)) → size ≡ m - 2 → r ≡ (a && eqb h.objects size)
-    → Tells r (BuildForm m h body)
-form-told {m} {h} {size} t s e =
-    tells_as (λ x. record { form = x.0; built = x.1 ∙ s }) (λ x. (x.form, omega (arith, x.built, s)))
-    (tells_both _ _ e t (tells_eqb h.objects size))
-
-pub form_room : {m : ℕ} {h : Head} {body : List ℕ} {spare : ℕ} → h.objects ≤ largest → spare ≤ 7 → BuildForm m h body
-    → BuildRoom m h.objects body spare
-form_room l k f = record { few = record { objects = l; places = k }; built = f.built; whole = f.form.whole }
-
-pub build_call : (h : Head) (body : List ℕ) (spare : ℕ) → BuildHolds h body spare → h.call ≡ 6
+pub build_call : (h : Head) (body : List ℕ) (spare : ℕ) → BuildHolds h body spare → h.call ≡ Some Build
 unfolding BuildHolds
 build_call h body spare p = p.form.form.asked

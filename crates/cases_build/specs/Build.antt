@@ -12,6 +12,7 @@ use Rattle.call_build.specs.declared.Building.TheVariants.{Done}
 use Rattle.vectors.specs.Case.{pair_at, word_at, words}
 use Rattle.vectors.specs.Held.{FrontHeld}
 use Rattle.vectors.specs.Table.{entries}
+use Rattle.vectors.specs.declared.call.Call.TheVariants.{Build}
 use Rattle.vectors.specs.declared.case.Head.{Head}
 use Rattle.vectors.specs.Form.{Formed, Holds}
 use Rattle.vectors.specs.Sentinel.{byte_sentinel, float_sentinel, floats_lent}
@@ -61,7 +62,7 @@ pub record BuildStored (at n : ℕ) (body : List ℕ) (o : Outcome Building Memo
 
 -- the bytes of a build case of m raw objects, the first two of which build none
 pub record BuildForm (m : ℕ) (h : Head) (body : List ℕ) : Type 0 where
-  pub form : Formed 6 8 8 (10 + 9 * m + 25 * h.objects) h (length body)
+  pub form : Formed Build 8 8 (10 + 9 * m + 25 * h.objects) h (length body)
   pub built : h.objects ≡ m - 2
 
 unfoldable pub BuildHolds : Head → List ℕ → ℕ → Type 0

@@ -1,41 +1,37 @@
 // A stored case of build.
 #![tactic(auto)]
 
-ghost use Rattle.std.specs.Prelude.{◌≡◌, ◌+◌, ◌-◌, ◌*◌, ◌≤◌, ◌<◌};
-ghost use Rattle.grouping_chart.specs.Chart.{largest};
+ghost use Rattle.std.specs.Prelude.{◌≡◌, ◌+◌, ◌*◌, ◌≤◌, ◌<◌, length};
 ghost use Rattle.call_build.specs.Build.{raw};
 ghost use Rattle.call_build.specs.Call.{memory, build_outcome};
 ghost use Rattle.call_build.specs.declared.Building.TheVariants as building;
 ghost use Rattle.vectors.specs.Held.{Tells};
 ghost use Rattle.cases_build.specs.Build.{raw_size, stored_rate, stored_raw, build_lent};
 ghost use Rattle.cases_build.specs.Build.{ChartHeld, BuildStored, BuildForm, BuildHolds};
-ghost use Rattle.cases_build.specs.passes.Room.{ChartThere, BuildRoom};
+ghost use Rattle.cases_build.specs.passes.Room.{BuildRoom};
 
 use call_build::Building;
+use vectors::call::Call;
 use vectors::case::Head;
-use vectors::form::{BUILD, formed};
-use vectors::held::both;
-use vectors::sentinel::{BYTE_SENTINEL, FLOAT_SENTINEL, MOST_OBJECTS, MOST_PLACES};
-use vectors::{case, held, table};
+use vectors::column::Column;
+use vectors::form::formed;
+use vectors::room::{Room, Spare};
+use vectors::sentinel::{BYTE_SENTINEL, FLOAT_SENTINEL, MOST_PLACES};
+use vectors::{case, table};
 
 // The most raw objects: the first two build none.
 const MOST_RAW: usize = 16386;
 
-// How many objects are built of m raw ones.
-fn built(m: usize) -> usize
-    ensures { result ≡ m - 2 }
-{
-    if m < 2 { 0 } else { m - 2 }
-}
-
 // How many raw objects the body has.
+#[tactic(auto, unfolding(crate::specs::Build::raw_size))]
 fn raw_size(body: &[u8]) -> usize
     ensures { (result ≡ raw_size body.now) × (result < 65536) }
 {
-    case::pair_at(body, 0) as usize
+    usize::from(case::pair_at(body, 0))
 }
 
 // The rate that the body has.
+#[tactic(auto, unfolding(crate::specs::Build::stored_rate))]
 fn stored_rate(body: &[u8]) -> f64
     ensures { result ≡ stored_rate body.now }
 {
@@ -62,14 +58,13 @@ fn chart_held(
     delta: &[f64],
     ratio: &[f64],
 ) -> bool
-    requires { ChartThere at n body.now kind.now }
+    requires { at + 25 * n ≤ length body.now }
     ensures { Tells result (ChartHeld at n body.now (memory kind.now start.now delta.now ratio.now)) }
 {
-    let kinds = held::bytes_held(body, at, n, BYTE_SENTINEL, kind);
-    let starts = held::floats_held(body, at + n, n, FLOAT_SENTINEL, start);
-    let deltas = held::floats_held(body, at + 9 * n, n, FLOAT_SENTINEL, delta);
-    let ratios = held::floats_held(body, at + 17 * n, n, FLOAT_SENTINEL, ratio);
-    both(both(kinds, starts), both(deltas, ratios))
+    Column::bytes(body, at, n).held(BYTE_SENTINEL, kind)
+        && Column::words(body, at + n, n).held(FLOAT_SENTINEL, start)
+        && Column::words(body, at + 9 * n, n).held(FLOAT_SENTINEL, delta)
+        && Column::words(body, at + 17 * n, n).held(FLOAT_SENTINEL, ratio)
 }
 
 // Build in lent slices, held to the chart that begins at a place of the body.
@@ -85,25 +80,23 @@ fn lent_holds(
     delta: &mut [f64],
     ratio: &mut [f64],
 ) -> bool
-    requires { ChartThere at n body.now built_kind.old }
+    requires { at + 25 * n ≤ length body.now }
     ensures { Tells result (BuildStored at n body.now
         (build_outcome rate (raw kind.now time.now) (memory built_kind.old start.old delta.old ratio.old))) }
 {
     let answer = call_build::build(kind, time, rate, built_kind, start, delta, ratio);
     let count = count_holds(n, answer);
-    both(
-        count,
-        chart_held(at, n, body, built_kind, start, delta, ratio),
-    )
+    count && chart_held(at, n, body, built_kind, start, delta, ratio)
 }
 
 // Build of m raw objects in slices full of sentinels, held to the body.
-fn call_holds(m: usize, n: usize, body: &[u8], spare: usize) -> bool
-    requires { BuildRoom m n body.now spare }
-    ensures { Tells result (BuildStored (10 + 9 * m) n body.now
-        (build_outcome (stored_rate body.now) (stored_raw m body.now) (build_lent n spare))) }
+fn call_holds(m: usize, room: Room, body: &[u8]) -> bool
+    requires { BuildRoom m room.head.objects body.now }
+    ensures { let n = room.head.objects in Tells result (BuildStored (10 + 9 * m) n body.now
+        (build_outcome (stored_rate body.now) (stored_raw m body.now) (build_lent n room.spare))) }
 {
-    let room = n + spare;
+    let n = room.head.objects;
+    let places = n + room.spare;
     let rate = stored_rate(body);
     let mut times = [0.0; MOST_RAW];
     table::read(body, 10 + m, 0, 0, m, &mut times);
@@ -114,37 +107,31 @@ fn call_holds(m: usize, n: usize, body: &[u8], spare: usize) -> bool
         &body[10..10 + m],
         &times[..m],
         rate,
-        &mut [BYTE_SENTINEL; MOST_PLACES][..room],
-        &mut [FLOAT_SENTINEL; MOST_PLACES][..room],
-        &mut [FLOAT_SENTINEL; MOST_PLACES][..room],
-        &mut [FLOAT_SENTINEL; MOST_PLACES][..room],
+        &mut [BYTE_SENTINEL; MOST_PLACES][..places],
+        &mut [FLOAT_SENTINEL; MOST_PLACES][..places],
+        &mut [FLOAT_SENTINEL; MOST_PLACES][..places],
+        &mut [FLOAT_SENTINEL; MOST_PLACES][..places],
     )
 }
 
 // Whether the bytes have the form of a build case of m raw objects.
-fn build_formed(m: usize, h: Head, body: &[u8]) -> bool
-    requires { (m < 65536) × (h.objects ≤ largest) }
-    ensures { Tells result (BuildForm m h body.now) }
+fn build_formed(m: usize, room: Room, body: &[u8]) -> bool
+    requires { m < 65536 }
+    ensures { Tells result (BuildForm m room.head body.now) }
 {
-    let size = 10 + 9 * m + 25 * h.objects;
-    both(
-        formed(h, BUILD, 8, 8, size, body.len()),
-        h.objects == built(m),
-    )
+    let size = 10 + 9 * m + 25 * room.head.objects;
+    formed(room.head, Call::Build, 8, 8, size, body.len())
+        && room.head.objects == m.saturating_sub(2)
 }
 
 // Whether build answers as the case has it, in slices with so many places to spare.
-pub fn holds(h: Head, body: &[u8], spare: usize) -> bool
-    requires { spare ≤ 7 }
-    ensures { Tells result (BuildHolds h body.now spare) }
+#[tactic(auto, unfolding(crate::specs::Build::BuildHolds))]
+pub fn holds(h: Head, body: &[u8], spare: Spare) -> bool
+    ensures { Tells result (BuildHolds h body.now spare.places) }
 {
-    let n = h.objects;
-    if n > MOST_OBJECTS {
+    let Some(room) = Room::of(h, spare) else {
         return false;
-    }
+    };
     let m = raw_size(body);
-    if build_formed(m, h, body) {
-        return call_holds(m, n, body, spare);
-    }
-    false
+    build_formed(m, room, body) && call_holds(m, room, body)
 }

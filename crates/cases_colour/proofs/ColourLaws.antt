@@ -1,12 +1,12 @@
 -- What the call that is asked hands back on the lent slices is what its definition gives on slices full of sentinels;
 -- and each of its parts is held to the case.
 use mathlib.Core.Path.{◌≡◌, ap, ◌∙◌}
-use mathlib.Core.List.{List, map}
-use mathlib.Core.Bool.{Bool, false, ◌&&◌}
-use Prim.Native.Nat.{ℕ, ◌+◌, ◌-◌, ◌*◌, ◌≤◌}
-use native.Mathlib.Omega.{arith}
-use lib.ListN.{length, take, drop, replicate}
-use lib.Ieee.{Float, binary64, to_bits, of_bits}
+use mathlib.Core.List.{List}
+use Rattle.std.specs.Prelude.{Some}
+use mathlib.Core.Bool.{Bool, false}
+use Prim.Native.Nat.{ℕ, ◌+◌, ◌-◌, ◌*◌}
+use lib.ListN.{take, drop, replicate}
+use lib.Ieee.{Float, binary64, of_bits}
 use Rattle.lent.specs.Over.{over}
 use Rattle.lent.proofs.OverLaws.{lent-part}
 use Rattle.lent.proofs.NeverLaws.{never}
@@ -18,19 +18,17 @@ use Rattle.call_colour.specs.Call.{Memory, colour_outcome, stretch_outcome}
 use Rattle.call_colour.specs.declared.Colouring.{Colouring}
 use Rattle.call_colour.specs.declared.Colouring.TheVariants as colouring
 use Rattle.call_colour.specs.declared.Stretching.{Stretching}
-use Rattle.vectors.specs.Case.{pair_at, words}
-use Rattle.vectors.specs.Held.{Tells, FrontHeld}
+use Rattle.vectors.specs.Held.{Tells}
 use Rattle.vectors.specs.Table.{entries}
+use Rattle.vectors.specs.declared.call.Call.TheVariants.{Colour as ColourCall, Stretch}
 use Rattle.vectors.specs.declared.case.Head.{Head}
-use Rattle.vectors.specs.Form.{Formed}
-use Rattle.vectors.specs.Sentinel.{number_sentinel, float_sentinel, Cleared}
+use Rattle.vectors.specs.Sentinel.{number_sentinel, float_sentinel}
 use Rattle.vectors.specs.passes.Room.{most_places, most_work, Few}
 use Rattle.vectors.proofs.TableLaws.{entries_front}
-use Rattle.vectors.proofs.TellsLaws.{denied, tells_as, tells_both, tells_of}
+use Rattle.vectors.proofs.TellsLaws.{denied, tells_of}
 use Rattle.vectors.proofs.SentinelLaws.{code_one, ones_lent, work-lent, floats-lent}
-use Rattle.cases_colour.specs.Colour.{colour_chart, colour_lent, MeanIs, Answers, leaves, ValuesHeld, CallStored}
+use Rattle.cases_colour.specs.Colour.{colour_chart, colour_lent, MeanIs, Answers, leaves, CallStored}
 use Rattle.cases_colour.specs.Colour.{ColourForm, ColourHolds, StretchHolds}
-use Rattle.cases_colour.specs.passes.Room.{ColourRoom}
 use Rattle.cases_colour.specs.passes.Told.{CallTold}
 use Rattle.cases_colour.specs.declared.StoredStretch.{StoredStretch}
 use Rattle.cases_colour.specs.declared.Asked.{Asked}
@@ -55,18 +53,6 @@ module _ {call : Asked} {c : Chart} {m : Memory} {r : Bool} where
   stretch-answered s a e t =
       let told = tells_of (λ (x : Outcome Stretching Memory). MeanIs s x.answer) e t in
       rw a (record { told = told; memory = ap (λ (x : Outcome Stretching Memory). x.memory) e })
-
-pub values-told : {size n : ℕ} {body : List ℕ} {m : Memory} {a b r : Bool} → r ≡ (a && b)
-    → Tells a (FrontHeld (words body (2 + n + size) n) (to_bits binary64 float_sentinel) (map (to_bits binary64) m.value))
-    → Tells b (Cleared n m.work m.scratch) → Tells r (ValuesHeld size n body m)
-values-told q t u = tells_as (λ p. record { values = p.0; cleared = p.1 }) (λ p. (p.values, p.cleared)) (tells_both _ _ q t u)
-
--- the answer, and what the call leaves
-pub call_told : {call : Asked} {size n : ℕ} {body : List ℕ} {c : Chart} {m m' : Memory} {a b r : Bool}
-    → CallTold call c m m' a → Tells b (ValuesHeld size n body m') → r ≡ (a && b) → Tells r (CallStored call size n body c m)
-call_told {size} {n} {body} x t q =
-    tells_as (λ p. record { answer = p.0; memory = p.1 }) (λ p. (p.answer, p.memory))
-    (tells_both _ _ q x.told (tells_of (ValuesHeld size n body) x.memory t))
 
 -- ---- the chart and the slices, as fronts of what the code makes
 
@@ -104,20 +90,10 @@ module _ {n spare : ℕ} (few : Few n spare) (size width : ℕ) (body : List ℕ
 
 -- ---- the cases
 
-pub form-told : (size : ℕ) (h : Head) (body : List ℕ) (ratios : ℕ) {r : Bool} → ratios ≡ pair_at body 0
-    → Tells r (Formed 2 1 2 (2 + 9 * h.objects + size + 8 * ratios) h (length body)) → Tells r (ColourForm size h body)
-unfolding ColourForm
-form-told size h body ratios e t = tells_of (λ (k : ℕ). Formed 2 1 2 (2 + 9 * h.objects + size + 8 * k) h (length body)) e t
-
-pub form_room : (h : Head) (body : List ℕ) (spare size : ℕ) → h.objects ≤ largest → spare ≤ 7 → size ≤ 2 * h.objects
-    → ColourForm size h body → ColourRoom size h.objects body spare
-unfolding ColourForm
-form_room h body spare size l k z f = record { few = record { objects = l; places = k }; small = z; whole = omega (arith, f.whole) }
-
-pub colour_call : (h : Head) (body : List ℕ) (spare : ℕ) → ColourHolds h body spare → h.call ≡ 2
+pub colour_call : (h : Head) (body : List ℕ) (spare : ℕ) → ColourHolds h body spare → h.call ≡ Some ColourCall
 unfolding ColourHolds ColourForm
 colour_call h body spare p = p.form.asked
 
-pub stretch_call : (chart : Head) (body : List ℕ) (h : Head) (part : List ℕ) (spare : ℕ) → StretchHolds chart body h part spare → h.call ≡ 3
+pub stretch_call : (chart : Head) (body : List ℕ) (h : Head) (part : List ℕ) (spare : ℕ) → StretchHolds chart body h part spare → h.call ≡ Some Stretch
 unfolding StretchHolds
 stretch_call chart body h part spare p = p.form.1.form.asked

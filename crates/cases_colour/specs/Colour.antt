@@ -14,6 +14,7 @@ use Rattle.call_colour.specs.declared.Stretching.TheVariants as stretching
 use Rattle.vectors.specs.Case.{pair_at, quad_at, word_at, column_size, words}
 use Rattle.vectors.specs.Held.{FrontHeld}
 use Rattle.vectors.specs.Table.{entries}
+use Rattle.vectors.specs.declared.call.Call.TheVariants.{Colour as ColourCall, Stretch}
 use Rattle.vectors.specs.declared.case.Head.{Head}
 use Rattle.vectors.specs.Form.{Formed, PartFormed, Holds}
 use Rattle.vectors.specs.Sentinel.{float_sentinel, floats_lent, work_lent, Cleared}
@@ -81,7 +82,7 @@ colour_lent n spare = record {
 
 -- the bytes of a colour case, by the size of its column
 unfoldable pub ColourForm : ℕ → Head → List ℕ → Type 0
-ColourForm size h body = Formed 2 1 2 (2 + 9 * h.objects + size + 8 * pair_at body 0) h (length body)
+ColourForm size h body = Formed ColourCall 1 2 (2 + 9 * h.objects + size + 8 * pair_at body 0) h (length body)
 
 unfoldable pub ColourHolds : Head → List ℕ → ℕ → Type 0
 ColourHolds h body spare =
@@ -95,6 +96,6 @@ unfoldable pub StretchHolds : Head → List ℕ → Head → List ℕ → ℕ �
 StretchHolds chart body h stored spare =
     let n : ℕ = chart.objects in
     let size : ℕ = column_size n chart.width in
-    Holds n (ColourForm size chart body × PartFormed 3 1 16 n h (length stored))
+    Holds n (ColourForm size chart body × PartFormed Stretch 1 16 n h (length stored))
     (CallStored (asked.Stretched (stretch_of stored)) size n body
     (colour_chart size chart.width n body) (colour_lent n spare))

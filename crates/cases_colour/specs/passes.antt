@@ -1,3 +1,2 @@
 -- What only the passes and their proofs need.
-pub mod Room
 pub mod Told

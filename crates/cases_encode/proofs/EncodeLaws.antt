@@ -1,27 +1,27 @@
 -- What encode hands back on the lent slices is what its definition gives on slices full of sentinels; and each of its parts is held to the case.
 use mathlib.Core.Path.{◌≡◌, ap, ◌∙◌}
 use mathlib.Core.List.{List}
-use mathlib.Core.Bool.{Bool, false, ◌&&◌}
+use Rattle.std.specs.Prelude.{Some}
+use mathlib.Core.Bool.{Bool, false}
 use Prim.Native.Nat.{ℕ, ◌+◌, ◌-◌, ◌*◌}
 use lib.Dec.{eqb}
 use lib.ListN.{take, drop, replicate}
 use lib.Ieee.{Float}
-use Rattle.lent.specs.Over.{part}
 use Rattle.lent.proofs.OverLaws.{lent-part}
 use Rattle.lent.proofs.NeverLaws.{never}
 use Rattle.grouping_chart.specs.Chart.{Chart, largest}
-use Rattle.grouping_chart.specs.Outcome.{Outcome}
 use Rattle.grouping_chart.specs.Settings.{base_settings}
 use Rattle.grouping_chart.specs.declared.object.ObjectIndex.{ObjectIndex}
 use Rattle.call_encode.specs.Call.{Memory, encode_outcome}
 use Rattle.call_encode.specs.declared.Encoding.{Encoding}
 use Rattle.call_encode.specs.declared.Encoding.TheVariants.{Done, Refused}
-use Rattle.vectors.specs.Case.{pair_at, column}
-use Rattle.vectors.specs.Held.{Tells, FrontHeld}
+use Rattle.vectors.specs.Case.{pair_at}
+use Rattle.vectors.specs.Held.{Tells}
+use Rattle.vectors.specs.declared.call.Call.TheVariants.{Encode}
 use Rattle.vectors.specs.declared.case.Head.{Head}
-use Rattle.vectors.specs.Sentinel.{number_sentinel, byte_sentinel, float_sentinel, ColumnsHeld, Cleared}
+use Rattle.vectors.specs.Sentinel.{number_sentinel, byte_sentinel, float_sentinel}
 use Rattle.vectors.specs.passes.Room.{most_places, most_work, Few}
-use Rattle.vectors.proofs.TellsLaws.{denied, tells_as, tells_both, tells_of, tells_eqb}
+use Rattle.vectors.proofs.TellsLaws.{denied, tells_as, tells_of, tells_eqb}
 use Rattle.vectors.proofs.SentinelLaws.{code_one, ones_lent, numbers-lent, bytes-lent, work-lent, floats-lent}
 use Rattle.cases_encode.specs.Encode.{encode_chart, encode_lent, EncodeStored, EncodeHolds}
 
@@ -33,35 +33,6 @@ module _ (body : List ℕ) (answer : Encoding) where
 
   pub refused-told : (number : ℕ) (place : ObjectIndex) → answer ≡ Refused number place → Tells false (answer ≡ Done (pair_at body 0))
   refused-told number place e = denied (λ h. never (cc))
-
--- ---- answer and slices: each part is compared by itself, and what is told of the parts is put together
-
-pub outcome-told : {size width n : ℕ} {body : List ℕ} {o : Outcome Encoding Memory} {a b c d e f bc abc de def r : Bool}
-    → Tells a (o.answer ≡ Done (pair_at body 0))
-    → Tells b (ColumnsHeld body (2 + n) size width n o.memory.streak o.memory.streak_place)
-    → Tells c (ColumnsHeld body (2 + n + 2 * size) size width n o.memory.pattern o.memory.pattern_place)
-    → Tells d (FrontHeld (column body (2 + n + 4 * size) width n) number_sentinel o.memory.hit)
-    → Tells e (FrontHeld (part (2 + n + 5 * size) n body) byte_sentinel o.memory.interval)
-    → Tells f (Cleared n o.memory.work o.memory.scratch)
-    → bc ≡ (b && c) → abc ≡ (a && bc) → de ≡ (d && e) → def ≡ (de && f) → r ≡ (abc && def)
-    → Tells r (EncodeStored size width n body o)
-outcome-told ta tb tc td te tf p q u v w =
-    tells_as
-    (λ p. record {
-      answer = p.0.0;
-      streak = p.0.1.0.first;
-      streak_place = p.0.1.0.second;
-      pattern = p.0.1.1.first;
-      pattern_place = p.0.1.1.second;
-      hit = p.1.0.0;
-      interval = p.1.0.1;
-      cleared = p.1.1;
-    })
-    (λ q. (
-      (q.answer, (record { first = q.streak; second = q.streak_place }, record { first = q.pattern; second = q.pattern_place })),
-      ((q.hit, q.interval), q.cleared),
-    ))
-    (tells_both _ _ w (tells_both _ _ q ta (tells_both _ _ p tb tc)) (tells_both _ _ v (tells_both _ _ u td te) tf))
 
 -- ---- the chart and the slices, as fronts of what the code makes
 
@@ -100,6 +71,6 @@ module _ {n spare : ℕ} (few : Few n spare) where
 
 -- ---- the case
 
-pub encode_call : (h : Head) (body : List ℕ) (spare : ℕ) → EncodeHolds h body spare → h.call ≡ 1
+pub encode_call : (h : Head) (body : List ℕ) (spare : ℕ) → EncodeHolds h body spare → h.call ≡ Some Encode
 unfolding EncodeHolds
 encode_call h body spare p = p.form.asked

@@ -11,6 +11,7 @@ use Rattle.call_encode.specs.declared.Encoding.{Encoding}
 use Rattle.call_encode.specs.declared.Encoding.TheVariants.{Done}
 use Rattle.vectors.specs.Case.{pair_at, column_size, column}
 use Rattle.vectors.specs.Held.{FrontHeld}
+use Rattle.vectors.specs.declared.call.Call.TheVariants.{Encode}
 use Rattle.vectors.specs.declared.case.Head.{Head}
 use Rattle.vectors.specs.Form.{Formed, Holds}
 use Rattle.vectors.specs.Sentinel.{number_sentinel, byte_sentinel, numbers_lent, floats_lent, work_lent, Cleared}
@@ -50,5 +51,5 @@ unfoldable pub EncodeHolds : Head → List ℕ → ℕ → Type 0
 EncodeHolds h body spare =
     let n : ℕ = h.objects in
     let size : ℕ = column_size n h.width in
-    Holds n (Formed 1 1 2 (2 + 2 * n + 5 * size) h (length body))
+    Holds n (Formed Encode 1 2 (2 + 2 * n + 5 * size) h (length body))
     (EncodeStored size h.width n body (encode_outcome base_settings (encode_chart n body) (encode_lent n spare)))

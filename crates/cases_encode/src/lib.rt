@@ -1,25 +1,27 @@
 // A stored case of encode.
 #![tactic(auto)]
 
-ghost use Rattle.std.specs.Prelude.{◌≡◌, ◌≤◌};
+ghost use Rattle.std.specs.Prelude.{◌≡◌};
 ghost use Rattle.grouping_chart.specs.Settings.{base_settings};
 ghost use Rattle.grouping_chart.specs.Outcome.{outcome};
 ghost use Rattle.grouping_chart.specs.Chart.{chart};
 ghost use Rattle.call_encode.specs.Call.{memory, encode_outcome};
 ghost use Rattle.call_encode.specs.declared.Encoding.TheVariants as encoding;
-ghost use Rattle.vectors.specs.Case.{pair_at};
+ghost use Rattle.vectors.specs.Case.{pair_at, column_size};
 ghost use Rattle.vectors.specs.Held.{Tells};
 ghost use Rattle.cases_encode.specs.Encode.{encode_chart, encode_lent, EncodeStored, EncodeHolds};
-ghost use Rattle.cases_encode.specs.passes.Room.{EncodeCompared, EncodeRoom};
+ghost use Rattle.cases_encode.specs.passes.Room.{EncodeBody};
 
 use call_encode::Encoding;
+use vectors::call::Call;
 use vectors::case::Head;
-use vectors::form::{ENCODE, formed};
-use vectors::held::both;
+use vectors::column::Column;
+use vectors::form::formed;
+use vectors::room::{Room, Spare};
+use vectors::sentinel;
 use vectors::sentinel::{
     BYTE_SENTINEL, FLOAT_SENTINEL, MOST_OBJECTS, MOST_PLACES, MOST_WORK, NUMBER_SENTINEL,
 };
-use vectors::{held, sentinel};
 
 // Whether the chart is accepted, with as many hit patterns as the body's first number says.
 fn count_holds(body: &[u8], answer: Encoding) -> bool
@@ -33,8 +35,7 @@ fn count_holds(body: &[u8], answer: Encoding) -> bool
 
 // Whether an answer and slices are those of the body, each of whose columns has so many bytes.
 fn outcome_holds(
-    h: Head,
-    size: usize,
+    room: Room,
     body: &[u8],
     answer: Encoding,
     streak: &[u16],
@@ -46,36 +47,26 @@ fn outcome_holds(
     work: &[u16],
     scratch: &[f64],
 ) -> bool
-    requires { EncodeCompared size h.objects body.now interval.now }
-    ensures { Tells result (EncodeStored size h.width h.objects body.now
+    requires { EncodeBody room.head body.now }
+    ensures { let h = room.head in Tells result (EncodeStored (column_size h.objects h.width) h.width h.objects body.now
         (outcome answer
         (memory streak.now streak_place.now pattern.now pattern_place.now hit.now interval.now work.now scratch.now))) }
 {
-    let n = h.objects;
+    let n = room.head.objects;
+    let width = room.head.width;
+    let size = room.column_size();
     let at = 2 + n;
-    let count = count_holds(body, answer);
-    let streaks = sentinel::columns_held(body, at, size, h.width, n, streak, streak_place);
-    let patterns = sentinel::columns_held(
-        body,
-        at + 2 * size,
-        size,
-        h.width,
-        n,
-        pattern,
-        pattern_place,
-    );
-    let hits = held::column_held(body, at + 4 * size, h.width, n, NUMBER_SENTINEL, hit);
-    let intervals = held::bytes_held(body, at + 5 * size, n, BYTE_SENTINEL, interval);
-    let cleared = sentinel::work_cleared(n, work, scratch);
-    let first = both(count, both(streaks, patterns));
-    let rest = both(both(hits, intervals), cleared);
-    both(first, rest)
+    count_holds(body, answer)
+        && sentinel::columns_held(body, at, size, width, n, streak, streak_place)
+        && sentinel::columns_held(body, at + 2 * size, size, width, n, pattern, pattern_place)
+        && Column::numbers(body, at + 4 * size, width, n).held(NUMBER_SENTINEL, hit)
+        && Column::bytes(body, at + 5 * size, n).held(BYTE_SENTINEL, interval)
+        && sentinel::work_cleared(n, work, scratch)
 }
 
 // Encode in lent slices, held to the body.
 fn lent_holds(
-    h: Head,
-    size: usize,
+    room: Room,
     body: &[u8],
     kind: &[u8],
     one: &[f64],
@@ -88,8 +79,8 @@ fn lent_holds(
     work: &mut [u16],
     scratch: &mut [f64],
 ) -> bool
-    requires { EncodeCompared size h.objects body.now interval.old }
-    ensures { Tells result (EncodeStored size h.width h.objects body.now
+    requires { EncodeBody room.head body.now }
+    ensures { let h = room.head in Tells result (EncodeStored (column_size h.objects h.width) h.width h.objects body.now
         (encode_outcome base_settings (chart kind.now one.now one.now one.now)
         (memory streak.old streak_place.old pattern.old pattern_place.old hit.old interval.old work.old scratch.old))) }
 {
@@ -108,8 +99,7 @@ fn lent_holds(
         scratch,
     );
     outcome_holds(
-        h,
-        size,
+        room,
         body,
         got,
         streak,
@@ -124,42 +114,37 @@ fn lent_holds(
 }
 
 // Encode in slices full of sentinels, held to the body.
-fn call_holds(h: Head, size: usize, body: &[u8], spare: usize) -> bool
-    requires { EncodeRoom size h.objects body.now spare }
-    ensures { Tells result (EncodeStored size h.width h.objects body.now
-        (encode_outcome base_settings (encode_chart h.objects body.now) (encode_lent h.objects spare))) }
+fn call_holds(room: Room, body: &[u8]) -> bool
+    requires { EncodeBody room.head body.now }
+    ensures { let h = room.head in Tells result (EncodeStored (column_size h.objects h.width) h.width h.objects body.now
+        (encode_outcome base_settings (encode_chart h.objects body.now) (encode_lent h.objects room.spare))) }
 {
-    let n = h.objects;
-    let room = n + spare;
+    let n = room.head.objects;
+    let places = n + room.spare;
     lent_holds(
-        h,
-        size,
+        room,
         body,
         &body[2..2 + n],
         &[1.0; MOST_OBJECTS][..n],
-        &mut [NUMBER_SENTINEL; MOST_PLACES][..room],
-        &mut [NUMBER_SENTINEL; MOST_PLACES][..room],
-        &mut [NUMBER_SENTINEL; MOST_PLACES][..room],
-        &mut [NUMBER_SENTINEL; MOST_PLACES][..room],
-        &mut [NUMBER_SENTINEL; MOST_PLACES][..room],
-        &mut [BYTE_SENTINEL; MOST_PLACES][..room],
-        &mut [NUMBER_SENTINEL; MOST_WORK][..8 * n + spare],
-        &mut [FLOAT_SENTINEL; MOST_PLACES][..room],
+        &mut [NUMBER_SENTINEL; MOST_PLACES][..places],
+        &mut [NUMBER_SENTINEL; MOST_PLACES][..places],
+        &mut [NUMBER_SENTINEL; MOST_PLACES][..places],
+        &mut [NUMBER_SENTINEL; MOST_PLACES][..places],
+        &mut [NUMBER_SENTINEL; MOST_PLACES][..places],
+        &mut [BYTE_SENTINEL; MOST_PLACES][..places],
+        &mut [NUMBER_SENTINEL; MOST_WORK][..8 * n + room.spare],
+        &mut [FLOAT_SENTINEL; MOST_PLACES][..places],
     )
 }
 
 // Whether encode answers as the case has it, in slices with so many places to spare.
-pub fn holds(h: Head, body: &[u8], spare: usize) -> bool
-    requires { spare ≤ 7 }
-    ensures { Tells result (EncodeHolds h body.now spare) }
+#[tactic(auto, unfolding(crate::specs::Encode::EncodeHolds))]
+pub fn holds(h: Head, body: &[u8], spare: Spare) -> bool
+    ensures { Tells result (EncodeHolds h body.now spare.places) }
 {
-    let n = h.objects;
-    if n > MOST_OBJECTS {
+    let Some(room) = Room::of(h, spare) else {
         return false;
-    }
-    let size = vectors::case::column_size(n, h.width);
-    if formed(h, ENCODE, 1, 2, 2 + 2 * n + 5 * size, body.len()) {
-        return call_holds(h, size, body, spare);
-    }
-    false
+    };
+    let size = 2 + 2 * h.objects + 5 * room.column_size();
+    formed(h, Call::Encode, 1, 2, size, body.len()) && call_holds(room, body)
 }

@@ -12,6 +12,7 @@ use Rattle.call_record.specs.declared.GroupRecord.{GroupRecord}
 use Rattle.call_record.specs.declared.Recording.{Recording}
 use Rattle.call_record.specs.declared.Recording.TheVariants.{Done, Refused}
 use Rattle.vectors.specs.Case.{pair_at, word_at}
+use Rattle.vectors.specs.declared.call.Call.TheVariants.{Record as RecordCall}
 use Rattle.vectors.specs.declared.case.Head.{Head}
 use Rattle.vectors.specs.Form.{PartFormed, Holds}
 use Rattle.vectors.specs.Sentinel.{floats_lent, work_lent, Cleared}
@@ -55,5 +56,5 @@ asked_outcome part c m = record_outcome base_settings c (pair_at part 0) (of_bit
 unfoldable pub RecordHolds : Head → List ℕ → Head → List ℕ → ℕ → Type 0
 RecordHolds chart body h part spare =
     let n : ℕ = chart.objects in
-    Holds n (RhythmForm chart body × PartFormed 5 2 58 n h (length part))
+    Holds n (RhythmForm chart body × PartFormed RecordCall 2 58 n h (length part))
     (RecordStored n part (asked_outcome part (rhythm_chart n body) (record_lent n spare)))

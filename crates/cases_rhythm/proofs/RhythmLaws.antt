@@ -1,16 +1,16 @@
 -- What rhythm hands back on the lent slices is what its definition gives on slices full of sentinels; and each of its parts is held to the case.
 use mathlib.Core.Path.{◌≡◌, ap, ◌∙◌}
 use mathlib.Core.List.{List}
+use Rattle.std.specs.Prelude.{Some}
 use mathlib.Core.Bool.{Bool, false, ◌&&◌}
 use Prim.Native.Nat.{ℕ, ◌+◌, ◌-◌, ◌*◌, ◌≤◌}
 use native.Mathlib.Omega.{arith}
 use lib.Dec.{eqb}
-use lib.ListN.{take, drop, replicate}
+use lib.ListN.{length, take, drop, replicate}
 use lib.Ieee.{Float, binary64, of_bits}
 use Rattle.lent.proofs.OverLaws.{lent-part}
 use Rattle.lent.proofs.NeverLaws.{never}
 use Rattle.grouping_chart.specs.Chart.{Chart, largest}
-use Rattle.grouping_chart.specs.Outcome.{Outcome}
 use Rattle.grouping_chart.specs.Settings.{base_settings}
 use Rattle.grouping_chart.specs.declared.object.ObjectIndex.{ObjectIndex}
 use Rattle.call_rhythm.specs.Call.{Memory, rhythm_outcome}
@@ -19,14 +19,15 @@ use Rattle.call_rhythm.specs.declared.Grouping.TheVariants.{Done, Refused}
 use Rattle.vectors.specs.Case.{pair_at}
 use Rattle.vectors.specs.Held.{Tells}
 use Rattle.vectors.specs.Table.{entries}
+use Rattle.vectors.specs.declared.call.Call.TheVariants.{Rhythm}
 use Rattle.vectors.specs.declared.case.Head.{Head}
-use Rattle.vectors.specs.Sentinel.{number_sentinel, float_sentinel, ColumnsHeld, Cleared}
+use Rattle.vectors.specs.Sentinel.{number_sentinel, float_sentinel}
 use Rattle.vectors.specs.passes.Room.{most_places, most_work, Few}
 use Rattle.vectors.proofs.TableLaws.{entries_front}
 use Rattle.vectors.proofs.TellsLaws.{denied, tells_as, tells_both, tells_of, tells_eqb}
 use Rattle.vectors.proofs.SentinelLaws.{code_one, ones_lent, numbers-lent, work-lent, floats-lent}
 use Rattle.cases_rhythm.specs.Rhythm.{rhythm_chart, rhythm_lent, RhythmStored, RhythmForm, RhythmHolds}
-use Rattle.cases_rhythm.specs.passes.Times.{TimesRead, RhythmRoom}
+use Rattle.cases_rhythm.specs.passes.Times.{TimesRead}
 
 -- ---- the answer of rhythm
 
@@ -39,17 +40,6 @@ module _ (body : List ℕ) (answer : Grouping) where
 
   pub counts-refused : (number : ℕ) (place : ObjectIndex) → answer ≡ Refused number place → Tells false (answer ≡ Done (pair_at body 0) (pair_at body 2))
   counts-refused number place e = denied (λ h. never (cc))
-
--- ---- answer and slices: each part is compared by itself, and what is told of the parts is put together
-
-pub outcome-told : {n : ℕ} {body : List ℕ} {o : Outcome Grouping Memory} {a b c bc r : Bool}
-    → Tells a (o.answer ≡ Done (pair_at body 0) (pair_at body 2))
-    → Tells b (ColumnsHeld body (4 + 17 * n) (2 * n) 2 n o.memory.group o.memory.pattern)
-    → Tells c (Cleared n o.memory.work o.memory.scratch)
-    → bc ≡ (b && c) → r ≡ (a && bc) → Tells r (RhythmStored n body o)
-outcome-told ta tb tc p q =
-    tells_as (λ p. record { answer = p.0; numbers = p.1.0; cleared = p.1.1 }) (λ q. (q.answer, (q.numbers, q.cleared)))
-    (tells_both _ _ q ta (tells_both _ _ p tb tc))
 
 -- ---- the chart and the slices, as fronts of what the code makes
 
@@ -87,10 +77,11 @@ module _ {n spare : ℕ} (few : Few n spare) (body : List ℕ) {starts deltas : 
 
 -- ---- the case
 
-pub form_room : (h : Head) (body : List ℕ) (spare : ℕ) → h.objects ≤ largest → spare ≤ 7 → RhythmForm h body → RhythmRoom h.objects body spare
+-- the kinds lie in a body of this form
+pub form_room : (h : Head) (body : List ℕ) → RhythmForm h body → 4 + h.objects ≤ length body
 unfolding RhythmForm
-form_room h body spare l k f = record { few = record { objects = l; places = k }; whole = omega (arith, f.whole) }
+form_room h body f = omega (arith, f.whole)
 
-pub rhythm_call : (h : Head) (body : List ℕ) (spare : ℕ) → RhythmHolds h body spare → h.call ≡ 4
+pub rhythm_call : (h : Head) (body : List ℕ) (spare : ℕ) → RhythmHolds h body spare → h.call ≡ Some Rhythm
 unfolding RhythmHolds RhythmForm
 rhythm_call h body spare p = p.form.asked

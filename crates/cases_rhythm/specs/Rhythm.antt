@@ -11,6 +11,7 @@ use Rattle.call_rhythm.specs.declared.Grouping.{Grouping}
 use Rattle.call_rhythm.specs.declared.Grouping.TheVariants.{Done}
 use Rattle.vectors.specs.Case.{pair_at}
 use Rattle.vectors.specs.Table.{entries}
+use Rattle.vectors.specs.declared.call.Call.TheVariants.{Rhythm}
 use Rattle.vectors.specs.declared.case.Head.{Head}
 use Rattle.vectors.specs.Form.{Formed, Holds}
 use Rattle.vectors.specs.Sentinel.{numbers_lent, floats_lent, work_lent, ColumnsHeld, Cleared}
@@ -46,7 +47,7 @@ pub record RhythmStored (n : ℕ) (body : List ℕ) (o : Outcome Grouping Memory
 
 -- the bytes of a rhythm case
 unfoldable pub RhythmForm : Head → List ℕ → Type 0
-RhythmForm h body = Formed 4 2 2 (4 + 21 * h.objects) h (length body)
+RhythmForm h body = Formed Rhythm 2 2 (4 + 21 * h.objects) h (length body)
 
 unfoldable pub RhythmHolds : Head → List ℕ → ℕ → Type 0
 RhythmHolds h body spare =

@@ -1,21 +1,23 @@
 // A stored case of rhythm.
 #![tactic(auto)]
 
-ghost use Rattle.std.specs.Prelude.{◌≡◌, ◌≤◌};
+ghost use Rattle.std.specs.Prelude.{◌≡◌, ◌+◌, ◌≤◌, length};
 ghost use Rattle.grouping_chart.specs.Settings.{base_settings};
 ghost use Rattle.grouping_chart.specs.Outcome.{outcome};
-ghost use Rattle.grouping_chart.specs.Chart.{chart, largest};
+ghost use Rattle.grouping_chart.specs.Chart.{chart};
 ghost use Rattle.call_rhythm.specs.Call.{memory, rhythm_outcome};
 ghost use Rattle.call_rhythm.specs.declared.Grouping.TheVariants as grouping;
 ghost use Rattle.vectors.specs.Case.{pair_at};
 ghost use Rattle.vectors.specs.Held.{Tells};
 ghost use Rattle.cases_rhythm.specs.Rhythm.{rhythm_chart, rhythm_lent, RhythmStored, RhythmForm, RhythmHolds};
-ghost use Rattle.cases_rhythm.specs.passes.Times.{TimesRoom, TimesRead, RhythmRoom};
+ghost use Rattle.cases_rhythm.specs.passes.Times.{TimesRoom, TimesRead};
 
 use call_rhythm::Grouping;
+use vectors::call::Call;
 use vectors::case::Head;
-use vectors::form::{RHYTHM, formed};
+use vectors::form::formed;
 use vectors::held::both;
+use vectors::room::{Room, Spare};
 use vectors::sentinel::{FLOAT_SENTINEL, MOST_OBJECTS, MOST_PLACES, MOST_WORK, NUMBER_SENTINEL};
 use vectors::{case, sentinel, table};
 
@@ -43,7 +45,7 @@ fn counts_hold(body: &[u8], answer: Grouping) -> bool
 
 // Whether an answer and slices are those of the body.
 fn outcome_holds(
-    n: usize,
+    room: Room,
     body: &[u8],
     answer: Grouping,
     group: &[u16],
@@ -51,19 +53,18 @@ fn outcome_holds(
     work: &[u16],
     scratch: &[f64],
 ) -> bool
-    requires { n ≤ largest }
-    ensures { Tells result (RhythmStored n body.now (outcome answer
+    ensures { Tells result (RhythmStored room.head.objects body.now (outcome answer
         (memory group.now pattern.now work.now scratch.now))) }
 {
-    let counts = counts_hold(body, answer);
-    let numbers = sentinel::columns_held(body, 4 + 17 * n, 2 * n, 2, n, group, pattern);
-    let cleared = sentinel::work_cleared(n, work, scratch);
-    both(counts, both(numbers, cleared))
+    let n = room.head.objects;
+    counts_hold(body, answer)
+        && sentinel::columns_held(body, 4 + 17 * n, 2 * n, 2, n, group, pattern)
+        && sentinel::work_cleared(n, work, scratch)
 }
 
 // Rhythm in lent slices, held to the body.
 fn lent_holds(
-    n: usize,
+    room: Room,
     body: &[u8],
     kind: &[u8],
     start: &[f64],
@@ -74,58 +75,55 @@ fn lent_holds(
     work: &mut [u16],
     scratch: &mut [f64],
 ) -> bool
-    requires { n ≤ largest }
-    ensures { Tells result (RhythmStored n body.now
+    ensures { Tells result (RhythmStored room.head.objects body.now
         (rhythm_outcome base_settings (chart kind.now start.now delta.now one.now)
         (memory group.old pattern.old work.old scratch.old))) }
 {
     let answer = call_rhythm::rhythm(kind, start, delta, one, group, pattern, work, scratch);
-    outcome_holds(n, body, answer, group, pattern, work, scratch)
+    outcome_holds(room, body, answer, group, pattern, work, scratch)
 }
 
 // Rhythm in slices full of sentinels, held to the body.
-fn call_holds(n: usize, body: &[u8], spare: usize) -> bool
-    requires { RhythmRoom n body.now spare }
-    ensures { Tells result (RhythmStored n body.now
-        (rhythm_outcome base_settings (rhythm_chart n body.now) (rhythm_lent n spare))) }
+fn call_holds(room: Room, body: &[u8]) -> bool
+    requires { 4 + room.head.objects ≤ length body.now }
+    ensures { let n = room.head.objects in Tells result (RhythmStored n body.now
+        (rhythm_outcome base_settings (rhythm_chart n body.now) (rhythm_lent n room.spare))) }
 {
-    let room = n + spare;
+    let n = room.head.objects;
+    let places = n + room.spare;
     let mut starts = [0.0; MOST_OBJECTS];
     let mut deltas = [0.0; MOST_OBJECTS];
     read_times(n, body, &mut starts, &mut deltas);
     lent_holds(
-        n,
+        room,
         body,
         &body[4..4 + n],
         &starts[..n],
         &deltas[..n],
         &[1.0; MOST_OBJECTS][..n],
-        &mut [NUMBER_SENTINEL; MOST_PLACES][..room],
-        &mut [NUMBER_SENTINEL; MOST_PLACES][..room],
-        &mut [NUMBER_SENTINEL; MOST_WORK][..8 * n + spare],
-        &mut [FLOAT_SENTINEL; MOST_PLACES][..room],
+        &mut [NUMBER_SENTINEL; MOST_PLACES][..places],
+        &mut [NUMBER_SENTINEL; MOST_PLACES][..places],
+        &mut [NUMBER_SENTINEL; MOST_WORK][..8 * n + room.spare],
+        &mut [FLOAT_SENTINEL; MOST_PLACES][..places],
     )
 }
 
 // Whether the bytes have the form of a rhythm case.
-pub fn rhythm_formed(h: Head, body: &[u8]) -> bool
-    requires { h.objects ≤ largest }
-    ensures { Tells result (RhythmForm h body.now) }
+#[tactic(auto, unfolding(crate::specs::Rhythm::RhythmForm))]
+pub fn rhythm_formed(room: Room, body: &[u8]) -> bool
+    ensures { Tells result (RhythmForm room.head body.now) }
 {
-    formed(h, RHYTHM, 2, 2, 4 + 21 * h.objects, body.len())
+    let size = 4 + 21 * room.head.objects;
+    formed(room.head, Call::Rhythm, 2, 2, size, body.len())
 }
 
 // Whether rhythm answers as the case has it, in slices with so many places to spare.
-pub fn holds(h: Head, body: &[u8], spare: usize) -> bool
-    requires { spare ≤ 7 }
-    ensures { Tells result (RhythmHolds h body.now spare) }
+#[tactic(auto, unfolding(crate::specs::Rhythm::RhythmHolds, crate::specs::Rhythm::RhythmForm))]
+pub fn holds(h: Head, body: &[u8], spare: Spare) -> bool
+    ensures { Tells result (RhythmHolds h body.now spare.places) }
 {
-    let n = h.objects;
-    if n > MOST_OBJECTS {
+    let Some(room) = Room::of(h, spare) else {
         return false;
-    }
-    if rhythm_formed(h, body) {
-        return call_holds(n, body, spare);
-    }
-    false
+    };
+    rhythm_formed(room, body) && call_holds(room, body)
 }

@@ -9,12 +9,12 @@ ghost use Rattle.replay_read.specs.Read.{FileRead};
 use replay_cases::count::Replay;
 use replay_cases::tally::Tally;
 use std::fs::File;
-use std::io;
 use std::rt::Files;
-use vectors::form::{BUILD, COLOUR, ENCODE, RHYTHM};
+use std::{fmt, io};
+use vectors::call::Call;
 
 // Replays the file of this call's charts. One that can't be opened has no cases.
-fn replay(rt: &(impl Files<File = File> + Eprint), path: &str, call: u8) -> Replay
+fn replay(rt: &(impl Files<File = File> + Eprint), path: &str, call: Call) -> Replay
     ensures { FileRead call result }
 {
     match File::open(rt, path) {
@@ -26,38 +26,64 @@ fn replay(rt: &(impl Files<File = File> + Eprint), path: &str, call: u8) -> Repl
     }
 }
 
-// Ends the line of a call with how many of its cases differ, and names the first of those on a line of its own.
-fn print_differing(rt: &impl Print, t: Tally) -> io::Result<()> {
-    println!(rt; "{} differ", t.differ)?;
-    if t.differ > 0 {
-        println!(rt; "first that differs: case {}", t.first)?;
+// What is printed of a call: how many cases, how many objects and what these are called where the cases have charts of
+// their own, how many cases differ, and on a line of its own the first of those.
+#[derive(Clone, Copy)]
+struct Line<'a> {
+    call: &'a str,
+    tally: Tally,
+    objects: Option<(u64, &'a str)>,
+}
+
+impl fmt::Display for Line<'_> {
+    fn fmt<W: fmt::Write>(&self, f: &mut fmt::Formatter<W>) -> fmt::Result {
+        write!(f, "{}: {} cases, ", self.call, self.tally.cases)?;
+        if let Some((count, name)) = self.objects {
+            write!(f, "{count} {name}, ")?;
+        }
+        write!(f, "{} differ", self.tally.differ)?;
+        if let Some(first) = self.tally.first {
+            write!(f, "\nfirst that differs: case {first}")?;
+        }
+        Ok(())
     }
-    Ok(())
 }
 
-// The line of a call whose cases have charts of their own, with what their objects are called.
-fn print_charts(rt: &impl Print, call: &str, r: Replay, objects: &str) -> io::Result<()> {
-    let t = r.charts;
-    print!(rt; "{call}: {} cases, {} {objects}, ", t.cases, r.objects)?;
-    print_differing(rt, t)
+fn print_charts(rt: &impl Print, call: &str, r: Replay, name: &str) -> io::Result<()> {
+    let tally = r.charts;
+    let objects = Some((r.objects, name));
+    println!(rt;
+        "{}",
+        Line {
+            call,
+            tally,
+            objects
+        }
+    )
 }
 
-// The line of a call whose cases are on the charts of others.
 fn print_parts(rt: &impl Print, call: &str, r: Replay) -> io::Result<()> {
-    let t = r.parts;
-    print!(rt; "{call}: {} cases, ", t.cases)?;
-    print_differing(rt, t)
+    let tally = r.parts;
+    let objects = None;
+    println!(rt;
+        "{}",
+        Line {
+            call,
+            tally,
+            objects
+        }
+    )
 }
 
 fn main(rt: HostRuntime) -> io::Result<()> {
-    let build = replay(&rt, "build", BUILD);
+    let build = replay(&rt, "build", Call::Build);
     print_charts(&rt, "build", build, "objects")?;
-    let encode = replay(&rt, "encode", ENCODE);
+    let encode = replay(&rt, "encode", Call::Encode);
     print_charts(&rt, "encode", encode, "objects")?;
-    let colour = replay(&rt, "colour", COLOUR);
+    let colour = replay(&rt, "colour", Call::Colour);
     print_charts(&rt, "colour", colour, "values")?;
     print_parts(&rt, "stretch", colour)?;
-    let rhythm = replay(&rt, "rhythm", RHYTHM);
+    let rhythm = replay(&rt, "rhythm", Call::Rhythm);
     print_charts(&rt, "rhythm", rhythm, "objects")?;
     print_parts(&rt, "record", rhythm)
 }

@@ -1,5 +1,8 @@
 -- The stored cases of all calls: what follows a head in a file, and when a case holds, whichever call it is of.
-use Rattle.std.specs.Prelude.{ℕ, cond, ◌&&◌, List, ◌==◌}
+use Rattle.std.specs.Prelude.{ℕ, cond, ◌&&◌, List, Some}
+use Rattle.vectors.specs.Call.{is_call}
+use Rattle.vectors.specs.declared.call.Call.{Call}
+use Rattle.vectors.specs.declared.call.Call.TheVariants.{Colour, Stretch, Rhythm, Record}
 use Rattle.vectors.specs.declared.case.Head.{Head}
 use Rattle.cases_build.specs.Build.{BuildHolds}
 use Rattle.cases_encode.specs.Encode.{EncodeHolds}
@@ -9,11 +12,12 @@ use Rattle.cases_record.specs.Record.{RecordHolds}
 use Rattle.replay_cases.specs.declared.Next.{Next}
 use Rattle.replay_cases.specs.declared.Next.TheVariants.{Body, Part, Nothing}
 
--- a file holds the cases of one call; one of colour, 2, has stretches, 3, too, and one of rhythm, 4, records, 5
-unfoldable pub follows_in : ℕ → Head → Next
+-- a file holds the cases of one call; one of colour has stretches too, and one of rhythm records
+unfoldable pub follows_in : Call → Head → Next
 follows_in call h =
-    cond (h.call == call) Body
-    (cond (call == 2 && h.call == 3) Part (cond (call == 4 && h.call == 5) Part Nothing))
+    cond (is_call h.call call) Body
+    (cond (is_call (Some call) Colour && is_call h.call Stretch) Part
+    (cond (is_call (Some call) Rhythm && is_call h.call Record) Part Nothing))
 
 -- a case with a chart of its own, or with the raw objects that one is built of
 pub data ChartHolds (h : Head) (body : List ℕ) (spare : ℕ) : Type 0 where

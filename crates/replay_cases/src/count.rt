@@ -1,10 +1,10 @@
 // Where the replay of a file stands.
-ghost use Rattle.std.specs.Prelude.{◌≡◌, ◌<◌, ◌≤◌};
+ghost use Rattle.std.specs.Prelude.{◌≡◌, ◌<◌};
 ghost use Rattle.replay_cases.specs.Count.{at_start, ended_with, After, spare_of};
 
-use crate::tally;
 use crate::tally::Tally;
 use vectors::case::Head;
+use vectors::room::Spare;
 
 // How many cases may follow, the objects of the charts, a tally of the cases with a chart and of those on one, and the
 // head of the last chart.
@@ -26,68 +26,66 @@ pub enum Replayed {
     End,
 }
 
-// At a file's start. At most a million cases may follow.
-pub fn start() -> Replay
-    ensures { result ≡ at_start }
-{
-    Replay {
-        left: 1000000,
-        objects: 0,
-        charts: tally::nothing(),
-        parts: tally::nothing(),
-        chart: vectors::case::read_head(b""),
+impl Replay {
+    // At a file's start. At most a million cases may follow.
+    #[tactic(auto, unfolding(crate::specs::Count::at_start, crate::specs::Tally::no_cases))]
+    pub fn start() -> Replay
+        ensures { result ≡ at_start }
+    {
+        Replay {
+            left: 1000000,
+            objects: 0,
+            charts: Tally::default(),
+            parts: Tally::default(),
+            chart: vectors::case::read_head(b""),
+        }
     }
-}
 
-// With no case to follow.
-fn ended(r: Replay, charts: Tally) -> Replay
-    ensures { result ≡ ended_with r charts }
-{
-    let parts = r.parts;
-    let chart = r.chart;
-    Replay {
-        left: 0,
-        objects: r.objects,
-        charts,
-        parts,
-        chart,
-    }
-}
-
-// After a case, or at the file's end. A case that can't be read counts as one with a chart that differs, and ends the
-// replay.
-pub fn after(r: Replay, c: Replayed) -> Replay
-    requires { 0 < r.left }
-    ensures { After r c result }
-{
-    let charts = r.charts;
-    let parts = r.parts;
-    let chart = r.chart;
-    match c {
-        Replayed::Chart(h, held) => Replay {
-            left: r.left - 1,
-            objects: std::num::wrapping_add_u64(r.objects, h.objects as u64),
-            charts: tally::counted(charts, held),
-            parts,
-            chart: h,
-        },
-        Replayed::Part(held) => Replay {
-            left: r.left - 1,
-            objects: r.objects,
+    // With no case to follow.
+    #[tactic(auto, unfolding(crate::specs::Count::ended_with))]
+    fn ended(self, charts: Tally) -> Replay
+        ensures { result ≡ ended_with self charts }
+    {
+        Replay {
+            left: 0,
             charts,
-            parts: tally::counted(parts, held),
-            chart,
-        },
-        Replayed::Broken => ended(r, tally::counted(charts, false)),
-        Replayed::End => ended(r, charts),
+            ..self
+        }
     }
-}
 
-// How many places the next case's slices have to spare: 0 to 7, by its number.
-pub fn spare(r: Replay) -> usize
-    ensures { (result ≡ spare_of r) × (result ≤ 7) }
-{
-    let charts = r.charts;
-    let parts = r.parts;
-    (std::num::wrapping_add_u64(charts.cases, parts.cases) % 8) as usize
+    // After a case, or at the file's end. A case that can't be read counts as one with a chart that differs, and ends
+    // the replay.
+    #[tactic(auto, unfolding(crate::specs::Count::after_case, crate::specs::Count::ended_with))]
+    pub fn after(self, c: Replayed) -> Replay
+        requires { 0 < self.left }
+        ensures { After self c result }
+    {
+        match c {
+            Replayed::Chart(h, held) => Replay {
+                left: self.left - 1,
+                objects: self.objects.wrapping_add(h.objects as u64),
+                charts: self.charts.counted(held),
+                chart: h,
+                ..self
+            },
+            Replayed::Part(held) => Replay {
+                left: self.left - 1,
+                parts: self.parts.counted(held),
+                ..self
+            },
+            Replayed::Broken => self.ended(self.charts.counted(false)),
+            Replayed::End => self.ended(self.charts),
+        }
+    }
+
+    // How many places the next case's slices have to spare: 0 to 7, by its number.
+    #[tactic(auto, unfolding(crate::specs::Count::spare_of))]
+    pub fn spare(self) -> Spare
+        ensures { result.places ≡ spare_of self }
+    {
+        let cases = self.charts.cases.wrapping_add(self.parts.cases);
+        Spare {
+            places: (cases % 8) as usize,
+        }
+    }
 }

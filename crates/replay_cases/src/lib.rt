@@ -1,13 +1,13 @@
 // The stored cases of all calls: what follows a head in a file, and whether a case holds, whichever call it is of.
 #![tactic(auto)]
 
-ghost use Rattle.std.specs.Prelude.{◌≡◌, ◌≤◌};
+ghost use Rattle.std.specs.Prelude.{◌≡◌};
 ghost use Rattle.vectors.specs.Held.{Tells};
 ghost use Rattle.replay_cases.specs.Cases.{follows_in, ChartHolds, PartHolds};
 
+use vectors::call::Call;
 use vectors::case::Head;
-use vectors::form::{BUILD, COLOUR, ENCODE, RECORD, RHYTHM, STRETCH};
-use vectors::held::both;
+use vectors::room::Spare;
 
 pub mod count;
 pub mod tally;
@@ -21,45 +21,48 @@ pub enum Next {
 }
 
 // What follows the head in the file of this call's charts.
-pub fn follows(call: u8, h: Head) -> Next
+#[tactic(auto, using(vectors::proofs::CallLaws::asked, vectors::proofs::CallLaws::not_asked), unfolding(crate::specs::Cases::follows_in))]
+pub fn follows(call: Call, h: Head) -> Next
     ensures { result ≡ follows_in call h }
 {
-    if h.call == call {
+    if h.call == Some(call) {
         return Next::Body;
     }
-    if both(call == COLOUR, h.call == STRETCH) {
+    if call == Call::Colour && h.call == Some(Call::Stretch) {
         return Next::Part;
     }
-    if both(call == RHYTHM, h.call == RECORD) {
+    if call == Call::Rhythm && h.call == Some(Call::Record) {
         return Next::Part;
     }
     Next::Nothing
 }
 
 // Whether a case with a chart of its own, or with what one is built of, holds, in slices with so many places to spare.
-pub fn chart_holds(h: Head, body: &[u8], spare: usize) -> bool
-    requires { spare ≤ 7 }
-    ensures { Tells result (ChartHolds h body.now spare) }
+pub fn chart_holds(h: Head, body: &[u8], spare: Spare) -> bool
+    ensures { Tells result (ChartHolds h body.now spare.places) }
 {
-    if h.call == BUILD {
-        return cases_build::holds(h, body, spare);
+    let Some(call) = h.call else {
+        return false;
+    };
+    match call {
+        Call::Build => cases_build::holds(h, body, spare),
+        Call::Encode => cases_encode::holds(h, body, spare),
+        Call::Colour => cases_colour::holds(h, body, spare),
+        Call::Rhythm => cases_rhythm::holds(h, body, spare),
+        _ => false,
     }
-    if h.call == ENCODE {
-        return cases_encode::holds(h, body, spare);
-    }
-    if h.call == COLOUR {
-        return cases_colour::holds(h, body, spare);
-    }
-    cases_rhythm::holds(h, body, spare)
 }
 
 // Whether a case on the chart of another one holds.
-pub fn part_holds(chart: Head, body: &[u8], h: Head, part: &[u8], spare: usize) -> bool
-    requires { spare ≤ 7 }
-    ensures { Tells result (PartHolds chart body.now h part.now spare) }
+pub fn part_holds(chart: Head, body: &[u8], h: Head, part: &[u8], spare: Spare) -> bool
+    ensures { Tells result (PartHolds chart body.now h part.now spare.places) }
 {
-    if h.call == STRETCH {
-        return cases_colour::stretch_holds(chart, body, h, part, spare);
+    let Some(call) = h.call else {
+        return false;
+    };
+    match call {
+        Call::Stretch => cases_colour::stretch_holds(chart, body, h, part, spare),
+        Call::Record => cases_record::holds(chart, body, h, part, spare),
+        _ => false,
     }
-    cases_record::holds(chart, body, h, part, spare)
 }

@@ -3,6 +3,7 @@
 use Rattle.std.specs.Prelude.{◌≡◌, Bool, List, ℕ, ◌≤◌, length, take}
 use Rattle.vectors.specs.Case.{head_of}
 use Rattle.vectors.specs.Held.{Tells}
+use Rattle.vectors.specs.declared.call.Call.{Call}
 use Rattle.vectors.specs.declared.case.Head.{Head}
 use Rattle.replay_cases.specs.Cases.{follows_in, ChartHolds, PartHolds}
 use Rattle.replay_cases.specs.Count.{at_start, after_case, spare_of}
@@ -25,7 +26,7 @@ pub data PartRead (chart : Head) (body : List ℕ) (h : Head) (spare : ℕ) (par
   broken : PartRead chart body h spare part Broken
 
 -- the next case of the file of this call's charts: `head` was read, then `body`, or `part` while `body` stayed
-pub data CaseRead (call : ℕ) (r : Replay) (head old body part : List ℕ) : Replayed → Type 0 where
+pub data CaseRead (call : Call) (r : Replay) (head old body part : List ℕ) : Replayed → Type 0 where
   of_chart : {c : Replayed} → follows_in call (head_of head) ≡ Body → ChartRead (head_of head) (spare_of r) body c
       → CaseRead call r head old body part c
   of_part : {c : Replayed} → follows_in call (head_of head) ≡ PartNext → body ≡ old
@@ -34,13 +35,13 @@ pub data CaseRead (call : ℕ) (r : Replay) (head old body part : List ℕ) : Re
   ended : CaseRead call r head old body part End
 
 -- the replay stands at r after cases that were read one after another; `body` has the last chart's
-pub data Counted (call : ℕ) : Replay → List ℕ → Type 0 where
+pub data Counted (call : Call) : Replay → List ℕ → Type 0 where
   none : {body : List ℕ} → Counted call at_start body
   more : {r : Replay} {c : Replayed} {head old body part : List ℕ} → Counted call r old
       → CaseRead call r head old body part c → Counted call (after_case r c) body
 
 -- the replay of a file, up to where no case may follow
-pub record FileRead (call : ℕ) (r : Replay) : Type 0 where
+pub record FileRead (call : Call) (r : Replay) : Type 0 where
   pub body : List ℕ
   pub counted : Counted call r body
   pub done : r.left ≡ 0

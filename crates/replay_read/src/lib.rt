@@ -4,18 +4,19 @@
 // `Broken`, which counts as a difference, are allowed at any time. How many cases were read, the program prints.
 #![tactic(auto)]
 
-ghost use Rattle.std.specs.Prelude.{ℕ, ◌≤◌};
+ghost use Rattle.vectors.specs.declared.call.Call.{Call};
 ghost use Rattle.replay_read.specs.Read.{ChartRead, PartRead, CaseRead, FileRead};
 
+use replay_cases::Next;
 use replay_cases::count::{Replay, Replayed};
-use replay_cases::{Next, count};
 use std::fs::File;
+use vectors::call::Call;
 use vectors::case::Head;
+use vectors::room::Spare;
 
 // Reads the body of a case with a chart of its own, and replays it.
-fn chart_case(file: &mut File, spare: usize, h: Head, body: &mut [u8]) -> Replayed
-    requires { spare ≤ 7 }
-    ensures { ChartRead h spare body.new result }
+fn chart_case(file: &mut File, spare: Spare, h: Head, body: &mut [u8]) -> Replayed
+    ensures { ChartRead h spare.places body.new result }
 {
     let size = h.size;
     if body.len() < size {
@@ -31,14 +32,13 @@ fn chart_case(file: &mut File, spare: usize, h: Head, body: &mut [u8]) -> Replay
 // Reads a case on the chart whose body is at hand, and replays it.
 fn part_case(
     file: &mut File,
-    spare: usize,
+    spare: Spare,
     chart: Head,
     body: &[u8],
     h: Head,
     part: &mut [u8],
 ) -> Replayed
-    requires { spare ≤ 7 }
-    ensures { PartRead chart body.now h spare part.new result }
+    ensures { PartRead chart body.now h spare.places part.new result }
 {
     let size = h.size;
     let whole = chart.size;
@@ -58,7 +58,7 @@ fn part_case(
 // Reads and replays the next case of the file of this call's charts. `body` has the last chart's body.
 fn next_case(
     file: &mut File,
-    call: u8,
+    call: Call,
     r: Replay,
     head: &mut [u8; 8],
     body: &mut [u8],
@@ -74,33 +74,32 @@ fn next_case(
         return Replayed::Broken;
     }
     let h = vectors::case::read_head(head);
-    let spare = count::spare(r);
-    let chart = r.chart;
+    let spare = r.spare();
     match replay_cases::follows(call, h) {
         Next::Body => chart_case(file, spare, h, body),
-        Next::Part => part_case(file, spare, chart, body, h, part),
+        Next::Part => part_case(file, spare, r.chart, body, h, part),
         Next::Nothing => Replayed::Broken,
     }
 }
 
 // Replays the cases of the file of this call's charts, up to its end.
-pub fn replay_all(file: &mut File, call: u8) -> Replay
+pub fn replay_all(file: &mut File, call: Call) -> Replay
     ensures { FileRead call result }
 {
     let mut head = [0u8; 8];
     let mut body = [0u8; 557084];
     let mut part = [0u8; 58];
-    let mut r = count::start();
+    let mut r = Replay::start();
     while r.left > 0 {
         let c = next_case(file, call, r, &mut head, &mut body, &mut part);
-        r = count::after(r, c);
+        r = r.after(c);
     }
     r
 }
 
 // The replay of a file that can't be opened: it has no cases, whichever call it is of.
 pub fn no_cases() -> Replay
-    ensures { (call : ℕ) → FileRead call result }
+    ensures { (call : Call) → FileRead call result }
 {
-    count::after(count::start(), Replayed::End)
+    Replay::start().after(Replayed::End)
 }

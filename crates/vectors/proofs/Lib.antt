@@ -1,8 +1,8 @@
 -- The laws of this crate. Those that are public are for the crates above, or are results of their own; the others serve the proofs of this crate alone.
+pub mod CallLaws
+pub mod ColumnLaws
 pub mod FloatLaws
-pub mod FormLaws
 pub mod HeldLaws
 pub mod SentinelLaws
-pub mod RowLaws
 pub mod TableLaws
 pub mod TellsLaws

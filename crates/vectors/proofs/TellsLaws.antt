@@ -1,5 +1,5 @@
 -- Answers that tell whether something holds: of a false one, of a true one, of some put together, and of the same said in other words.
-use mathlib.Core.Path.{◌≡◌, refl, sym, ◌∙◌, subst}
+use mathlib.Core.Path.{◌≡◌, refl, ◌∙◌, subst}
 use mathlib.Core.Bool.{Bool, true, false, ◌&&◌}
 use Prim.Native.Nat.{ℕ}
 use borrow.Author.Tests.{eqb-true, eq-eqb}
@@ -18,10 +18,6 @@ tells_both true true e t u = (λ h. (t.0 refl, u.0 refl), λ p. e)
 tells_both true false e t u = (λ h. never (cc), λ p. e ∙ u.1 p.1)
 tells_both false b e t u = (λ h. never (cc), λ p. e ∙ t.1 p.0)
 
-pub tells_four : {P Q R S : Type 0} {a b c d ab cd r : Bool} → ab ≡ (a && b) → cd ≡ (c && d) → r ≡ (ab && cd)
-    → Tells a P → Tells b Q → Tells c R → Tells d S → Tells r ((P × Q) × (R × S))
-tells_four p q e t u v w = tells_both _ _ e (tells_both _ _ p t u) (tells_both _ _ q v w)
-
 pub tells_as : {P Q : Type 0} {r : Bool} → (P → Q) → (Q → P) → Tells r P → Tells r Q
 tells_as f g t = (λ e. f (t.0 e), λ q. t.1 (g q))
 
@@ -33,6 +29,3 @@ tells_of {A} P {r} e t = subst (λ (z : A). Tells r (P z)) e t
 
 pub tells_eqb : (a b : ℕ) → Tells (eqb a b) (a ≡ b)
 tells_eqb a b = (eqb-true a b, eq-eqb a b)
-
-pub tells_eqb_as : {x y x' y' : ℕ} → x ≡ x' → y ≡ y' → Tells (eqb x y) (x' ≡ y')
-tells_eqb_as {x} {y} p q = tells_as (λ e. sym p ∙ e ∙ q) (λ e. p ∙ e ∙ sym q) (tells_eqb x y)

@@ -1,6 +1,7 @@
 -- A stored case: what its bytes say.
 use Rattle.std.specs.Prelude.{ℕ, ◌+◌, ◌*◌, cond, List, eqb, get_or}
 use Rattle.lent.specs.Scan.{tabulate}
+use Rattle.vectors.specs.Call.{call_of}
 use Rattle.vectors.specs.declared.case.Head.{Head}
 
 -- two bytes, the low one first
@@ -21,7 +22,7 @@ word_at s at = quad_at s at + 4294967296 * quad_at s (at + 4)
 
 -- the head: call, width, objects in two bytes, size of the body in four
 unfoldable pub head_of : List ℕ → Head
-head_of s = record { call = get_or s 0 0; width = get_or s 1 0; objects = pair_at s 2; size = quad_at s 4 }
+head_of s = record { call = call_of (get_or s 0 0); width = get_or s 1 0; objects = pair_at s 2; size = quad_at s 4 }
 
 -- ---- columns, each of which begins at a place
 

@@ -1,4 +1,5 @@
 -- The definitions that this crate's promises and laws cite.
+pub mod Call
 pub mod Case
 pub mod Held
 pub mod Table

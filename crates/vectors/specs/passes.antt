@@ -1,2 +1,4 @@
--- What only the passes and their proofs need: how long the slices may be, and what a pass asks of them.
+-- What only the passes and their proofs need: how long the slices may be, what a pass asks of them, and what a column
+-- holds.
 pub mod Room
+pub mod Values

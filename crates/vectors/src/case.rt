@@ -2,13 +2,16 @@
 ghost use Rattle.std.specs.Prelude.{◌≡◌, ◌+◌, ◌*◌, ◌^◌, ◌<◌, ◌≤◌, get_or};
 ghost use Rattle.std.specs.Float.Ieee as Ieee;
 ghost use Rattle.std.specs.Float.{binary64};
-ghost use Rattle.grouping_chart.specs.Chart.{largest};
-ghost use Rattle.vectors.specs.Case.{pair, pair_at, column_size, number_at, quad_at, word_at, head_of};
+ghost use Rattle.vectors.specs.Case.{pair_at, column_size, number_at, quad_at, word_at, head_of};
 
-// Which call, how many bytes a number of its columns has, how many objects, and how many bytes the body.
+use crate::call::Call;
+use std::convert::TryFrom;
+
+// Which call, if its number names one, how many bytes a number of its columns has, how many objects, and how many bytes
+// the body.
 #[derive(Clone, Copy)]
 pub struct Head {
-    pub call: u8,
+    pub call: Option<Call>,
     pub width: u8,
     pub objects: usize,
     pub size: usize,
@@ -18,76 +21,76 @@ pub struct Head {
 pub fn byte_at(s: &[u8], at: usize) -> u8
     ensures { result ≡ get_or s.now at 0 }
 {
-    if at < s.len() { s[at] } else { 0 }
-}
-
-// Two bytes as a number.
-fn number(low: u8, high: u8) -> u16
-    ensures { result ≡ pair low high }
-{
-    low as u16 + 256 * (high as u16)
+    s.get(at).copied().unwrap_or(0)
 }
 
 // The number of two bytes at a place.
+#[tactic(auto, unfolding(crate::specs::Case::pair_at, crate::specs::Case::pair))]
 pub fn pair_at(s: &[u8], at: usize) -> u16
-    requires { at < 2 ^ 32 }
+    requires { at + 1 < 2 ^ 64 }
     ensures { result ≡ pair_at s.now at }
 {
-    number(byte_at(s, at), byte_at(s, at + 1))
+    u16::from_le_bytes([byte_at(s, at), byte_at(s, at + 1)])
 }
 
 // The number of four bytes at a place.
-pub fn quad_at(s: &[u8], at: usize) -> u64
-    requires { at + 4 < 2 ^ 32 }
-    ensures { (result ≡ quad_at s.now at) × (result < 2 ^ 32) }
+#[tactic(auto, unfolding(crate::specs::Case::quad_at))]
+pub fn quad_at(s: &[u8], at: usize) -> u32
+    requires { at + 3 < 2 ^ 64 }
+    ensures { result ≡ quad_at s.now at }
 {
-    pair_at(s, at) as u64 + 65536 * (pair_at(s, at + 2) as u64)
+    u32::from(pair_at(s, at)) + 65536 * u32::from(pair_at(s, at + 2))
 }
 
 // The number of eight bytes at a place.
+#[tactic(auto, unfolding(crate::specs::Case::word_at))]
 pub fn word_at(s: &[u8], at: usize) -> u64
-    requires { at + 8 < 2 ^ 32 }
+    requires { at + 7 < 2 ^ 64 }
     ensures { result ≡ word_at s.now at }
 {
-    quad_at(s, at) + 4294967296 * quad_at(s, at + 4)
+    u64::from(quad_at(s, at)) + 4294967296 * u64::from(quad_at(s, at + 4))
 }
 
+#[tactic(auto, unfolding(crate::specs::Case::head_of))]
 pub fn read_head(s: &[u8]) -> Head
     ensures { result ≡ head_of s.now }
 {
     Head {
-        call: byte_at(s, 0),
+        call: Call::try_from(byte_at(s, 0)).ok(),
         width: byte_at(s, 1),
-        objects: pair_at(s, 2) as usize,
+        objects: usize::from(pair_at(s, 2)),
         size: quad_at(s, 4) as usize,
     }
 }
 
 // How many bytes a column of n numbers has.
+#[tactic(auto, unfolding(crate::specs::Case::column_size))]
 pub fn column_size(n: usize, width: u8) -> usize
-    requires { n ≤ largest }
+    requires { 2 * n < 2 ^ 64 }
     ensures { (result ≡ column_size n width) × (result ≤ 2 * n) }
 {
     if width == 1 { n } else { 2 * n }
 }
 
 // Number i of a column that begins at a place.
+#[tactic(auto, unfolding(crate::specs::Case::number_at))]
 pub fn number_at(s: &[u8], at: usize, width: u8, i: usize) -> u16
-    requires { at + 2 * i < 2 ^ 32 }
+    requires { at + 2 * i + 1 < 2 ^ 64 }
     ensures { result ≡ number_at s.now at width i }
 {
     if width == 1 {
-        return byte_at(s, at + i) as u16;
+        return u16::from(byte_at(s, at + i));
     }
     pair_at(s, at + 2 * i)
 }
 
 // The float that has these bits.
+#[tactic(auto, using(crate::proofs::FloatLaws::a_nan, crate::proofs::FloatLaws::no_nan))]
 pub fn float_of(bits: u64) -> f64
     ensures { result ≡ Ieee.of_bits binary64 bits }
 {
     if bits % 0x8000_0000_0000_0000 > 0x7FF0_0000_0000_0000 {
-        return 0.0 / 0.0;
+        return f64::NAN;
     }
     f64::from_bits(bits)
 }

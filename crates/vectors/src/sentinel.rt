@@ -1,10 +1,9 @@
 // What slices are lent with, and whether a call left in them what it must.
 ghost use Rattle.std.specs.Prelude.{◌≤◌, ◌<◌, ◌+◌, ◌*◌, ◌^◌};
-ghost use Rattle.grouping_chart.specs.Chart.{largest};
 ghost use Rattle.vectors.specs.Held.{Tells};
 ghost use Rattle.vectors.specs.Sentinel.{ColumnsHeld, Cleared};
 
-use crate::held;
+use crate::column::Column;
 
 // The sentinels are no answers: a number of a group is below 16,384 or, for none, 65,535.
 pub const NUMBER_SENTINEL: u16 = 48879;
@@ -34,20 +33,19 @@ pub fn columns_held(
     a: &[u16],
     b: &[u16],
 ) -> bool
-    requires { at + size + 2 * n < 2 ^ 32 }
+    requires { at + size + 2 * n < 2 ^ 64 }
     ensures { Tells result (ColumnsHeld s.now at size width n a.now b.now) }
 {
-    let first = held::column_held(s, at, width, n, NUMBER_SENTINEL, a);
-    let second = held::column_held(s, at + size, width, n, NUMBER_SENTINEL, b);
-    held::both(first, second)
+    let first = Column::numbers(s, at, width, n);
+    let second = Column::numbers(s, at + size, width, n);
+    first.held(NUMBER_SENTINEL, a) && second.held(NUMBER_SENTINEL, b)
 }
 
 // Whether a call on n objects left 8n zeros and n times +0.0, and every place past them as it was lent.
 pub fn work_cleared(n: usize, work: &[u16], scratch: &[f64]) -> bool
-    requires { n ≤ largest }
+    requires { 8 * n < 2 ^ 64 }
     ensures { Tells result (Cleared n work.now scratch.now) }
 {
-    let numbers = held::zeros_held(8 * n, NUMBER_SENTINEL, work);
-    let floats = held::zero_floats_held(n, FLOAT_SENTINEL, scratch);
-    held::both(numbers, floats)
+    Column::zeros(8 * n).held(NUMBER_SENTINEL, work)
+        && Column::zeros(n).held(FLOAT_SENTINEL, scratch)
 }

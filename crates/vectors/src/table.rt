@@ -7,6 +7,7 @@ ghost use Rattle.vectors.specs.passes.Room.{EntryThere, EntriesRoom};
 use crate::case;
 
 // Which float of the table is meant at i: the one that number i of the column names, or the next where the width is 0.
+#[tactic(auto, unfolding(crate::specs::Table::entry_number))]
 fn entry_number(s: &[u8], column: usize, width: u8, i: usize) -> usize
     requires { (column < 2 ^ 31) × (i < 65536) }
     ensures { (result ≡ entry_number s.now column width i) × (result < 65536) }
@@ -14,10 +15,11 @@ fn entry_number(s: &[u8], column: usize, width: u8, i: usize) -> usize
     if width == 0 {
         return i;
     }
-    case::number_at(s, column, width, i) as usize
+    usize::from(case::number_at(s, column, width, i))
 }
 
 // The float that is meant at i.
+#[tactic(auto, unfolding(crate::specs::Table::entry_at, crate::specs::Case::column_word))]
 fn entry_at(s: &[u8], table: usize, column: usize, width: u8, i: usize) -> f64
     requires { EntryThere table column i }
     ensures { result ≡ entry_at s.now table column width i }
@@ -31,9 +33,5 @@ pub fn read(s: &[u8], table: usize, column: usize, width: u8, n: usize, out: &mu
     requires { EntriesRoom table column n out.old }
     ensures { out.new ≡ over (entries s.now table column width n) out.old }
 {
-    let mut i = 0;
-    while i < n {
-        out[i] = entry_at(s, table, column, width, i);
-        i += 1;
-    }
+    lent::fill::by_place(n, out, |i| entry_at(s, table, column, width, i));
 }

@@ -1,9 +1,8 @@
--- Reading starts and deltas, and how long the body and the slices are.
+-- Reading starts and deltas.
 use Rattle.std.specs.Prelude.{◌≡◌, List, ℕ, ◌+◌, ◌*◌, ◌≤◌, length, Float}
 use Rattle.lent.specs.Over.{over}
 use Rattle.grouping_chart.specs.Chart.{largest}
 use Rattle.vectors.specs.Table.{entries}
-use Rattle.vectors.specs.passes.Room.{Few}
 
 -- both columns, read over what was there
 pub record TimesRead (n : ℕ) (body : List ℕ) (start₀ start delta₀ delta : List Float) : Type 0 where
@@ -15,8 +14,3 @@ pub record TimesRoom (n : ℕ) (start delta : List Float) : Type 0 where
   pub few : n ≤ largest
   pub start_room : n ≤ length start
   pub delta_room : n ≤ length delta
-
--- a body for the kinds, and room for the chart and the slices
-pub record RhythmRoom (n : ℕ) (body : List ℕ) (spare : ℕ) : Type 0 where
-  pub few : Few n spare
-  pub whole : 4 + n ≤ length body

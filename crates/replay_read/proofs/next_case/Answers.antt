@@ -10,10 +10,10 @@ pub returns-then-got-ne8 : goal.returns-then-got-ne8
 returns-then-got-ne8 c = broken
 
 pub returns-in-Body : goal.returns-in-Body
-returns-in-Body c = chart_is_read c.read_head-h.ensures c.spare-spare.ensures.0 c.follows.ensures c.in-Body.is c.chart_case.ensures
+returns-in-Body c = chart_is_read c.read_head-h.ensures c.spare-spare.ensures c.follows.ensures c.in-Body.is c.chart_case.ensures
 
 pub returns-in-Part : goal.returns-in-Part
-returns-in-Part c = part_is_read c.read_head-h.ensures c.spare-spare.ensures.0 c.follows.ensures c.in-Part.is c.part_case.ensures
+returns-in-Part c = part_is_read c.read_head-h.ensures c.spare-spare.ensures c.follows.ensures c.in-Part.is c.part_case.ensures
 
 pub returns-in-Nothing : goal.returns-in-Nothing
 returns-in-Nothing c = broken

@@ -1,5 +1,5 @@
--- What the passes ask of the slices that they read, fill and compare, and what each place is to hold.
-use Rattle.std.specs.Prelude.{cond, List, ℕ, ◌+◌, ◌^◌, ◌<◌, ◌≤◌, ltb, length, Float}
+-- What the passes ask of the slices that they read and fill.
+use Rattle.std.specs.Prelude.{List, ℕ, ◌^◌, ◌<◌, ◌≤◌, length, Float}
 use Rattle.grouping_chart.specs.Chart.{largest}
 
 -- a place for each object of the largest chart, and 7 to spare
@@ -14,16 +14,6 @@ most_work = 131079
 pub record Few (n spare : ℕ) : Type 0 where
   pub objects : n ≤ largest
   pub places : spare ≤ 7
-
--- what place i is to hold, where the first n hold `want` of their number
-unfoldable pub expected : ℕ → (ℕ → ℕ) → ℕ → ℕ → ℕ
-expected n want sentinel i = cond (ltb i n) (want i) sentinel
-
--- the n bytes from a place on lie in s, and `got` has no more places than what it is compared with
-pub record BytesThere (at n : ℕ) (s got : List ℕ) : Type 0 where
-  pub inside : at + n ≤ length s
-  pub few : n ≤ largest
-  pub most : length got ≤ most_places
 
 -- table and column begin below 2 ^ 31, and the column has no more numbers than two bytes count
 pub record EntryThere (table column i : ℕ) : Type 0 where

@@ -1,0 +1,37 @@
+// The calls whose answers are stored.
+use std::convert::TryFrom;
+
+// Which call a stored case is of.
+#[derive(Clone, Copy, PartialEq, Eq)]
+pub enum Call {
+    Encode = 1,
+    Colour = 2,
+    Stretch = 3,
+    Rhythm = 4,
+    Record = 5,
+    Build = 6,
+}
+
+// A number that names no call.
+#[derive(Clone, Copy, PartialEq, Eq)]
+pub struct UnknownCall(pub u8);
+
+impl TryFrom<u8> for Call {
+    ghost use Rattle.vectors.specs.Call.{Named};
+
+    type Error = UnknownCall;
+
+    ghost try_from_gives = { Named };
+
+    fn try_from(number: u8) -> Result<Call, UnknownCall> {
+        match number {
+            1 => Ok(Call::Encode),
+            2 => Ok(Call::Colour),
+            3 => Ok(Call::Stretch),
+            4 => Ok(Call::Rhythm),
+            5 => Ok(Call::Record),
+            6 => Ok(Call::Build),
+            _ => Err(UnknownCall(number)),
+        }
+    }
+}
