@@ -1,45 +1,20 @@
--- A loop that tests every element of a list: what it has found so far, together with the test of all that is left, is the test of all.
+-- A test of every element of a list, by the elements and by the places.
 -- The same for any list and test.
-use mathlib.Core.Path.{◌≡◌, refl, sym, ◌∙◌}
-use mathlib.Core.Bool.{Bool, true, false, ◌&&◌, true≢false, and_assoc, and-true}
-use mathlib.Core.List.{List, [], ◌∷◌}
-use Prim.Native.Nat.{ℕ, zero, suc, ◌+◌, ◌≤◌, ◌<◌}
+use Rattle.std.proofs.Common.{◌≡◌, refl, sym, ap, ◌∙◌, ℕ, zero, suc, ◌+◌, ◌<◌, Bool, true, false, ◌&&◌, List, [], ◌∷◌, ◌++◌, length}
+use mathlib.Core.Bool.{true≢false, and_assoc, and-true}
 use native.Mathlib.Numerals.{add-one}
 use native.Mathlib.Omega.{arith}
-use lib.ListN.{length, drop, get_or, drop_of_length-le}
-use lib.Seq.{drop-cons}
-use Rattle.grouping_chart.specs.passes.Good.{all}
+use lib.ListN.{get_or}
+use Rattle.lent.specs.Scan.{tabulate}
+use Rattle.lent.proofs.FillLaws.{tabulate_places}
+use Rattle.grouping_chart.specs.passes.Good.{all, all_places}
 
 pub both_true : (a b : Bool) → (a && b) ≡ true → (a ≡ true) × (b ≡ true)
 both_true true b e = (refl, e)
 both_true false b e = absurd (true≢false (sym e))
 
-module _ {A : Type 0} (test : A → Bool) (xs : List A) where
-  -- i elements are tested, and `good` says whether all of these passed
-  pub record Tested (good : Bool) (i : ℕ) : Type 0 where
-    pub upto : i ≤ length xs
-    pub left : (good && all test (drop i xs)) ≡ all test xs
+-- ---- by the elements
 
-  pub tested_none : Tested true 0
-  tested_none = record { upto = omega arith; left = refl }
-
-module _ {A : Type 0} {test : A → Bool} {xs : List A} {good : Bool} {i : ℕ} where
-  pub tested_next : {here : Bool} (d : A) → Tested test xs good i → i < length xs → here ≡ test (get_or xs i d) → Tested test xs (good && here) (i + 1)
-  unfolding all
-  tested_next {here} d x h e =
-      let rest : all test (drop i xs) ≡ (test (get_or xs i d) && all test (drop (i + 1) xs)) = rw (drop-cons xs i d h, add-one i) in
-      record {
-        upto = omega arith;
-        left = rw (and_assoc good here (all test (drop (i + 1) xs)), e, ← rest) x.left;
-      }
-
-  pub tested_all : Tested test xs good i → length xs ≤ i → good ≡ all test xs
-  unfolding all
-  tested_all x h =
-      let over : all test (drop i xs) ≡ true = rw (drop_of_length-le xs h) in
-      sym (and-true good) ∙ rw over at x.left
-
--- of a list, one element at a time
 pub all_none : {A : Type 0} (test : A → Bool) → all test [] ≡ true
 unfolding all
 all_none test = refl
@@ -60,3 +35,29 @@ pub each_all : {A : Type 0} (test : A → Bool) (xs : List A) (d : A) → ((i : 
 unfolding all
 each_all test [] d e = refl
 each_all test (x ∷ xs) d e = rw (e 0 (omega arith), each_all test xs d (λ i h. e (suc i) (omega arith)))
+
+-- ---- by the places
+
+all_last : {A : Type 0} (test : A → Bool) (xs : List A) (x : A) → all test (xs ++ (x ∷ [])) ≡ (all test xs && test x)
+unfolding all
+all_last test [] x = and-true (test x)
+all_last test (y ∷ ys) x = ap (λ b. test y && b) (all_last test ys x) ∙ sym (and_assoc (test y) (all test ys) (test x))
+
+module _ (passes : ℕ → Bool) where
+  pub no_places : true ≡ all_places passes 0
+  unfolding all_places
+  no_places = refl
+
+  pub next_place : {good here : Bool} (n : ℕ) → good ≡ all_places passes n → here ≡ passes n → (good && here) ≡ all_places passes (n + 1)
+  unfolding all_places
+  next_place n e h = rw (e, h, add-one n)
+
+-- of a list that is made by its places
+pub places_tabulated : {A : Type 0} (test : A → Bool) (f : ℕ → A) (n : ℕ) → all_places (λ i. test (f i)) n ≡ all test (tabulate f n)
+unfolding all_places all tabulate
+places_tabulated test f zero = refl
+places_tabulated test f (suc n) =
+    ap (λ b. b && test (f n)) (places_tabulated test f n) ∙ sym (all_last test (tabulate f n) (f n))
+
+pub places_all : {A : Type 0} (test : A → Bool) (xs : List A) (d : A) → all_places (λ i. test (get_or xs i d)) (length xs) ≡ all test xs
+places_all test xs d = places_tabulated test (λ i. get_or xs i d) (length xs) ∙ ap (all test) (tabulate_places xs d (length xs) refl)

@@ -3,11 +3,12 @@ use mathlib.Core.Path.{◌≡◌, refl}
 use mathlib.Core.List.{List, [], ◌∷◌, map}
 use Prim.Native.Nat.{ℕ}
 use lib.Ieee.{Float, binary64, of_bits, le}
-use Rattle.grouping_chart.specs.declared.refusal.Verdict.{Verdict}
-use Rattle.grouping_chart.specs.declared.refusal.Verdict.TheVariants.{Accepted, Refused}
+use Rattle.std.specs.Prelude.{Option, Some, None, Err}
+use Rattle.grouping_chart.specs.declared.refusal.Reason.{Reason}
+use Rattle.grouping_chart.specs.declared.refusal.Reason.TheVariants.{UnequalLengths, ShortSlice, UnknownKind, BadStart, BadDelta, BadRatio}
 use Rattle.grouping_chart.specs.Chart.{Chart, equally_long}
 use Rattle.numeric.specs.Range.{within}
-use Rattle.grouping_chart.specs.Refusal.{time_good, ratio_good, object_refusal, first_refused, refused, verdict}
+use Rattle.grouping_chart.specs.Refusal.{Verdict, accepted, refusal, refused, time_good, ratio_good, object_refusal, first_refused, verdict}
 
 -- An f64 is written by its bits, so that the next one in size is the next number.
 abbrev one : ℕ
@@ -44,7 +45,7 @@ minus_infinite = 0xfff0_0000_0000_0000
 
 record Example : Type 0 where
   chart : Chart
-  refusal : ℕ
+  beside : Option Reason
   outcome : Verdict
 
 floats : List ℕ → List Float
@@ -54,13 +55,13 @@ floats = map (of_bits binary64)
 lists : List ℕ → List ℕ → List ℕ → List ℕ → Verdict → Example
 lists kinds starts deltas ratios outcome = record {
   chart = record { kinds = kinds; starts = floats starts; deltas = floats deltas; ratios = floats ratios };
-  refusal = 0;
+  beside = None;
   outcome = outcome;
 }
 
 -- a call that is refused 3 where its chart is looked at
 short : List ℕ → List ℕ → List ℕ → List ℕ → Verdict → Example
-short kinds starts deltas ratios outcome = record { chart = (lists kinds starts deltas ratios outcome).chart; refusal = 3; outcome = outcome }
+short kinds starts deltas ratios outcome = record { chart = (lists kinds starts deltas ratios outcome).chart; beside = Some ShortSlice; outcome = outcome }
 
 -- a call on one object
 object : ℕ → ℕ → ℕ → ℕ → Verdict → Example
@@ -68,43 +69,43 @@ object k s d r outcome = lists (k ∷ []) (s ∷ []) (d ∷ []) (r ∷ []) outco
 
 examples : List Example
 examples =
-    object 0 0 0 one Accepted
-    ∷ object 1 0 0 one Accepted
-    ∷ object 2 0 0 one Accepted
-    ∷ object 3 0 0 one (refused 4)
-    ∷ object 255 not_a_number 0 one (refused 4)
-    ∷ object 0 most 0 one Accepted
-    ∷ object 0 least 0 one Accepted
-    ∷ object 0 over-most 0 one (refused 5)
-    ∷ object 0 under_least 0 one (refused 5)
-    ∷ object 0 not_a_number 0 one (refused 5)
-    ∷ object 0 infinite 0 one (refused 5)
-    ∷ object 0 minus_infinite 0 one (refused 5)
-    ∷ object 0 0 most one Accepted
-    ∷ object 0 0 least one Accepted
-    ∷ object 0 0 over-most one (refused 6)
-    ∷ object 0 0 under_least one (refused 6)
-    ∷ object 0 0 not_a_number one (refused 6)
-    ∷ object 0 0 infinite one (refused 6)
-    ∷ object 0 0 minus_infinite one (refused 6)
-    ∷ object 0 0 0 smallest Accepted
-    ∷ object 0 0 0 most Accepted
-    ∷ object 0 0 0 under_smallest (refused 7)
-    ∷ object 0 0 0 over-most (refused 7)
-    ∷ object 0 0 0 0 (refused 7)
-    ∷ object 0 0 0 not_a_number (refused 7)
-    ∷ object 0 0 0 infinite (refused 7)
-    ∷ object 0 0 0 minus_infinite (refused 7)
-    ∷ object 0 infinite infinite infinite (refused 5)
-    ∷ object 0 0 infinite infinite (refused 6)
-    ∷ lists [] [] [] [] Accepted
-    ∷ lists (0 ∷ 1 ∷ 2 ∷ []) (0 ∷ 0 ∷ 0 ∷ []) (0 ∷ 0 ∷ 0 ∷ []) (one ∷ one ∷ one ∷ []) Accepted
-    ∷ lists (0 ∷ 1 ∷ 3 ∷ []) (0 ∷ 0 ∷ 0 ∷ []) (0 ∷ infinite ∷ 0 ∷ []) (one ∷ one ∷ one ∷ []) (Refused 6 (record { 0 = 1 }))
-    ∷ lists (0 ∷ 3 ∷ []) (0 ∷ 0 ∷ []) (0 ∷ 0 ∷ []) (one ∷ []) (refused 2)
-    ∷ short (3 ∷ []) (0 ∷ []) (0 ∷ []) (one ∷ []) (refused 3)
-    ∷ short (3 ∷ []) [] [] [] (refused 2)
+    object 0 0 0 one accepted
+    ∷ object 1 0 0 one accepted
+    ∷ object 2 0 0 one accepted
+    ∷ object 3 0 0 one (refused UnknownKind)
+    ∷ object 255 not_a_number 0 one (refused UnknownKind)
+    ∷ object 0 most 0 one accepted
+    ∷ object 0 least 0 one accepted
+    ∷ object 0 over-most 0 one (refused BadStart)
+    ∷ object 0 under_least 0 one (refused BadStart)
+    ∷ object 0 not_a_number 0 one (refused BadStart)
+    ∷ object 0 infinite 0 one (refused BadStart)
+    ∷ object 0 minus_infinite 0 one (refused BadStart)
+    ∷ object 0 0 most one accepted
+    ∷ object 0 0 least one accepted
+    ∷ object 0 0 over-most one (refused BadDelta)
+    ∷ object 0 0 under_least one (refused BadDelta)
+    ∷ object 0 0 not_a_number one (refused BadDelta)
+    ∷ object 0 0 infinite one (refused BadDelta)
+    ∷ object 0 0 minus_infinite one (refused BadDelta)
+    ∷ object 0 0 0 smallest accepted
+    ∷ object 0 0 0 most accepted
+    ∷ object 0 0 0 under_smallest (refused BadRatio)
+    ∷ object 0 0 0 over-most (refused BadRatio)
+    ∷ object 0 0 0 0 (refused BadRatio)
+    ∷ object 0 0 0 not_a_number (refused BadRatio)
+    ∷ object 0 0 0 infinite (refused BadRatio)
+    ∷ object 0 0 0 minus_infinite (refused BadRatio)
+    ∷ object 0 infinite infinite infinite (refused BadStart)
+    ∷ object 0 0 infinite infinite (refused BadDelta)
+    ∷ lists [] [] [] [] accepted
+    ∷ lists (0 ∷ 1 ∷ 2 ∷ []) (0 ∷ 0 ∷ 0 ∷ []) (0 ∷ 0 ∷ 0 ∷ []) (one ∷ one ∷ one ∷ []) accepted
+    ∷ lists (0 ∷ 1 ∷ 3 ∷ []) (0 ∷ 0 ∷ 0 ∷ []) (0 ∷ infinite ∷ 0 ∷ []) (one ∷ one ∷ one ∷ []) (Err (refusal BadDelta 1))
+    ∷ lists (0 ∷ 3 ∷ []) (0 ∷ 0 ∷ []) (0 ∷ 0 ∷ []) (one ∷ []) (refused UnequalLengths)
+    ∷ short (3 ∷ []) (0 ∷ []) (0 ∷ []) (one ∷ []) (refused ShortSlice)
+    ∷ short (3 ∷ []) [] [] [] (refused UnequalLengths)
     ∷ []
 
-shown : map (λ (e : Example). verdict e.chart e.refusal) examples ≡ map (λ (e : Example). e.outcome) examples
+shown : map (λ (e : Example). verdict e.chart e.beside) examples ≡ map (λ (e : Example). e.outcome) examples
 unfolding examples object short lists floats of_bits le within time_good ratio_good object_refusal first_refused equally_long verdict
 shown = refl

@@ -1,19 +1,17 @@
 -- The verdict on a call, what it refuses after its chart, and the two cases of what it comes to. The calls cite these.
 use mathlib.Core.Path.{◌≡◌, refl, sym, ◌∙◌}
-use mathlib.Core.Bool.{Bool, true, false, cond}
+use mathlib.Core.Bool.{Bool}
 use mathlib.Core.List.{List}
 use Prim.Native.Nat.{ℕ, ◌*◌, ◌≤◌}
-use borrow.Author.Tests.{eqb-true, ne_eqb}
-use lib.Dec.{eqb}
+use Rattle.std.specs.Prelude.{Option, Some, None, Result, Ok, Err}
 use Rattle.lent.proofs.NeverLaws.{never}
 use Rattle.grouping_chart.specs.Chart.{Chart, size}
-use Rattle.grouping_chart.specs.Refusal.{refused, verdict}
+use Rattle.grouping_chart.specs.Refusal.{Verdict, accepted, refused, verdict}
 use Rattle.grouping_chart.specs.Room.{any_short, short_refusal, refusal_beside}
 use Rattle.grouping_chart.specs.Outcome.{Outcome, outcome, refused_then, answered}
-use Rattle.grouping_chart.specs.declared.object.ObjectIndex.{ObjectIndex}
-use Rattle.grouping_chart.specs.declared.refusal.Verdict.{Verdict}
-use Rattle.grouping_chart.specs.declared.refusal.Verdict.TheVariants.{Accepted, Refused}
-use Rattle.grouping_chart.proofs.AcceptedLaws.{GoodChart, accepted_good}
+use Rattle.grouping_chart.specs.declared.refusal.Reason.{Reason}
+use Rattle.grouping_chart.specs.declared.refusal.Refusal.{Refusal}
+use Rattle.grouping_chart.proofs.AcceptedLaws.{GoodChart, accepted_good, none_refused}
 use Rattle.grouping_chart.proofs.RoomLaws.{AllLong, roomy, all_long}
 
 -- from whether an answer slice is short, and what `judge` answered
@@ -28,7 +26,7 @@ pub record Accommodated (c : Chart) (answers : List ℕ) (work scratch : ℕ) : 
   pub regions : 8 * size c ≤ work
   pub floats : size c ≤ scratch
 
-pub accommodated : (c : Chart) (answers : List ℕ) (work scratch : ℕ) → verdict c (refusal_beside (size c) answers work scratch) ≡ Accepted
+pub accommodated : (c : Chart) (answers : List ℕ) (work scratch : ℕ) → verdict c (refusal_beside (size c) answers work scratch) ≡ accepted
     → Accommodated c answers work scratch
 accommodated c answers work scratch h =
     let good = accepted_good c _ h in
@@ -37,40 +35,36 @@ accommodated c answers work scratch h =
 
 -- ---- what is refused after the chart
 
-module _ {v : Verdict} (number : ℕ) where
-  pub chart-refused : {first : ℕ} {place : ObjectIndex} → v ≡ Refused first place → refused_then v number ≡ Refused first place
+module _ {v : Verdict} (asked : Option Reason) where
+  pub chart-refused : {first : Refusal} → v ≡ Err first → refused_then v asked ≡ Err first
   unfolding refused_then
   chart-refused h = rw h
 
-  pub none_refused : v ≡ Accepted → number ≡ 0 → refused_then v number ≡ Accepted
+  pub nothing-refused : v ≡ accepted → asked ≡ None → refused_then v asked ≡ accepted
   unfolding refused_then
-  none_refused h e = rw (h, e)
+  nothing-refused h e = rw (h, e)
 
-  pub then-refused : v ≡ Accepted → (number ≡ 0 → ⊥) → refused_then v number ≡ refused number
+  pub then-refused : {r : Reason} → v ≡ accepted → asked ≡ Some r → refused_then v asked ≡ refused r
   unfolding refused_then
-  then-refused h e = rw (h, ne_eqb number 0 e)
+  then-refused h e = rw (h, e)
 
 -- neither is refused
-pub record BothAccepted (v : Verdict) (number : ℕ) : Type 0 where
-  pub chart : v ≡ Accepted
-  pub none : number ≡ 0
+pub record BothAccepted (v : Verdict) (asked : Option Reason) : Type 0 where
+  pub chart : v ≡ accepted
+  pub none : asked ≡ None
 
-pub both-accepted : (v : Verdict) (number : ℕ) → refused_then v number ≡ Accepted → BothAccepted v number
+pub both-accepted : (v : Verdict) (asked : Option Reason) → refused_then v asked ≡ accepted → BothAccepted v asked
 unfolding refused_then
-both-accepted Accepted number e = record { chart = refl; none = eqb-true number 0 (zero (eqb number 0) e) }
-  where
-    zero : (b : Bool) → cond b Accepted (refused number) ≡ Accepted → b ≡ true
-    zero true e = refl
-    zero false e = never (cc)
-both-accepted (Refused first place) number e = never (cc)
+both-accepted (Ok done) asked e = record { chart = refl; none = (none_refused asked _ _ e).0 }
+both-accepted (Err first) asked e = never (cc)
 
 -- ---- what a call comes to
 
-module _ {Answer Memory : Type 0} {v : Verdict} (done : Outcome Answer Memory) (refuse : ℕ → ObjectIndex → Answer) (m : Memory) where
-  pub answered-refused : {number : ℕ} {place : ObjectIndex} → v ≡ Refused number place → outcome (refuse number place) m ≡ answered v done refuse m
+module _ {Answer Memory : Type 0} {v : Verdict} (answer : Answer) (filled lent : Memory) where
+  pub answered-refused : {first : Refusal} → v ≡ Err first → outcome (Err first) lent ≡ answered v answer filled lent
   unfolding answered
   answered-refused h = rw h
 
-  pub answered-done : {o : Outcome Answer Memory} → v ≡ Accepted → o ≡ done → o ≡ answered v done refuse m
+  pub answered-done : {o : Outcome (Result Answer Refusal) Memory} → v ≡ accepted → o ≡ outcome (Ok answer) filled → o ≡ answered v answer filled lent
   unfolding answered
   answered-done h e = rw h e

@@ -5,44 +5,41 @@ use mathlib.Core.Bool.{Bool, true, false, cond}
 use Prim.Native.Nat.{ℕ, ◌+◌, ◌≤◌, ◌<◌}
 use native.Mathlib.Numerals.{add-one}
 use native.Mathlib.Omega.{arith}
-use borrow.Author.Tests.{lt-ltb, le-ltb, le-leb, lt-leb, eq-eqb, ne_eqb}
+use borrow.Author.Tests.{lt-ltb, le-ltb, eq-eqb, ne_eqb}
 use lib.ListN.{length, drop, get_or, drop_of_length-le}
 use lib.Seq.{drop-cons}
-use lib.Dec.{eqb}
 use lib.Ieee.{Float}
-use Rattle.grouping_chart.specs.declared.refusal.Verdict.{Verdict}
-use Rattle.grouping_chart.specs.declared.refusal.Verdict.TheVariants.{Accepted, Refused}
+use Rattle.lent.proofs.NeverLaws.{never}
+use Rattle.std.specs.Prelude.{Option, Some, None, Ok, Err}
+use Rattle.grouping_chart.specs.declared.refusal.Reason.{Reason}
+use Rattle.grouping_chart.specs.declared.refusal.Reason.TheVariants.{TooManyObjects, UnequalLengths, UnknownKind, BadStart, BadDelta, BadRatio}
 use Rattle.grouping_chart.specs.Chart.{Chart, equally_long}
-use Rattle.grouping_chart.specs.Refusal.{kind_good, time_good, ratio_good, object_refusal, first_refused, refused, verdict}
+use Rattle.grouping_chart.specs.Refusal.{kind_good, time_good, ratio_good, Verdict, accepted, refused, refused_or, object_refusal, first_refused, objects_verdict, verdict}
 use Rattle.grouping_chart.specs.passes.Good.{SameLengths, all}
 use Rattle.grouping_chart.proofs.AllLaws.{both_true}
 
--- ---- the number of an object's refusal
+-- ---- an object's refusal
 
-module _ (s d r : Float) where
-  pub refusal_0 : time_good s ≡ true → time_good d ≡ true → ratio_good r ≡ true → 0 ≡ object_refusal 0 s d r
+module _ (k : ℕ) (s d r : Float) where
+  pub kind_refused : kind_good k ≡ false → Some UnknownKind ≡ object_refusal k s d r
   unfolding object_refusal
-  refusal_0 a b c = rw (a, b, c)
+  kind_refused a = rw a
 
-  pub refusal_7 : time_good s ≡ true → time_good d ≡ true → ratio_good r ≡ false → 7 ≡ object_refusal 0 s d r
+  pub start_refused : kind_good k ≡ true → time_good s ≡ false → Some BadStart ≡ object_refusal k s d r
   unfolding object_refusal
-  refusal_7 a b c = rw (a, b, c)
+  start_refused a b = rw (a, b)
 
-  pub refusal_6 : time_good s ≡ true → time_good d ≡ false → 6 ≡ object_refusal 0 s d r
+  pub delta_refused : kind_good k ≡ true → time_good s ≡ true → time_good d ≡ false → Some BadDelta ≡ object_refusal k s d r
   unfolding object_refusal
-  refusal_6 a b = rw (a, b)
+  delta_refused a b c = rw (a, b, c)
 
-  pub refusal_5 : time_good s ≡ false → 5 ≡ object_refusal 0 s d r
+  pub ratio_refused : kind_good k ≡ true → time_good s ≡ true → time_good d ≡ true → ratio_good r ≡ false → Some BadRatio ≡ object_refusal k s d r
   unfolding object_refusal
-  refusal_5 a = rw a
+  ratio_refused a b c e = rw (a, b, c, e)
 
-  pub refusal_kind : (k : ℕ) → k ≤ 2 → object_refusal 0 s d r ≡ object_refusal k s d r
+  pub not_refused : kind_good k ≡ true → time_good s ≡ true → time_good d ≡ true → ratio_good r ≡ true → None ≡ object_refusal k s d r
   unfolding object_refusal
-  refusal_kind k h = rw (le-leb k 2 h)
-
-  pub refusal_4 : (k : ℕ) → 2 < k → 4 ≡ object_refusal k s d r
-  unfolding object_refusal
-  refusal_4 k h = rw (lt-leb k 2 h)
+  not_refused a b c e = rw (a, b, c, e)
 
 -- a good ratio may stand for another
 pub refusal_ratio : (k : ℕ) (s d r r' : Float) → ratio_good r ≡ true → ratio_good r' ≡ true → object_refusal k s d r ≡ object_refusal k s d r'
@@ -52,61 +49,52 @@ refusal_ratio k s d r r' e f = rw (e, f)
 -- ---- the first refused object from object i on: it is i, or it stands later, or there is none
 
 module _ (kinds : List ℕ) (starts deltas ratios : List Float) (i : ℕ) (z : Float) (same : SameLengths (length kinds) starts deltas ratios) where
-  pub first_here : (v : ℕ) → i < length kinds → v ≡ object_refusal (get_or kinds i 0) (get_or starts i z) (get_or deltas i z) (get_or ratios i z) → (v ≡ 0 → ⊥)
-      → Refused v (record { 0 = i }) ≡ first_refused i (drop i kinds) (drop i starts) (drop i deltas) (drop i ratios)
-  unfolding first_refused
-  first_here v h e n =
-      let in-starts : i < length starts = omega arith in
-      let in-deltas : i < length deltas = omega arith in
-      let in-ratios : i < length ratios = omega arith in
-      rw (drop-cons kinds i 0 h, drop-cons starts i z in-starts, drop-cons deltas i z in-deltas, drop-cons ratios i z in-ratios, ← e, ne_eqb v 0 n)
-
-  pub first_later : (v : ℕ) → i < length kinds → v ≡ object_refusal (get_or kinds i 0) (get_or starts i z) (get_or deltas i z) (get_or ratios i z) → v ≡ 0
+  pub first_from : (asked : Option Reason) → i < length kinds → asked ≡ object_refusal (get_or kinds i 0) (get_or starts i z) (get_or deltas i z) (get_or ratios i z)
       → first_refused i (drop i kinds) (drop i starts) (drop i deltas) (drop i ratios)
-      ≡ first_refused (i + 1) (drop (i + 1) kinds) (drop (i + 1) starts) (drop (i + 1) deltas) (drop (i + 1) ratios)
+      ≡ refused_or asked i (first_refused (i + 1) (drop (i + 1) kinds) (drop (i + 1) starts) (drop (i + 1) deltas) (drop (i + 1) ratios))
   unfolding first_refused
-  first_later v h e n =
+  first_from asked h e =
       let in-starts : i < length starts = omega arith in
       let in-deltas : i < length deltas = omega arith in
       let in-ratios : i < length ratios = omega arith in
-      rw (drop-cons kinds i 0 h, drop-cons starts i z in-starts, drop-cons deltas i z in-deltas, drop-cons ratios i z in-ratios, ← e, eq-eqb v 0 n, add-one i)
+      rw (drop-cons kinds i 0 h, drop-cons starts i z in-starts, drop-cons deltas i z in-deltas, drop-cons ratios i z in-ratios, ← e, add-one i)
 
 pub first_none : (kinds : List ℕ) (starts deltas ratios : List Float) (i : ℕ) → length kinds ≤ i
-    → Accepted ≡ first_refused i (drop i kinds) (drop i starts) (drop i deltas) (drop i ratios)
+    → accepted ≡ first_refused i (drop i kinds) (drop i starts) (drop i deltas) (drop i ratios)
 unfolding first_refused
 first_none kinds starts deltas ratios i h = rw (drop_of_length-le kinds h)
 
--- ---- where all ratios are good, refusal 7 applies to no object
+-- ---- where all ratios are good, no object is refused for its ratio
 
-abbrev pub NotSeven : Verdict → Type 0
-NotSeven Accepted = Unit {0}
-NotSeven (Refused number place) = number ≡ 7 → ⊥
+abbrev pub NotRatio : Verdict → Type 0
+NotRatio (Ok done) = Unit {0}
+NotRatio (Err f) = f.reason ≡ BadRatio → ⊥
 
-pub neither_seven : (b : Bool) (v w : Verdict) → NotSeven v → NotSeven w → NotSeven (cond b v w)
-neither_seven true v w p q = p
-neither_seven false v w p q = q
+pub neither_ratio : (b : Bool) (v w : Verdict) → NotRatio v → NotRatio w → NotRatio (cond b v w)
+neither_ratio true v w p q = p
+neither_ratio false v w p q = q
 
-no_seven : (k s d : Bool) → ◌≡◌ {A = ℕ} (cond k (cond s (cond d 0 6) 5) 4) 7 → ⊥
-no_seven true true true e = omega arith
-no_seven true true false e = omega arith
-no_seven true false d e = omega arith
-no_seven false s d e = omega arith
+other_reason : (k s d : Bool) (i : ℕ) (later : Verdict) → NotRatio later
+    → NotRatio (refused_or (cond k (cond s (cond d None (Some BadDelta)) (Some BadStart)) (Some UnknownKind)) i later)
+other_reason true true true i later l = l
+other_reason true true false i later l = λ e. never (cc)
+other_reason true false d i later l = λ e. never (cc)
+other_reason false s d i later l = λ e. never (cc)
 
-object_not_seven : (k : ℕ) (s d r : Float) → ratio_good r ≡ true → object_refusal k s d r ≡ 7 → ⊥
+object_not_ratio : (k : ℕ) (s d r : Float) → ratio_good r ≡ true → (i : ℕ) (later : Verdict) → NotRatio later → NotRatio (refused_or (object_refusal k s d r) i later)
 unfolding object_refusal
-object_not_seven k s d r g e = no_seven (kind_good k) (time_good s) (time_good d) (rw g at e)
+object_not_ratio k s d r g i later l = rw g (other_reason (kind_good k) (time_good s) (time_good d) i later l)
 
-pub objects_not_seven : (i : ℕ) (kinds : List ℕ) (starts deltas ratios : List Float) → all ratio_good ratios ≡ true
-    → NotSeven (first_refused i kinds starts deltas ratios)
+pub objects_not_ratio : (i : ℕ) (kinds : List ℕ) (starts deltas ratios : List Float) → all ratio_good ratios ≡ true
+    → NotRatio (first_refused i kinds starts deltas ratios)
 unfolding first_refused all
-objects_not_seven i [] ss ds rs g = tt
-objects_not_seven i (k ∷ ks) [] ds rs g = tt
-objects_not_seven i (k ∷ ks) (s ∷ ss) [] rs g = tt
-objects_not_seven i (k ∷ ks) (s ∷ ss) (d ∷ ds) [] g = tt
-objects_not_seven i (k ∷ ks) (s ∷ ss) (d ∷ ds) (r ∷ rs) g =
+objects_not_ratio i [] ss ds rs g = tt
+objects_not_ratio i (k ∷ ks) [] ds rs g = tt
+objects_not_ratio i (k ∷ ks) (s ∷ ss) [] rs g = tt
+objects_not_ratio i (k ∷ ks) (s ∷ ss) (d ∷ ds) [] g = tt
+objects_not_ratio i (k ∷ ks) (s ∷ ss) (d ∷ ds) (r ∷ rs) g =
     let t = both_true _ _ g in
-    let o = object_refusal k s d r in
-    neither_seven (eqb o 0) _ (Refused o _) (objects_not_seven (i + 1) ks ss ds rs t.1) (object_not_seven k s d r t.0)
+    object_not_ratio k s d r t.0 i _ (objects_not_ratio (i + 1) ks ss ds rs t.1)
 
 -- ---- the chart's lengths
 
@@ -130,20 +118,19 @@ module _ (c : Chart) where
 
 -- ---- a call's verdict
 
-module _ (c : Chart) (refusal : ℕ) where
-  pub verdict_1 : 16384 < length c.kinds → verdict c refusal ≡ refused 1
+module _ (c : Chart) (beside : Option Reason) where
+  pub verdict_1 : 16384 < length c.kinds → verdict c beside ≡ refused TooManyObjects
   unfolding verdict
   verdict_1 h = rw (lt-ltb _ _ h)
 
-  pub verdict_2 : length c.kinds ≤ 16384 → equally_long c ≡ false → verdict c refusal ≡ refused 2
+  pub verdict_2 : length c.kinds ≤ 16384 → equally_long c ≡ false → verdict c beside ≡ refused UnequalLengths
   unfolding verdict
   verdict_2 h e = rw (le-ltb _ _ h, e)
 
-  pub verdict_beside : length c.kinds ≤ 16384 → equally_long c ≡ true → (refusal ≡ 0 → ⊥) → verdict c refusal ≡ refused refusal
+  pub verdict_beside : {r : Reason} → length c.kinds ≤ 16384 → equally_long c ≡ true → beside ≡ Some r → verdict c beside ≡ refused r
   unfolding verdict
-  verdict_beside h e n = rw (le-ltb _ _ h, e, ne_eqb _ _ n)
+  verdict_beside h e n = rw (le-ltb _ _ h, e, n)
 
-  pub verdict-objects : length c.kinds ≤ 16384 → equally_long c ≡ true → refusal ≡ 0
-      → verdict c refusal ≡ first_refused 0 c.kinds c.starts c.deltas c.ratios
+  pub verdict-objects : length c.kinds ≤ 16384 → equally_long c ≡ true → beside ≡ None → verdict c beside ≡ objects_verdict c
   unfolding verdict
-  verdict-objects h e n = rw (le-ltb _ _ h, e, eq-eqb _ _ n)
+  verdict-objects h e n = rw (le-ltb _ _ h, e, n)

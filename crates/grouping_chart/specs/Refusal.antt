@@ -1,11 +1,44 @@
--- Refusals 1 to 7 and the order of their tests (scope: "Refused by number"): 1, 2, what is refused beside the chart,
--- then 4 to 7 for one object after another. Room.antt alone says which number is refused beside the chart, and when.
--- A refusal has a number and a place: the object's for 4 to 7, else 0.
-use Rattle.std.specs.Prelude.{ℕ, ◌+◌, Bool, cond, List, [], ◌∷◌, eqb, leb, ltb, Float}
+-- Why a call refuses, where, and the order of the tests for refusals 1 to 7 (scope: "Refused by number"): 1, 2, what is
+-- refused beside the chart, then 4 to 7 for one object after another. Room.antt alone says what is refused beside the
+-- chart, and when. A refusal has a reason, whose number is what C is told, and a place: the object's for 4 to 7, else 0.
+use Rattle.std.specs.Prelude.{ℕ, ◌+◌, Bool, cond, List, [], ◌∷◌, leb, ltb, Float, Option, Some, None, Result, Ok, Err}
 use Rattle.numeric.specs.Range.{within, earliest, latest, least_ratio, greatest_ratio}
 use Rattle.grouping_chart.specs.Chart.{Chart, size, largest, equally_long}
-use Rattle.grouping_chart.specs.declared.refusal.Verdict.{Verdict}
-use Rattle.grouping_chart.specs.declared.refusal.Verdict.TheVariants.{Accepted, Refused}
+use Rattle.grouping_chart.specs.declared.refusal.Reason.{Reason}
+use Rattle.grouping_chart.specs.declared.refusal.Reason.TheVariants.{TooManyObjects, UnequalLengths, ShortSlice}
+use Rattle.grouping_chart.specs.declared.refusal.Reason.TheVariants.{UnknownKind, BadStart, BadDelta, BadRatio}
+use Rattle.grouping_chart.specs.declared.refusal.Reason.TheVariants.{BadWindow, OutOfRange, BadRate, NoNotes}
+use Rattle.grouping_chart.specs.declared.refusal.Refusal.{Refusal}
+
+-- the number that C is told
+abbrev pub reason_number : Reason → ℕ
+reason_number TooManyObjects = 1
+reason_number UnequalLengths = 2
+reason_number ShortSlice = 3
+reason_number UnknownKind = 4
+reason_number BadStart = 5
+reason_number BadDelta = 6
+reason_number BadRatio = 7
+reason_number BadWindow = 8
+reason_number OutOfRange = 9
+reason_number BadRate = 10
+reason_number NoNotes = 11
+
+abbrev pub refusal : Reason → ℕ → Refusal
+refusal reason place = record { reason = reason; place = record { 0 = place } }
+
+abbrev pub at_0 : Reason → Refusal
+at_0 reason = refusal reason 0
+
+-- whether a call is accepted; else the first refusal that applies
+abbrev pub Verdict : Type 0
+Verdict = Result (Unit {0}) Refusal
+
+abbrev pub accepted : Verdict
+accepted = Ok tt
+
+abbrev pub refused : Reason → Verdict
+refused reason = Err (at_0 reason)
 
 -- Center, Rim and NonHit
 abbrev pub kind_good : ℕ → Bool
@@ -17,34 +50,40 @@ time_good x = within earliest latest x
 unfoldable pub ratio_good : Float → Bool
 ratio_good x = within least_ratio greatest_ratio x
 
--- the number of an object's refusal, or 0
-unfoldable pub object_refusal : ℕ → Float → Float → Float → ℕ
+-- why an object is refused, if it is
+unfoldable pub object_refusal : ℕ → Float → Float → Float → Option Reason
 object_refusal kind start delta ratio =
-    cond (kind_good kind) (cond (time_good start) (cond (time_good delta) (cond (ratio_good ratio) 0 7) 6) 5) 4
+    cond (kind_good kind)
+    (cond (time_good start)
+    (cond (time_good delta)
+    (cond (ratio_good ratio) None (Some BadRatio))
+    (Some BadDelta))
+    (Some BadStart))
+    (Some UnknownKind)
 
--- the first object that is refused, with its number, where the lists begin at object i
+-- a refusal at this place where there is a reason, else what comes later
+abbrev pub refused_or : Option Reason → ℕ → Verdict → Verdict
+refused_or None place later = later
+refused_or (Some reason) place later = Err (refusal reason place)
+
+-- the first object that is refused, where the lists begin at object i
 unfoldable pub first_refused : ℕ → List ℕ → List Float → List Float → List Float → Verdict
-first_refused i [] starts deltas ratios = Accepted
-first_refused i (k ∷ kinds) [] deltas ratios = Accepted
-first_refused i (k ∷ kinds) (s ∷ starts) [] ratios = Accepted
-first_refused i (k ∷ kinds) (s ∷ starts) (d ∷ deltas) [] = Accepted
+first_refused i [] starts deltas ratios = accepted
+first_refused i (k ∷ kinds) [] deltas ratios = accepted
+first_refused i (k ∷ kinds) (s ∷ starts) [] ratios = accepted
+first_refused i (k ∷ kinds) (s ∷ starts) (d ∷ deltas) [] = accepted
 first_refused i (k ∷ kinds) (s ∷ starts) (d ∷ deltas) (r ∷ ratios) =
-    cond (eqb (object_refusal k s d r) 0)
-    (first_refused (i + 1) kinds starts deltas ratios)
-    (Refused (object_refusal k s d r) (record { 0 = i }))
+    refused_or (object_refusal k s d r) i (first_refused (i + 1) kinds starts deltas ratios)
 
-abbrev pub refused : ℕ → Verdict
-refused number = Refused number (record { 0 = 0 })
-
--- the order of the tests: whether there are too many objects, whether the slices are of one length, the number of what
--- is refused beside the chart, or 0, and the verdict on the objects
-abbrev pub in_order : Bool → Bool → ℕ → Verdict → Verdict
-in_order large equal refusal objects =
-    cond large (refused 1) (cond equal (cond (eqb refusal 0) objects (refused refusal)) (refused 2))
+-- the order of the tests: whether there are too many objects, whether the slices are of one length, what is refused
+-- beside the chart, and the verdict on the objects
+abbrev pub in_order : Bool → Bool → Option Reason → Verdict → Verdict
+in_order large equal beside objects =
+    cond large (refused TooManyObjects) (cond equal (refused_or beside 0 objects) (refused UnequalLengths))
 
 abbrev pub objects_verdict : Chart → Verdict
 objects_verdict c = first_refused 0 c.kinds c.starts c.deltas c.ratios
 
--- refusals 1 to 7 of a call on a chart; `refusal` is the number of what is refused beside it, or 0
-unfoldable pub verdict : Chart → ℕ → Verdict
-verdict c refusal = in_order (ltb largest (size c)) (equally_long c) refusal (objects_verdict c)
+-- refusals 1 to 7 of a call on a chart; `beside` is what is refused beside it, if anything is
+unfoldable pub verdict : Chart → Option Reason → Verdict
+verdict c beside = in_order (ltb largest (size c)) (equally_long c) beside (objects_verdict c)

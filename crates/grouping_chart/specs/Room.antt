@@ -1,25 +1,27 @@
 -- What is refused beside the chart, the same in every call (scope: "Calls and what they fill", "Refused by number"):
--- `verdict` of Refusal.antt takes its number from here, and tests it straight after 2, before any object. That is 3, a
--- slice that is too short: an answer slice has a place for each of the n objects, and the two work slices have 8 n and
--- n places.
+-- `verdict` of Refusal.antt takes it from here, and tests it straight after 2, before any object. That is 3, a slice
+-- that is too short: an answer slice has a place for each of the n objects, and the two work slices have 8 n and n
+-- places.
 use Rattle.std.specs.Prelude.{ℕ, ◌*◌, Bool, false, ◌||◌, cond, List, [], ◌∷◌, ltb, replicate, Float}
+use Rattle.std.specs.Prelude.{Option, Some, None}
 use Rattle.std.specs.Float.{binary64}
 use Rattle.std.specs.Float.Ieee.{of_bits}
 use Rattle.lent.specs.Over.{over}
+use Rattle.grouping_chart.specs.declared.refusal.Reason.{Reason}
+use Rattle.grouping_chart.specs.declared.refusal.Reason.TheVariants.{ShortSlice}
 
 -- whether one of some slices has too few places for n objects, by how many places each has
 unfoldable pub any_short : ℕ → List ℕ → Bool
 any_short n [] = false
 any_short n (l ∷ ls) = ltb l n || any_short n ls
 
--- 3, or 0 where no slice is too short; `answers` says that an answer slice is, `work` and `scratch` are how many
--- places the work slices have
-unfoldable pub short_refusal : Bool → ℕ → ℕ → ℕ → ℕ
-short_refusal answers n work scratch = cond (answers || (ltb work (8 * n) || ltb scratch n)) 3 0
+-- whether a slice is too short; `answers` says that an answer slice is, `work` and `scratch` are how many places the
+-- work slices have
+unfoldable pub short_refusal : Bool → ℕ → ℕ → ℕ → Option Reason
+short_refusal answers n work scratch = cond (answers || (ltb work (8 * n) || ltb scratch n)) (Some ShortSlice) None
 
--- the number of what is refused beside the chart, or 0, by how many places each answer slice, the work and the
--- scratch slice have
-abbrev pub refusal_beside : ℕ → List ℕ → ℕ → ℕ → ℕ
+-- what is refused beside the chart, by how many places each answer slice, the work and the scratch slice have
+abbrev pub refusal_beside : ℕ → List ℕ → ℕ → ℕ → Option Reason
 refusal_beside n answers work scratch = short_refusal (any_short n answers) n work scratch
 
 -- the work slices after an accepted call on n objects: 0 and +0.0 in the places that it may use, old contents elsewhere

@@ -1,6 +1,7 @@
 // What a chart is, which charts are refused, and the two counters of an object.
 #![tactic(auto)]
 
+pub mod chart;
 pub mod good;
 pub mod object;
 pub mod refusal;

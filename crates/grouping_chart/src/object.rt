@@ -3,7 +3,7 @@ ghost use Rattle.std.specs.Prelude.{◌≡◌, cond, ◌+◌, ◌^◌, ◌<◌, 
 ghost use Rattle.grouping_chart.specs.Object.{is_note, kind_number};
 
 // How many objects stand before one.
-#[derive(Clone, Copy)]
+#[derive(Clone, Copy, PartialEq, Eq, Debug)]
 pub struct ObjectIndex(pub usize);
 
 // How many notes stand before an object; where it is an object's own number, a NonHit's is 0.

@@ -1,18 +1,69 @@
-// Refusals 1 to 7: of the chart's size and lengths, and object by object.
-ghost use Rattle.std.specs.Prelude.{◌≡◌, length};
-ghost use Rattle.grouping_chart.specs.Chart.{equally_long, chart};
+// Why a call refuses and where, and refusals 1 to 7: of the chart's size and lengths, and object by object.
+ghost use Rattle.std.specs.Prelude.{◌≡◌, length, Option, Result};
+ghost use Rattle.grouping_chart.specs.Chart.{equally_long};
+ghost use Rattle.grouping_chart.specs.Lent.{seen};
 ghost use Rattle.grouping_chart.specs.passes.Good.{SameLengths};
-ghost use Rattle.grouping_chart.specs.Refusal.{time_good, ratio_good, object_refusal, first_refused, verdict};
+ghost use Rattle.grouping_chart.specs.Refusal.{reason_number, at_0, time_good, ratio_good, object_refusal};
+ghost use Rattle.grouping_chart.specs.Refusal.{objects_verdict, verdict};
 
+use crate::chart::Chart;
 use crate::good;
 use crate::object::ObjectIndex;
 use numeric::range;
 
-// Whether a call is accepted; else the first refusal that applies and its place.
-#[derive(Clone, Copy)]
-pub enum Verdict {
-    Accepted,
-    Refused(u8, ObjectIndex),
+// Why a call refuses. Its number, for C, is its place here, from 1 on.
+#[derive(Clone, Copy, PartialEq, Eq, Debug)]
+pub enum Reason {
+    TooManyObjects,
+    UnequalLengths,
+    ShortSlice,
+    UnknownKind,
+    BadStart,
+    BadDelta,
+    BadRatio,
+    BadWindow,
+    OutOfRange,
+    BadRate,
+    NoNotes,
+}
+
+// The first refusal that applies to a call. Its place is an object's where the reason is one object's, else 0.
+#[derive(Clone, Copy, PartialEq, Eq, Debug)]
+pub struct Refusal {
+    pub reason: Reason,
+    pub place: ObjectIndex,
+}
+
+impl From<Reason> for u64 {
+    ghost from_gives = { λ r n. n ≡ reason_number r };
+
+    fn from(reason: Reason) -> u64 {
+        match reason {
+            Reason::TooManyObjects => 1,
+            Reason::UnequalLengths => 2,
+            Reason::ShortSlice => 3,
+            Reason::UnknownKind => 4,
+            Reason::BadStart => 5,
+            Reason::BadDelta => 6,
+            Reason::BadRatio => 7,
+            Reason::BadWindow => 8,
+            Reason::OutOfRange => 9,
+            Reason::BadRate => 10,
+            Reason::NoNotes => 11,
+        }
+    }
+}
+
+// What is no object's own is refused at place 0.
+impl From<Reason> for Refusal {
+    ghost from_gives = { λ r f. f ≡ at_0 r };
+
+    fn from(reason: Reason) -> Refusal {
+        Refusal {
+            reason,
+            place: ObjectIndex(0),
+        }
+    }
 }
 
 pub fn time_good(time: f64) -> bool
@@ -27,87 +78,79 @@ fn ratio_good(ratio: f64) -> bool
     range::is_within(range::LEAST_RATIO, range::GREATEST_RATIO, ratio)
 }
 
-fn times_refusal(start: f64, delta: f64, ratio: f64) -> u8
-    ensures { result ≡ object_refusal 0 start delta ratio }
-{
-    if time_good(start) {
-        if time_good(delta) {
-            if ratio_good(ratio) {
-                return 0;
-            }
-            return 7;
-        }
-        return 6;
-    }
-    5
-}
-
-// The number of an object's refusal, or 0.
-pub fn object_refusal(kind: u8, start: f64, delta: f64, ratio: f64) -> u8
+// Why an object is refused, if it is.
+#[tactic(auto, unfolding(crate::specs::Refusal::object_refusal))]
+pub fn object_refusal(kind: u8, start: f64, delta: f64, ratio: f64) -> Option<Reason>
     ensures { result ≡ object_refusal kind start delta ratio }
 {
-    match kind {
-        0 | 1 | 2 => times_refusal(start, delta, ratio),
-        _ => 4,
+    if !good::kind_good(kind) {
+        return Some(Reason::UnknownKind);
     }
+    if !time_good(start) {
+        return Some(Reason::BadStart);
+    }
+    if !time_good(delta) {
+        return Some(Reason::BadDelta);
+    }
+    if !ratio_good(ratio) {
+        return Some(Reason::BadRatio);
+    }
+    None
 }
 
 // The first object that is refused.
-fn first_refused(kind: &[u8], start: &[f64], delta: &[f64], ratio: &[f64]) -> Verdict
-    requires { SameLengths (length kind.now) start.now delta.now ratio.now }
-    ensures { result ≡ first_refused 0 kind.now start.now delta.now ratio.now }
+fn first_refused(chart: Chart) -> Result<(), Refusal>
+    requires { SameLengths (length chart.kind.now) chart.start.now chart.delta.now chart.ratio.now }
+    ensures { result ≡ objects_verdict (seen chart.entry) }
 {
-    let mut at = ObjectIndex(0);
-    while at.0 < kind.len() {
-        let i = at.0;
-        let number = object_refusal(kind[i], start[i], delta[i], ratio[i]);
-        if number != 0 {
-            return Verdict::Refused(number, at);
+    for i in 0..chart.kind.len() {
+        if let Some(reason) = object_refusal(
+            chart.kind[i],
+            chart.start[i],
+            chart.delta[i],
+            chart.ratio[i],
+        ) {
+            return Err(Refusal {
+                reason,
+                place: ObjectIndex(i),
+            });
         }
-        at = ObjectIndex(i + 1);
     }
-    Verdict::Accepted
+    Ok(())
 }
 
 // Most charts are good, which is told without a jump for each object.
-fn check_objects(kind: &[u8], start: &[f64], delta: &[f64], ratio: &[f64]) -> Verdict
-    requires { SameLengths (length kind.now) start.now delta.now ratio.now }
-    ensures { result ≡ first_refused 0 kind.now start.now delta.now ratio.now }
+fn check_objects(chart: Chart) -> Result<(), Refusal>
+    requires { SameLengths (length chart.kind.now) chart.start.now chart.delta.now chart.ratio.now }
+    ensures { result ≡ objects_verdict (seen chart.entry) }
 {
-    if good::all_good(kind, start, delta, ratio) {
-        return Verdict::Accepted;
+    if good::all_good(chart) {
+        return Ok(());
     }
-    first_refused(kind, start, delta, ratio)
+    first_refused(chart)
 }
 
 // Whether the four slices are of one length.
-fn equally_long(kind: &[u8], start: &[f64], delta: &[f64], ratio: &[f64]) -> bool
-    ensures { result ≡ equally_long (chart kind.now start.now delta.now ratio.now) }
+#[tactic(auto, unfolding(crate::specs::Chart::equally_long))]
+fn equally_long(chart: Chart) -> bool
+    ensures { result ≡ equally_long (seen chart.entry) }
 {
-    if start.len() != kind.len() {
-        return false;
-    }
-    if delta.len() != kind.len() {
-        return false;
-    }
-    if ratio.len() != kind.len() {
-        return false;
-    }
-    true
+    let n = chart.kind.len();
+    chart.start.len() == n && chart.delta.len() == n && chart.ratio.len() == n
 }
 
-// Refusals 1 to 7 of a call on a chart; `refusal` is the number of what is refused straight after 2, or 0.
-pub fn check(kind: &[u8], start: &[f64], delta: &[f64], ratio: &[f64], refusal: u8) -> Verdict
-    ensures { result ≡ verdict (chart kind.now start.now delta.now ratio.now) refusal }
+// Refusals 1 to 7 of a call on a chart; `beside` is what is refused straight after 2, if anything is.
+pub fn check(chart: Chart, beside: Option<Reason>) -> Result<(), Refusal>
+    ensures { result ≡ verdict (seen chart.entry) beside }
 {
-    if 16384 < kind.len() {
-        return Verdict::Refused(1, ObjectIndex(0));
+    if 16384 < chart.kind.len() {
+        return Err(Refusal::from(Reason::TooManyObjects));
     }
-    if equally_long(kind, start, delta, ratio) {
-        if refusal != 0 {
-            return Verdict::Refused(refusal, ObjectIndex(0));
-        }
-        return check_objects(kind, start, delta, ratio);
+    if !equally_long(chart) {
+        return Err(Refusal::from(Reason::UnequalLengths));
     }
-    Verdict::Refused(2, ObjectIndex(0))
+    if let Some(reason) = beside {
+        return Err(Refusal::from(reason));
+    }
+    check_objects(chart)
 }

@@ -1,6 +1,7 @@
 -- What the passes over a chart's objects ask of its lists, and what they answer: whether all objects are good. Only
 -- where not is the first bad one looked for.
-use Rattle.std.specs.Prelude.{ℕ, ◌≡◌, Bool, true, ◌&&◌, List, [], ◌∷◌, length, Float}
+use Rattle.std.specs.Prelude.{ℕ, zero, suc, ◌≡◌, Bool, true, ◌&&◌, List, [], ◌∷◌, length, Float}
+use Rattle.grouping_chart.specs.Chart.{Chart}
 use Rattle.grouping_chart.specs.Refusal.{kind_good, time_good, ratio_good}
 
 -- the three lists of times and ratios are n long
@@ -14,7 +15,12 @@ unfoldable pub all : {A : Type 0} → (A → Bool) → List A → Bool
 all test [] = true
 all test (x ∷ xs) = test x && all test xs
 
+-- whether a test passes at each of the first n places
+unfoldable pub all_places : (ℕ → Bool) → ℕ → Bool
+all_places passes zero = true
+all_places passes (suc n) = all_places passes n && passes n
+
 -- whether no object is refused, of four lists of one length
-unfoldable pub all_good : List ℕ → List Float → List Float → List Float → Bool
-all_good kinds starts deltas ratios =
-    all kind_good kinds && (all time_good starts && (all time_good deltas && all ratio_good ratios))
+unfoldable pub all_good : Chart → Bool
+all_good c =
+    all kind_good c.kinds && (all time_good c.starts && (all time_good c.deltas && all ratio_good c.ratios))
