@@ -17,8 +17,9 @@ use Rattle.numeric.proofs.Bounded as bounds
 use Rattle.numeric.proofs.Bounded.{Bounded, bounded_more, bounded_number, bounded_tenths, add_bounded}
 use Rattle.numeric.proofs.tenths.Nearest.{tenths_nearest}
 use Rattle.grouping_chart.specs.Chart.{Chart}
-use Rattle.grouping_chart.specs.Refusal.{verdict}
-use Rattle.grouping_chart.specs.declared.refusal.Verdict.TheVariants.{Accepted}
+use Rattle.std.specs.Prelude.{Option}
+use Rattle.grouping_chart.specs.Refusal.{accepted, verdict}
+use Rattle.grouping_chart.specs.declared.refusal.Reason.{Reason}
 use Rattle.grouping_chart.specs.Settings.{Settings}
 use Rattle.grouping_chart.proofs.AcceptedLaws.{accepted_good}
 use Rattle.evaluator_values.proofs.BoundLaws.{largest_colour, value_bounded}
@@ -49,7 +50,7 @@ average_bounded B xs some few k l g =
     (rw zero-add at (sum_bounded B 0 zero64 xs (omega arith) (leb→le 0 0 tt) g))
 
 -- ---- the mean of a stretch of an accepted chart
-module _ (s : Settings) (c : Chart) (refusal : ℕ) (accepted : verdict c refusal ≡ Accepted) (a b : ℕ) (x : GoodStretch c.kinds a b) where
+module _ (s : Settings) (c : Chart) (beside : Option Reason) (good : verdict c beside ≡ accepted) (a b : ℕ) (x : GoodStretch c.kinds a b) where
   abbrev made : List Float
   made = stretch_values s c a b
 
@@ -57,13 +58,13 @@ module _ (s : Settings) (c : Chart) (refusal : ℕ) (accepted : verdict c refusa
   lies = good_lies c.kinds a b x
 
   made_few : length made ≤ 16384
-  made_few = omega (arith, stretch-few s c a b lies, lies.inside, (accepted_good c refusal accepted).few)
+  made_few = omega (arith, stretch-few s c a b lies, lies.inside, (accepted_good c beside good).few)
 
   pub mean_bounded : Bounded (chart_mean s c a b) largest_colour
   unfolding chart_mean
   mean_bounded =
       average_bounded largest_colour made (stretch-some s c a b lies) (omega (arith, made_few)) (lit≤ tt) (omega (arith, made_few))
-      (stretch_all s c a b lies (λ (v : Float). Bounded v largest_colour) (value_bounded s c refusal accepted))
+      (stretch_all s c a b lies (λ (v : Float). Bounded v largest_colour) (value_bounded s c beside good))
 
   pub mean_number : Number (chart_mean s c a b)
   unfolding chart_mean average_of

@@ -6,25 +6,26 @@ use lib.IntN.{ℤ}
 use lib.Ieee.{Float}
 use Rattle.grouping_chart.specs.Chart.{Chart}
 use Rattle.grouping_chart.specs.Outcome.{outcome}
-use Rattle.grouping_chart.specs.declared.refusal.Verdict.{Verdict}
-use Rattle.grouping_chart.specs.declared.refusal.Verdict.TheVariants.{Accepted}
+use Rattle.std.specs.Prelude.{None, Ok}
+use Rattle.grouping_chart.specs.Refusal.{Verdict, accepted}
 use Rattle.grouping_chart.proofs.OutcomeLaws.{accommodated, BothAccepted, answered-done}
 use Rattle.grouping_chart.specs.Settings.{Settings, Permitted}
-use Rattle.call_colour.specs.declared.Colouring.TheVariants as colouring
-use Rattle.call_colour.specs.declared.Stretching.TheVariants as stretching
 use Rattle.call_colour.specs.Stretch.{stretch_refusal, stretch_verdict, chart_mean, chart_tenths}
-use Rattle.call_colour.specs.Call.{Memory, answer_lengths, judged, filled, colour_outcome, stretch_outcome}
+use Rattle.call_colour.specs.Call.{Memory, answer_lengths, judged, filled, stretch_mean, colour_outcome, stretch_outcome}
 use Rattle.call_colour.specs.passes.Rooms.{ChartRoom}
 
 -- a chart and a stretch that are not refused
 abbrev pub StretchAccepted : Verdict → List ℕ → ℕ → ℕ → Type 0
 StretchAccepted v kinds a b = BothAccepted v (stretch_refusal kinds a b)
 
+pub both_accepted : (c : Chart) (m : Memory) (a b : ℕ) → judged c m ≡ accepted → stretch_refusal c.kinds a b ≡ None → StretchAccepted (judged c m) c.kinds a b
+both_accepted c m a b h e = record { chart = h; none = e }
+
 -- ---- each case leaves its outcome
 
 module _ (s : Settings) (c : Chart) (m : Memory) where
   -- an accepted call has room
-  pub chart_room : Permitted s → judged c m ≡ Accepted → ChartRoom s c.kinds c.ratios m
+  pub chart_room : Permitted s → judged c m ≡ accepted → ChartRoom s c.kinds c.ratios m
   chart_room p h =
       let r = accommodated c (answer_lengths m) _ _ h in
       record {
@@ -35,12 +36,12 @@ module _ (s : Settings) (c : Chart) (m : Memory) where
         floats = r.floats;
       }
 
-  pub colour-done : (new : Memory) → judged c m ≡ Accepted → new ≡ filled s c.kinds c.ratios m → outcome colouring.Done new ≡ colour_outcome s c m
+  pub colour-done : (new : Memory) → judged c m ≡ accepted → new ≡ filled s c.kinds c.ratios m → outcome (Ok tt) new ≡ colour_outcome s c m
   unfolding colour_outcome
-  colour-done new h f = answered-done _ colouring.Refused m h (λ t. outcome colouring.Done (f t))
+  colour-done new h f = answered-done _ _ _ h (λ t. outcome (Ok tt) (f t))
 
   module _ (a b : ℕ) where
-    pub stretch-done : (mean : Float) (tenths : ℤ) (new : Memory) → stretch_verdict (judged c m) c.kinds a b ≡ Accepted → mean ≡ chart_mean s c a b
-        → tenths ≡ chart_tenths s c a b → new ≡ filled s c.kinds c.ratios m → outcome (stretching.Done mean tenths) new ≡ stretch_outcome s c a b m
+    pub stretch-done : (mean : Float) (tenths : ℤ) (new : Memory) → stretch_verdict (judged c m) c.kinds a b ≡ accepted → mean ≡ chart_mean s c a b
+        → tenths ≡ chart_tenths s c a b → new ≡ filled s c.kinds c.ratios m → outcome (Ok (stretch_mean mean tenths)) new ≡ stretch_outcome s c a b m
     unfolding stretch_outcome
-    stretch-done mean tenths new h e f g = answered-done _ stretching.Refused m h (λ t. outcome (stretching.Done (e t) (f t)) (g t))
+    stretch-done mean tenths new h e f g = answered-done _ _ _ h (λ t. outcome (Ok (stretch_mean (e t) (f t))) (g t))

@@ -20,7 +20,7 @@ use Rattle.grouping_chart.specs.Chart.{Chart, equally_long}
 use Rattle.grouping_chart.specs.Outcome.{Outcome, refused_then, answered}
 use Rattle.grouping_chart.specs.Room.{any_short, short_refusal}
 use Rattle.grouping_chart.specs.Settings.{base_settings}
-use Rattle.grouping_chart.specs.Refusal.{time_good, ratio_good, object_refusal, first_refused, verdict}
+use Rattle.grouping_chart.specs.Refusal.{at_0, time_good, ratio_good, object_refusal, first_refused, verdict}
 use Rattle.grouping_hits.specs.RepeatingHitPatterns.{coupled_run, hit_size, hit_marks_after, hit_marks, second_at, second_lengths}
 use Rattle.grouping_hits.specs.RepeatingHitPatterns.{matches, nearest_match, interval_at, intervals}
 use Rattle.grouping_colour.specs.MonoStreak.{continues, opens_streak, streak_marks, streak_of, streak_lengths, streak_types}
@@ -33,12 +33,13 @@ use Rattle.grouping_interval.specs.Notes.{of_notes}
 use Rattle.evaluator_colour.specs.Formulas.{hit_value, alt_value, mono_value, add_if, object_sum}
 use Rattle.evaluator_colour.specs.RatioPenalty.{lowered, ratio_penalty}
 use Rattle.evaluator_values.specs.Colour.{is_first, standing_at, colour_at, colour_values}
-use Rattle.call_colour.specs.declared.Colouring.{Colouring}
-use Rattle.call_colour.specs.declared.Colouring.TheVariants as colouring
-use Rattle.call_colour.specs.declared.Stretching.{Stretching}
-use Rattle.call_colour.specs.declared.Stretching.TheVariants as stretching
+use Rattle.std.specs.Prelude.{Result, Ok, Err}
+use Rattle.grouping_chart.specs.declared.refusal.Reason.{Reason}
+use Rattle.grouping_chart.specs.declared.refusal.Reason.TheVariants.{OutOfRange, NoNotes}
+use Rattle.grouping_chart.specs.declared.refusal.Refusal.{Refusal}
+use Rattle.call_colour.specs.declared.StretchMean.{StretchMean}
 use Rattle.call_colour.specs.Stretch.{has_note, stretch_refusal, stretch_values, sum_from, average_of, chart_mean, chart_tenths}
-use Rattle.call_colour.specs.Call.{Memory, filled, colour_outcome, stretch_outcome}
+use Rattle.call_colour.specs.Call.{Memory, filled, stretch_mean, colour_outcome, stretch_outcome}
 
 -- starts and deltas 0.0, all ratios equal
 unfoldable pub chart : Float → List ℕ → Chart
@@ -67,16 +68,16 @@ shown o = record {
 
 pub record Example : Type 0 where
   pub kinds : List ℕ
-  pub outcome : Shown Colouring
+  pub outcome : Shown (Result (Unit {0}) Refusal)
 
 unfoldable pub examples : List Example
 examples =
     -- no objects: accepted, nothing written
-    record { kinds = []; outcome = record { answer = colouring.Done; value = []; work = []; scratch = [] } }
+    record { kinds = []; outcome = record { answer = Ok tt; value = []; work = []; scratch = [] } }
     -- d: mono, alt and hit with T at 0 and interval 17, each step rounded
     ∷ record {
       kinds = 0 ∷ [];
-      outcome = record { answer = colouring.Done; value = 0x4013_ee42_c838_4268 ∷ []; work = replicate 8 0; scratch = 0 ∷ [] };
+      outcome = record { answer = Ok tt; value = 0x4013_ee42_c838_4268 ∷ []; work = replicate 8 0; scratch = 0 ∷ [] };
     }
     ∷ []
 
@@ -85,7 +86,7 @@ pub record StretchExample : Type 0 where
   pub kinds : List ℕ
   pub a : ℕ
   pub b : ℕ
-  pub outcome : Shown Stretching
+  pub outcome : Shown (Result StretchMean Refusal)
 
 unfoldable pub stretches : List StretchExample
 stretches =
@@ -96,7 +97,7 @@ stretches =
       a = 0;
       b = 1;
       outcome = record {
-        answer = stretching.Done (of_bits binary64 0x4013_ee42_c838_4268) (pos 50);
+        answer = Ok (stretch_mean (of_bits binary64 0x4013_ee42_c838_4268) (pos 50));
         value = 0x4013_ee42_c838_4268 ∷ [];
         work = replicate 8 0;
         scratch = 0 ∷ [];
@@ -109,7 +110,7 @@ stretches =
       a = 0;
       b = 3;
       outcome = record {
-        answer = stretching.Done (of_bits binary64 0x3fed_e392_330f_f9c8) (pos 9);
+        answer = Ok (stretch_mean (of_bits binary64 0x3fed_e392_330f_f9c8) (pos 9));
         value = 0x4013_ee42_c838_4268 ∷ 0x3fed_e392_330f_f9c8 ∷ 0x3fd3_1de3_d355_d99d ∷ [];
         work = replicate 24 0;
         scratch = 0 ∷ 0 ∷ 0 ∷ [];
@@ -122,34 +123,34 @@ stretches =
       a = 4;
       b = 5;
       outcome = record {
-        answer = stretching.Done (of_bits binary64 0x3ff4_0000_0000_0000) (pos 12);
+        answer = Ok (stretch_mean (of_bits binary64 0x3ff4_0000_0000_0000) (pos 12));
         value = 0x4013_ee42_c838_4268 ∷ 0 ∷ 0 ∷ 0 ∷ 0x3ff4_0000_0000_0000 ∷ [];
         work = replicate 40 0;
         scratch = replicate 5 0;
       };
     }
     -- d, b = n + 1, and a = b: refused, and all as lent
-    ∷ record { ratio = one64; kinds = 0 ∷ []; a = 0; b = 2; outcome = refused 9 }
-    ∷ record { ratio = one64; kinds = 0 ∷ []; a = 1; b = 1; outcome = refused 9 }
+    ∷ record { ratio = one64; kinds = 0 ∷ []; a = 0; b = 2; outcome = refused OutOfRange }
+    ∷ record { ratio = one64; kinds = 0 ∷ []; a = 1; b = 1; outcome = refused OutOfRange }
     -- n: refused as it has no note, but where it is overlong or empty for that
-    ∷ record { ratio = one64; kinds = 2 ∷ []; a = 0; b = 1; outcome = refused 11 }
-    ∷ record { ratio = one64; kinds = 2 ∷ []; a = 0; b = 2; outcome = refused 9 }
-    ∷ record { ratio = one64; kinds = 2 ∷ []; a = 0; b = 0; outcome = refused 9 }
+    ∷ record { ratio = one64; kinds = 2 ∷ []; a = 0; b = 1; outcome = refused NoNotes }
+    ∷ record { ratio = one64; kinds = 2 ∷ []; a = 0; b = 2; outcome = refused OutOfRange }
+    ∷ record { ratio = one64; kinds = 2 ∷ []; a = 0; b = 0; outcome = refused OutOfRange }
     ∷ []
   where
     -- one object's memory, as lent
-    refused : ℕ → Shown Stretching
-    refused number = record {
-      answer = stretching.Refused number (record { 0 = 0 });
+    refused : Reason → Shown (Result StretchMean Refusal)
+    refused reason = record {
+      answer = Err (at_0 reason);
       value = 0x7ff0_0000_0000_0000 ∷ [];
       work = replicate 8 7;
       scratch = 0x3ff0_0000_0000_0000 ∷ [];
     }
 
-unfoldable pub coloured : Example → Shown Colouring
+unfoldable pub coloured : Example → Shown (Result (Unit {0}) Refusal)
 coloured e = shown (colour_outcome base_settings (chart one64 e.kinds) (lent (length e.kinds)))
 
-unfoldable pub stretched : StretchExample → Shown Stretching
+unfoldable pub stretched : StretchExample → Shown (Result StretchMean Refusal)
 stretched e = shown (stretch_outcome base_settings (chart e.ratio e.kinds) e.a e.b (lent (length e.kinds)))
 
 -- every one of the two lists comes out as it says

@@ -3,10 +3,12 @@ use mathlib.Core.Path.{◌≡◌, refl}
 use mathlib.Core.Bool.{Bool, true, false, ◌||◌, cond}
 use mathlib.Core.List.{List}
 use Prim.Native.Nat.{ℕ, ◌≤◌, ◌<◌}
-use native.Mathlib.Omega.{arith}
 use borrow.Author.Tests.{lt-ltb, le-ltb, le-leb, lt-leb, ltb-false, leb-false}
 use lib.Dec.{ltb, leb}
 use lib.ListN.{length}
+use Rattle.std.specs.Prelude.{Some, None}
+use Rattle.lent.proofs.NeverLaws.{never}
+use Rattle.grouping_chart.specs.declared.refusal.Reason.TheVariants.{OutOfRange, NoNotes}
 use Rattle.grouping_chart.proofs.RoomLaws.{either_false}
 use Rattle.call_colour.specs.Stretch.{from_to, has_note, stretch_refusal, GoodStretch}
 
@@ -17,35 +19,35 @@ pub record StretchLies (kinds : List ℕ) (a b : ℕ) : Type 0 where
   pub noted : has_note (from_to a b kinds) ≡ true
 
 module _ (kinds : List ℕ) (a b : ℕ) where
-  pub none_refused : b ≤ a → 9 ≡ stretch_refusal kinds a b
+  pub none_refused : b ≤ a → Some OutOfRange ≡ stretch_refusal kinds a b
   unfolding stretch_refusal
   none_refused h = rw (le-leb b a h)
 
-  pub past_refused : length kinds < b → 9 ≡ stretch_refusal kinds a b
+  pub past_refused : length kinds < b → Some OutOfRange ≡ stretch_refusal kinds a b
   unfolding stretch_refusal
-  past_refused h = rw (lt-ltb (length kinds) b h) (either_nine (leb b a))
+  past_refused h = rw (lt-ltb (length kinds) b h) (either_outside (leb b a))
     where
-      either_nine : (none : Bool) → ◌≡◌ {A = ℕ} 9 (cond (none || true) 9 (cond (has_note (from_to a b kinds)) 0 11))
-      either_nine true = refl
-      either_nine false = refl
+      either_outside : (none : Bool) → Some OutOfRange ≡ cond (none || true) (Some OutOfRange) (cond (has_note (from_to a b kinds)) None (Some NoNotes))
+      either_outside true = refl
+      either_outside false = refl
 
   -- where it is the chart's, its notes decide
-  inside-refused : a < b → b ≤ length kinds → (noted : Bool) → has_note (from_to a b kinds) ≡ noted → stretch_refusal kinds a b ≡ cond noted 0 11
+  inside-refused : a < b → b ≤ length kinds → (noted : Bool) → has_note (from_to a b kinds) ≡ noted → stretch_refusal kinds a b ≡ cond noted None (Some NoNotes)
   unfolding stretch_refusal
   inside-refused h k noted e = rw (lt-leb b a h, le-ltb (length kinds) b k, e)
 
-  pub noteless_refused : a < b → b ≤ length kinds → has_note (from_to a b kinds) ≡ false → stretch_refusal kinds a b ≡ 11
+  pub noteless_refused : a < b → b ≤ length kinds → has_note (from_to a b kinds) ≡ false → stretch_refusal kinds a b ≡ Some NoNotes
   noteless_refused h k = inside-refused h k false
 
-  zero_of : (outside noted : Bool) → ◌≡◌ {A = ℕ} (cond outside 9 (cond noted 0 11)) 0 → (outside ≡ false) × (noted ≡ true)
-  zero_of true noted e = absurd (omega arith)
-  zero_of false true e = (refl, refl)
-  zero_of false false e = absurd (omega arith)
+  none_of : (outside noted : Bool) → cond outside (Some OutOfRange) (cond noted None (Some NoNotes)) ≡ None → (outside ≡ false) × (noted ≡ true)
+  none_of true noted e = never (cc)
+  none_of false true e = (refl, refl)
+  none_of false false e = never (cc)
 
   pub good_lies : GoodStretch kinds a b → StretchLies kinds a b
   unfolding stretch_refusal
   good_lies e =
-      let z = zero_of (leb b a || ltb (length kinds) b) (has_note (from_to a b kinds)) e in
+      let z = none_of (leb b a || ltb (length kinds) b) (has_note (from_to a b kinds)) e in
       let t = either_false _ _ z.0 in
       record { some = leb-false _ _ t.0; inside = ltb-false _ _ t.1; noted = z.1 }
 

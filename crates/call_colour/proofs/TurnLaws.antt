@@ -1,26 +1,25 @@
--- One object more, of the search for a note and of the sum and the count of the notes' values: what is left of the objects, taken from here, gives what all of
--- them give.
+-- One object more of the sum and the count of the notes' values: what is left of the objects, taken from here, gives what all of them give. And the search
+-- for a note.
 use mathlib.Core.Path.{◌≡◌, refl, sym, ap, ◌∙◌}
-use mathlib.Core.Bool.{Bool, true, false, cond}
+use mathlib.Core.Bool.{Bool, true, false, cond, ◌||◌}
 use mathlib.Core.List.{List, [], ◌∷◌}
 use Prim.Native.Nat.{ℕ, suc, ◌+◌, ◌≤◌, ◌<◌}
 use native.Mathlib.Nat.{zero-lt-suc}
-use native.Mathlib.Numerals.{add-one}
 use native.Mathlib.Omega.{arith}
 use borrow.Author.Tests.{lt-ltb}
 use mir.Val.{bool_byte}
 use lib.Dec.{T, ltb}
 use lib.IntN.{pos}
-use lib.ListN.{length, drop, get_or, drop_of_length-le}
-use lib.Seq.{drop-cons}
+use lib.ListN.{length, drop, get_or}
 use lib.Ieee.{Float, nan, binary64, fits, add, div, of_int}
 use lib.Ieee.Fits.{add-fits}
 use Rattle.numeric.specs.Constants.{zero64, minus_zero64}
 use Rattle.numeric.proofs.MinusZero.{add_minus_zero}
-use Rattle.grouping_chart.specs.Object.{is_note}
+use Rattle.grouping_chart.specs.Object.{is_note, notes}
 use Rattle.grouping_chart.proofs.NotesLaws.{notes_none, notes_first}
 use Rattle.grouping_interval.specs.Notes.{of_notes}
 use Rattle.grouping_interval.proofs.NoteLaws.{of_notes-step, of_notes-over}
+use Rattle.std.specs.List.{list_any}
 use Rattle.call_colour.specs.Stretch.{has_note, sum_from, average_of}
 
 -- ---- a truth value as a number
@@ -31,19 +30,15 @@ byte_below false = omega arith
 
 -- ---- the search
 
-has_more : (b : Bool) (k : ℕ) (ns : List ℕ) → ltb 0 (length (cond b (k ∷ ns) ns)) ≡ cond b true (ltb 0 (length ns))
+has_more : (b : Bool) (k : ℕ) (ns : List ℕ) → ltb 0 (length (cond b (k ∷ ns) ns)) ≡ (b || ltb 0 (length ns))
 has_more true k ns = lt-ltb 0 (suc (length ns)) (zero-lt-suc (length ns))
 has_more false k ns = refl
 
-module _ (ks : List ℕ) (i : ℕ) where
-  -- object i ends it if it is a note
-  pub has_step : (b : Bool) → i < length ks → is_note (get_or ks i 0) ≡ b → has_note (drop i ks) ≡ cond b true (has_note (drop (i + 1) ks))
-  unfolding has_note
-  has_step b h e = rw (drop-cons ks i 0 h, notes_first, e, add-one i) (has_more b (get_or ks i 0) _)
-
-  pub has_over : length ks ≤ i → has_note (drop i ks) ≡ false
-  unfolding has_note
-  has_over h = rw (drop_of_length-le ks h, notes_none)
+pub any_note : (ks : List ℕ) → list_any is_note ks ≡ has_note ks
+unfolding has_note
+any_note [] = ap (λ ns. ltb 0 (length ns)) (sym notes_none)
+any_note (k ∷ ks) =
+    ap (λ b. is_note k || b) (any_note ks) ∙ sym (has_more (is_note k) k (notes ks)) ∙ ap (λ ns. ltb 0 (length ns)) (sym (notes_first k ks))
 
 -- ---- the sum and the count
 

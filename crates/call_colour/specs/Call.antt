@@ -1,18 +1,16 @@
 -- The calls colour and stretch (scope: Calls and what they fill): what each answers, and what every lent
 -- slice holds afterwards. Refusals 9 and 11 are tested after 1 to 7.
-use Rattle.std.specs.Prelude.{ℕ, List, [], ◌∷◌, length, Float}
+use Rattle.std.specs.Prelude.{ℕ, List, [], ◌∷◌, length, ℤ, Float, Result}
 use Rattle.lent.specs.Over.{over}
 use Rattle.grouping_chart.specs.Chart.{Chart}
 use Rattle.grouping_chart.specs.Room.{cleared_work, cleared_scratch}
-use Rattle.grouping_chart.specs.Outcome.{Outcome, outcome, judged_by, answered}
-use Rattle.grouping_chart.specs.declared.refusal.Verdict.{Verdict}
+use Rattle.grouping_chart.specs.Outcome.{Outcome, judged_by, answered}
+use Rattle.grouping_chart.specs.Refusal.{Verdict}
+use Rattle.grouping_chart.specs.declared.refusal.Refusal.{Refusal}
 use Rattle.grouping_chart.specs.Settings.{Settings}
 use Rattle.evaluator_values.specs.Colour.{colour_values}
 use Rattle.call_colour.specs.Stretch.{stretch_verdict, chart_mean, chart_tenths}
-use Rattle.call_colour.specs.declared.Colouring.{Colouring}
-use Rattle.call_colour.specs.declared.Colouring.TheVariants as colouring
-use Rattle.call_colour.specs.declared.Stretching.{Stretching}
-use Rattle.call_colour.specs.declared.Stretching.TheVariants as stretching
+use Rattle.call_colour.specs.declared.StretchMean.{StretchMean}
 
 -- the slices that are lent to be written: the values and two work slices
 pub record Memory : Type 0 where
@@ -40,12 +38,15 @@ filled s kinds ratios m = record {
   scratch = cleared_scratch (length kinds) m.scratch;
 }
 
-unfoldable pub colour_outcome : Settings → Chart → Memory → Outcome Colouring Memory
-colour_outcome s c m =
-    answered (judged c m) (outcome colouring.Done (filled s c.kinds c.ratios m)) colouring.Refused m
+unfoldable pub colour_outcome : Settings → Chart → Memory → Outcome (Result (Unit {0}) Refusal) Memory
+colour_outcome s c m = answered (judged c m) tt (filled s c.kinds c.ratios m) m
 
-unfoldable pub stretch_outcome : Settings → Chart → ℕ → ℕ → Memory → Outcome Stretching Memory
+abbrev pub stretch_mean : Float → ℤ → StretchMean
+stretch_mean mean tenths = record { mean = mean; tenths = tenths }
+
+unfoldable pub stretch_outcome : Settings → Chart → ℕ → ℕ → Memory → Outcome (Result StretchMean Refusal) Memory
 stretch_outcome s c a b m =
     answered (stretch_verdict (judged c m) c.kinds a b)
-    (outcome (stretching.Done (chart_mean s c a b) (chart_tenths s c a b)) (filled s c.kinds c.ratios m))
-    stretching.Refused m
+    (stretch_mean (chart_mean s c a b) (chart_tenths s c a b))
+    (filled s c.kinds c.ratios m)
+    m

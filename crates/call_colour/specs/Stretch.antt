@@ -2,6 +2,7 @@
 -- stretches are refused; the mean of one, the colour values of its notes added from left to right and divided by how
 -- many they are; and its tenths, to the nearest.
 use Rattle.std.specs.Prelude.{◌≡◌, ℕ, ◌-◌, Bool, ◌||◌, cond, List, [], ◌∷◌, ltb, leb, ℤ, pos, length, Float}
+use Rattle.std.specs.Prelude.{Option, Some, None}
 use Rattle.std.specs.Float.{binary64}
 use Rattle.std.specs.Float.Ieee.{add, div, of_int}
 use Rattle.numeric.specs.Constants.{zero64}
@@ -11,7 +12,9 @@ use Rattle.grouping_chart.specs.Object.{notes}
 use Rattle.grouping_chart.specs.Chart.{Chart}
 use Rattle.grouping_chart.specs.Outcome.{refused_then}
 use Rattle.grouping_chart.specs.Settings.{Settings}
-use Rattle.grouping_chart.specs.declared.refusal.Verdict.{Verdict}
+use Rattle.grouping_chart.specs.Refusal.{Verdict}
+use Rattle.grouping_chart.specs.declared.refusal.Reason.{Reason}
+use Rattle.grouping_chart.specs.declared.refusal.Reason.TheVariants.{OutOfRange, NoNotes}
 use Rattle.grouping_interval.specs.Notes.{of_notes}
 use Rattle.evaluator_values.specs.Colour.{values_of}
 
@@ -22,14 +25,14 @@ from_to a b xs = part a (b - a) xs
 unfoldable pub has_note : List ℕ → Bool
 has_note kinds = ltb 0 (length (notes kinds))
 
--- the number of what is refused of a stretch, or 0: 9 where it is empty or ends past the chart, else 11 where it has no
--- note
-unfoldable pub stretch_refusal : List ℕ → ℕ → ℕ → ℕ
-stretch_refusal kinds a b = cond (leb b a || ltb (length kinds) b) 9 (cond (has_note (from_to a b kinds)) 0 11)
+-- what is refused of a stretch, if anything is: 9 where it is empty or ends past the chart, else 11 where it has no note
+unfoldable pub stretch_refusal : List ℕ → ℕ → ℕ → Option Reason
+stretch_refusal kinds a b =
+    cond (leb b a || ltb (length kinds) b) (Some OutOfRange) (cond (has_note (from_to a b kinds)) None (Some NoNotes))
 
 -- a stretch of which nothing is refused, of a chart with these kinds
 abbrev pub GoodStretch : List ℕ → ℕ → ℕ → Type 0
-GoodStretch kinds a b = stretch_refusal kinds a b ≡ 0
+GoodStretch kinds a b = stretch_refusal kinds a b ≡ None
 
 -- and what is refused of it comes after what is refused of the chart
 abbrev pub stretch_verdict : Verdict → List ℕ → ℕ → ℕ → Verdict

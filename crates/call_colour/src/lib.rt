@@ -4,12 +4,12 @@
 ghost use Rattle.std.specs.Prelude.{◌≡◌};
 ghost use Rattle.grouping_chart.specs.Settings.{base_settings};
 ghost use Rattle.grouping_chart.specs.Outcome.{outcome};
-ghost use Rattle.grouping_chart.specs.Chart.{chart};
+ghost use Rattle.grouping_chart.specs.Lent.{seen};
 ghost use Rattle.call_colour.specs.Call.{memory, filled, colour_outcome, stretch_outcome};
 ghost use Rattle.call_colour.specs.passes.Rooms.{ChartRoom};
 
-use grouping_chart::object::ObjectIndex;
-use grouping_chart::refusal::Verdict;
+use grouping_chart::chart::Chart;
+use grouping_chart::refusal::Refusal;
 use grouping_chart::room::judge;
 use grouping_chart::settings;
 use grouping_chart::settings::Settings;
@@ -19,18 +19,11 @@ use numeric::logistic::LogisticTable;
 
 pub mod stretches;
 
-// The values are filled, or the first refusal that applies and its place.
+// A stretch's mean, and its tenths to the nearest.
 #[derive(Clone, Copy)]
-pub enum Colouring {
-    Done,
-    Refused(u8, ObjectIndex),
-}
-
-// The mean and its tenths, or the first refusal that applies and its place.
-#[derive(Clone, Copy)]
-pub enum Stretching {
-    Done(f64, i64),
-    Refused(u8, ObjectIndex),
+pub struct StretchMean {
+    pub mean: f64,
+    pub tenths: i64,
 }
 
 // What both calls do with an accepted chart: encode, fill the values, and clear the work slices.
@@ -57,52 +50,57 @@ fn fill_chart(
     fill::front(scratch, n, 0.0);
 }
 
+// Fills the values.
 pub fn colour(
-    kind: &[u8],
-    start: &[f64],
-    delta: &[f64],
-    ratio: &[f64],
+    chart: Chart,
     value: &mut [f64],
     work: &mut [u16],
     scratch: &mut [f64],
-) -> Colouring
+) -> Result<(), Refusal>
     ensures { outcome result (memory value.new work.new scratch.new)
-        ≡ colour_outcome base_settings (chart kind.now start.now delta.now ratio.now)
-        (memory value.old work.old scratch.old) }
+        ≡ colour_outcome base_settings (seen chart.entry) (memory value.old work.old scratch.old) }
 {
-    let short = value.len() < kind.len();
-    match judge(kind, start, delta, ratio, short, work.len(), scratch.len()) {
-        Verdict::Refused(number, place) => Colouring::Refused(number, place),
-        Verdict::Accepted => {
-            fill_chart(kind, ratio, settings::base(), value, work, scratch);
-            Colouring::Done
-        }
-    }
+    let short = value.len() < chart.kind.len();
+    judge(chart, short, work.len(), scratch.len())?;
+    fill_chart(
+        chart.kind,
+        chart.ratio,
+        settings::base(),
+        value,
+        work,
+        scratch,
+    );
+    Ok(())
 }
 
+// The mean of the stretch that has object a and not object b.
 pub fn stretch(
-    kind: &[u8],
-    start: &[f64],
-    delta: &[f64],
-    ratio: &[f64],
+    chart: Chart,
     a: usize,
     b: usize,
     value: &mut [f64],
     work: &mut [u16],
     scratch: &mut [f64],
-) -> Stretching
+) -> Result<StretchMean, Refusal>
     ensures { outcome result (memory value.new work.new scratch.new)
-        ≡ stretch_outcome base_settings (chart kind.now start.now delta.now ratio.now) a b
-        (memory value.old work.old scratch.old) }
+        ≡ stretch_outcome base_settings (seen chart.entry) a b (memory value.old work.old scratch.old) }
 {
-    let short = value.len() < kind.len();
-    let verdict = judge(kind, start, delta, ratio, short, work.len(), scratch.len());
-    match stretches::stretch_verdict(verdict, kind, a, b) {
-        Verdict::Refused(number, place) => Stretching::Refused(number, place),
-        Verdict::Accepted => {
-            fill_chart(kind, ratio, settings::base(), value, work, scratch);
-            let mean = stretches::mean(kind, value, a, b);
-            Stretching::Done(mean, numeric::tenths::tenths(mean))
-        }
+    let short = value.len() < chart.kind.len();
+    judge(chart, short, work.len(), scratch.len())?;
+    if let Some(reason) = stretches::stretch_refusal(chart.kind, a, b) {
+        return Err(Refusal::from(reason));
     }
+    fill_chart(
+        chart.kind,
+        chart.ratio,
+        settings::base(),
+        value,
+        work,
+        scratch,
+    );
+    let mean = stretches::mean(chart.kind, value, a, b);
+    Ok(StretchMean {
+        mean,
+        tenths: numeric::tenths::tenths(mean),
+    })
 }

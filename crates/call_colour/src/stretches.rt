@@ -1,60 +1,35 @@
-// What is refused of a stretch, the verdict on it, and its mean.
+// What is refused of a stretch, and its mean.
 ghost use Rattle.std.specs.Prelude.{◌≡◌, cond, ◌≤◌};
 ghost use Rattle.numeric.specs.Constants.{minus_zero64};
 ghost use Rattle.grouping_chart.specs.Object.{is_note};
 ghost use Rattle.grouping_interval.specs.Notes.{of_notes};
-ghost use Rattle.call_colour.specs.Stretch.{from_to, has_note, stretch_refusal, stretch_verdict, average_of};
+ghost use Rattle.call_colour.specs.Stretch.{from_to, has_note, stretch_refusal, average_of};
 ghost use Rattle.call_colour.specs.passes.Rooms.{AverageRoom, StretchRoom};
 
-use grouping_chart::object::{ObjectIndex, is_note};
-use grouping_chart::refusal::Verdict;
+use grouping_chart::object::is_note;
+use grouping_chart::refusal::Reason;
 
 // Whether one of the objects is a note. The first that is one ends the search.
 fn has_note(kind: &[u8]) -> bool
     ensures { result ≡ has_note kind.now }
 {
-    let mut i = 0;
-    while i < kind.len() {
-        if is_note(kind[i]) {
-            return true;
-        }
-        i += 1;
-    }
-    false
+    kind.iter().any(|k| is_note(*k))
 }
 
-// The number of what is refused of a stretch, or 0: 9 where a is not below b or b is above n, else 11 where it has no
-// note.
-fn stretch_refusal(kind: &[u8], a: usize, b: usize) -> u8
+// What is refused of a stretch, if anything is: one where a is not below b or b is above n, then one that has no note.
+pub fn stretch_refusal(kind: &[u8], a: usize, b: usize) -> Option<Reason>
     ensures { result ≡ stretch_refusal kind.now a b }
 {
-    let n = kind.len();
     if b <= a {
-        return 9;
+        return Some(Reason::OutOfRange);
     }
-    if n < b {
-        return 9;
+    if kind.len() < b {
+        return Some(Reason::OutOfRange);
     }
-    if has_note(&kind[a..b]) {
-        return 0;
+    if !has_note(&kind[a..b]) {
+        return Some(Reason::NoNotes);
     }
-    11
-}
-
-// The verdict on a stretch: the chart's own refusal, else the stretch's.
-pub fn stretch_verdict(verdict: Verdict, kind: &[u8], a: usize, b: usize) -> Verdict
-    ensures { result ≡ stretch_verdict verdict kind.now a b }
-{
-    match verdict {
-        Verdict::Refused(number, place) => Verdict::Refused(number, place),
-        Verdict::Accepted => {
-            let number = stretch_refusal(kind, a, b);
-            if number == 0 {
-                return Verdict::Accepted;
-            }
-            Verdict::Refused(number, ObjectIndex(0))
-        }
-    }
+    None
 }
 
 // What an object adds to a sum: a note its value, a NonHit -0.0, which changes no sum. It is read by its kind's place,
@@ -74,12 +49,9 @@ fn average(kind: &[u8], value: &[f64]) -> f64
 {
     let mut sum: f64 = 0.0;
     let mut notes = 0;
-    let mut i = 0;
-    while i < kind.len() {
-        let k = kind[i];
-        sum = sum + addend(k, value[i]);
-        notes += is_note(k) as usize;
-        i += 1;
+    for (i, k) in kind.iter().enumerate() {
+        sum += addend(*k, value[i]);
+        notes += usize::from(is_note(*k));
     }
     sum / (notes as f64)
 }
