@@ -1,9 +1,9 @@
 -- What the call that is asked hands back on the lent slices is what its definition gives on slices full of sentinels;
 -- and each of its parts is held to the case.
-use mathlib.Core.Path.{◌≡◌, ap, ◌∙◌}
+use mathlib.Core.Path.{◌≡◌, refl, ap, ◌∙◌}
 use mathlib.Core.List.{List}
-use Rattle.std.specs.Prelude.{Some}
-use mathlib.Core.Bool.{Bool, false}
+use Rattle.std.specs.Prelude.{Some, Result, Ok, Err, is_ok}
+use mathlib.Core.Bool.{Bool}
 use Prim.Native.Nat.{ℕ, ◌+◌, ◌-◌, ◌*◌}
 use lib.ListN.{take, drop, replicate}
 use lib.Ieee.{Float, binary64, of_bits}
@@ -13,11 +13,9 @@ use Rattle.lent.proofs.NeverLaws.{never}
 use Rattle.grouping_chart.specs.Chart.{Chart, largest}
 use Rattle.grouping_chart.specs.Outcome.{Outcome}
 use Rattle.grouping_chart.specs.Settings.{base_settings}
-use Rattle.grouping_chart.specs.declared.object.ObjectIndex.{ObjectIndex}
+use Rattle.grouping_chart.specs.declared.refusal.Refusal.{Refusal}
 use Rattle.call_colour.specs.Call.{Memory, colour_outcome, stretch_outcome}
-use Rattle.call_colour.specs.declared.Colouring.{Colouring}
-use Rattle.call_colour.specs.declared.Colouring.TheVariants as colouring
-use Rattle.call_colour.specs.declared.Stretching.{Stretching}
+use Rattle.call_colour.specs.declared.StretchMean.{StretchMean}
 use Rattle.vectors.specs.Held.{Tells}
 use Rattle.vectors.specs.Table.{entries}
 use Rattle.vectors.specs.declared.call.Call.TheVariants.{Colour as ColourCall, Stretch}
@@ -25,7 +23,7 @@ use Rattle.vectors.specs.declared.case.Head.{Head}
 use Rattle.vectors.specs.Sentinel.{number_sentinel, float_sentinel}
 use Rattle.vectors.specs.passes.Room.{most_places, most_work, Few}
 use Rattle.vectors.proofs.TableLaws.{entries_front}
-use Rattle.vectors.proofs.TellsLaws.{denied, tells_of}
+use Rattle.vectors.proofs.TellsLaws.{denied, granted, tells_of}
 use Rattle.vectors.proofs.SentinelLaws.{code_one, ones_lent, work-lent, floats-lent}
 use Rattle.cases_colour.specs.Colour.{colour_chart, colour_lent, MeanIs, Answers, leaves, CallStored}
 use Rattle.cases_colour.specs.Colour.{ColourForm, ColourHolds, StretchHolds}
@@ -36,23 +34,24 @@ use Rattle.cases_colour.specs.declared.Asked.TheVariants as asked
 
 -- ---- the answer of either call
 
-pub colour-refused : (answer : Colouring) (number : ℕ) (place : ObjectIndex) → answer ≡ colouring.Refused number place → Tells false (answer ≡ colouring.Done)
-colour-refused answer number place e = denied (λ h. never (cc))
+pub colour-told : {r : Bool} (answer : Result (Unit {0}) Refusal) → r ≡ is_ok answer → Tells r (answer ≡ Ok tt)
+colour-told (Ok done) e = rw e (granted refl)
+colour-told (Err first) e = rw e (denied (λ h. never (cc)))
 
 module _ {call : Asked} {c : Chart} {m : Memory} {r : Bool} where
-  pub colour-answered : {o : Outcome Colouring Memory} → call ≡ asked.Colour → o ≡ colour_outcome base_settings c m
-      → Tells r (o.answer ≡ colouring.Done) → CallTold call c m o.memory r
+  pub colour-answered : {o : Outcome (Result (Unit {0}) Refusal) Memory} → call ≡ asked.Colour → o ≡ colour_outcome base_settings c m
+      → Tells r (o.answer ≡ Ok tt) → CallTold call c m o.memory r
   unfolding Answers leaves
   colour-answered a e t =
-      let told = tells_of (λ (x : Outcome Colouring Memory). x.answer ≡ colouring.Done) e t in
-      rw a (record { told = told; memory = ap (λ (x : Outcome Colouring Memory). x.memory) e })
+      let told = tells_of (λ (x : Outcome (Result (Unit {0}) Refusal) Memory). x.answer ≡ Ok tt) e t in
+      rw a (record { told = told; memory = ap (λ (x : Outcome (Result (Unit {0}) Refusal) Memory). x.memory) e })
 
-  pub stretch-answered : {o : Outcome Stretching Memory} (s : StoredStretch) → call ≡ asked.Stretched s
+  pub stretch-answered : {o : Outcome (Result StretchMean Refusal) Memory} (s : StoredStretch) → call ≡ asked.Stretched s
       → o ≡ stretch_outcome base_settings c s.a s.b m → Tells r (MeanIs s o.answer) → CallTold call c m o.memory r
   unfolding Answers leaves
   stretch-answered s a e t =
-      let told = tells_of (λ (x : Outcome Stretching Memory). MeanIs s x.answer) e t in
-      rw a (record { told = told; memory = ap (λ (x : Outcome Stretching Memory). x.memory) e })
+      let told = tells_of (λ (x : Outcome (Result StretchMean Refusal) Memory). MeanIs s x.answer) e t in
+      rw a (record { told = told; memory = ap (λ (x : Outcome (Result StretchMean Refusal) Memory). x.memory) e })
 
 -- ---- the chart and the slices, as fronts of what the code makes
 

@@ -1,16 +1,16 @@
 -- When a stored case of colour, or of a stretch of its chart, holds: on the chart that its bytes say and slices
 -- full of sentinels the call's definition gives the original's answer.
 use Rattle.std.specs.Prelude.{◌≡◌, cond, List, map, ℕ, ◌+◌, ◌-◌, ◌*◌, ltb, ℤ, pos, neg_ℤ, length, replicate}
+use Rattle.std.specs.Prelude.{Result, Ok, Err}
 use Rattle.std.specs.Float.{binary64}
 use Rattle.std.specs.Float.Ieee.{to_bits}
 use Rattle.lent.specs.Over.{part}
 use Rattle.numeric.specs.Constants.{one64}
 use Rattle.grouping_chart.specs.Chart.{Chart}
+use Rattle.grouping_chart.specs.declared.refusal.Refusal.{Refusal}
 use Rattle.grouping_chart.specs.Settings.{base_settings}
 use Rattle.call_colour.specs.Call.{Memory, colour_outcome, stretch_outcome}
-use Rattle.call_colour.specs.declared.Colouring.TheVariants as colouring
-use Rattle.call_colour.specs.declared.Stretching.{Stretching}
-use Rattle.call_colour.specs.declared.Stretching.TheVariants as stretching
+use Rattle.call_colour.specs.declared.StretchMean.{StretchMean}
 use Rattle.vectors.specs.Case.{pair_at, quad_at, word_at, column_size, words}
 use Rattle.vectors.specs.Held.{FrontHeld}
 use Rattle.vectors.specs.Table.{entries}
@@ -46,13 +46,13 @@ stretch_of stored =
 -- ---- what is compared
 
 -- the mean by its bits, and the tenths
-unfoldable pub MeanIs : StoredStretch → Stretching → Type 0
-MeanIs s (stretching.Done mean tenths) = (to_bits binary64 mean ≡ s.mean) × (tenths ≡ signed_of s.tenths)
-MeanIs s (stretching.Refused number place) = ⊥
+unfoldable pub MeanIs : StoredStretch → Result StretchMean Refusal → Type 0
+MeanIs s (Ok found) = (to_bits binary64 found.mean ≡ s.mean) × (found.tenths ≡ signed_of s.tenths)
+MeanIs s (Err first) = ⊥
 
 -- the call that is asked accepts the chart, and answers as the original did
 unfoldable pub Answers : Asked → Chart → Memory → Type 0
-Answers asked.Colour c m = (colour_outcome base_settings c m).answer ≡ colouring.Done
+Answers asked.Colour c m = (colour_outcome base_settings c m).answer ≡ Ok tt
 Answers (asked.Stretched s) c m = MeanIs s (stretch_outcome base_settings c s.a s.b m).answer
 
 -- the slices after it

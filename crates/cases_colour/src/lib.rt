@@ -1,17 +1,18 @@
 // A stored case of colour, and of a stretch of its chart.
 #![tactic(auto)]
 
-ghost use Rattle.std.specs.Prelude.{◌≡◌, ◌+◌, ◌≤◌, length};
-ghost use Rattle.grouping_chart.specs.Chart.{chart};
+ghost use Rattle.std.specs.Prelude.{◌≡◌, ◌+◌, ◌≤◌, length, Ok};
+ghost use Rattle.grouping_chart.specs.Lent.{seen};
 ghost use Rattle.call_colour.specs.Call.{memory};
-ghost use Rattle.call_colour.specs.declared.Colouring.TheVariants as colouring;
 ghost use Rattle.vectors.specs.Case.{column_size};
 ghost use Rattle.vectors.specs.Held.{Tells};
 ghost use Rattle.cases_colour.specs.Colour.{colour_chart, colour_lent, signed_of, stretch_of, MeanIs};
 ghost use Rattle.cases_colour.specs.Colour.{ValuesHeld, CallStored, ColourForm, ColourHolds, StretchHolds};
 ghost use Rattle.cases_colour.specs.passes.Told.{CallTold};
 
-use call_colour::{Colouring, Stretching};
+use call_colour::StretchMean;
+use grouping_chart::chart::Chart;
+use grouping_chart::refusal::Refusal;
 use numeric::canonical::bits;
 use vectors::call::Call;
 use vectors::case::Head;
@@ -57,49 +58,32 @@ fn read_stretch(part: &[u8]) -> StoredStretch
     }
 }
 
-// Whether the chart is accepted.
-fn done(answer: Colouring) -> bool
-    ensures { Tells result (answer ≡ colouring.Done) }
-{
-    match answer {
-        Colouring::Done => true,
-        Colouring::Refused(_, _) => false,
-    }
-}
-
 // Whether the stretch is accepted, with the mean and the tenths that are stored.
-fn mean_holds(s: StoredStretch, answer: Stretching) -> bool
+fn mean_holds(s: StoredStretch, answer: Result<StretchMean, Refusal>) -> bool
     ensures { Tells result (MeanIs s answer) }
 {
     match answer {
-        Stretching::Done(mean, tenths) => {
-            if tenths == signed(s.tenths) {
-                return bits(mean) == s.mean;
-            }
-            false
-        }
-        Stretching::Refused(_, _) => false,
+        Ok(found) => found.tenths == signed(s.tenths) && bits(found.mean) == s.mean,
+        Err(_) => false,
     }
 }
 
 // Whether the call that is asked answers as the original did.
 fn answer_holds(
     asked: Asked,
-    kind: &[u8],
-    one: &[f64],
-    ratio: &[f64],
+    chart: Chart,
     value: &mut [f64],
     work: &mut [u16],
     scratch: &mut [f64],
 ) -> bool
-    ensures { CallTold asked (chart kind.now one.now one.now ratio.now)
+    ensures { CallTold asked (seen chart.entry)
         (memory value.old work.old scratch.old) (memory value.new work.new scratch.new) result }
 {
     match asked {
-        Asked::Colour => done(call_colour::colour(kind, one, one, ratio, value, work, scratch)),
+        Asked::Colour => call_colour::colour(chart, value, work, scratch).is_ok(),
         Asked::Stretched(s) => mean_holds(
             s,
-            call_colour::stretch(kind, one, one, ratio, s.a, s.b, value, work, scratch),
+            call_colour::stretch(chart, s.a, s.b, value, work, scratch),
         ),
     }
 }
@@ -119,17 +103,15 @@ fn lent_holds(
     asked: Asked,
     room: Room,
     body: &[u8],
-    kind: &[u8],
-    one: &[f64],
-    ratio: &[f64],
+    chart: Chart,
     value: &mut [f64],
     work: &mut [u16],
     scratch: &mut [f64],
 ) -> bool
     ensures { let n = room.head.objects in Tells result (CallStored asked (column_size n room.head.width) n body.now
-        (chart kind.now one.now one.now ratio.now) (memory value.old work.old scratch.old)) }
+        (seen chart.entry) (memory value.old work.old scratch.old)) }
 {
-    answer_holds(asked, kind, one, ratio, value, work, scratch)
+    answer_holds(asked, chart, value, work, scratch)
         && values_hold(room, body, value, work, scratch)
 }
 
@@ -145,13 +127,18 @@ fn call_holds(asked: Asked, room: Room, body: &[u8]) -> bool
     let table = 2 + n + room.column_size() + 8 * n;
     let mut ratios = [0.0; MOST_OBJECTS];
     vectors::table::read(body, table, 2 + n, room.head.width, n, &mut ratios);
+    let ones = [1.0; MOST_OBJECTS];
+    let chart = Chart {
+        kind: &body[2..2 + n],
+        start: &ones[..n],
+        delta: &ones[..n],
+        ratio: &ratios[..n],
+    };
     lent_holds(
         asked,
         room,
         body,
-        &body[2..2 + n],
-        &[1.0; MOST_OBJECTS][..n],
-        &ratios[..n],
+        chart,
         &mut [FLOAT_SENTINEL; MOST_PLACES][..places],
         &mut [NUMBER_SENTINEL; MOST_WORK][..8 * n + room.spare],
         &mut [FLOAT_SENTINEL; MOST_PLACES][..places],

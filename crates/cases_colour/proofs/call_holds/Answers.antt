@@ -4,8 +4,8 @@ use Rattle.vectors.proofs.SentinelLaws.{front_counts}
 use Rattle.cases_colour.proofs.ColourLaws.{made_told}
 use Rattle.cases_colour.proofs.call_holds.Goals as goal
 
-pub slice_bounds-lent_holds-end-7 : goal.slice_bounds-lent_holds-end-7
-slice_bounds-lent_holds-end-7 c = front_counts _ _ (omega arith)
+pub slice_bounds-lent_holds-end-4 : goal.slice_bounds-lent_holds-end-4
+slice_bounds-lent_holds-end-4 c = front_counts _ _ (omega arith)
 
 pub returns : goal.returns
 returns c =
