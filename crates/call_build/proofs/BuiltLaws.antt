@@ -1,46 +1,52 @@
--- The ratios that are made of the deltas, place by place; of the built deltas they are the built ratios.
-use mathlib.Core.Path.{◌≡◌, refl, sym, ◌∙◌}
-use mathlib.Core.List.{List}
-use Prim.Native.Nat.{ℕ, zero, suc, ◌-◌, ◌≤◌, ◌<◌}
+-- The ratios that are made of the deltas, the first before the others; of the built deltas they are the built ratios.
+use mathlib.Core.Path.{◌≡◌, refl, sym, ap, ◌∙◌}
+use mathlib.Core.List.{List, [], ◌∷◌, append-nil}
+use Prim.Native.Nat.{ℕ, zero, suc, ◌+◌, ◌-◌, ◌≤◌, ◌<◌}
+use native.Mathlib.Numerals.{add-one}
 use native.Mathlib.Omega.{arith}
-use lib.ListN.{length, get_or, set, length-set}
-use lib.Seq.{get_or-set_same}
+use borrow.Rule.Slice.PartMut.{mid_of, put_mid}
+use lib.ListN.{length, drop, get_or, set, drop_of_length-le}
+use lib.Seq.{take_all}
 use lib.Ieee.{Float, nan, binary64, div}
 use Rattle.lent.specs.Over.{over}
 use Rattle.lent.proofs.OverLaws.{drop-over}
-use Rattle.lent.proofs.FillLaws.{Fill, fill_from, length-tabulate, get_or-tabulate, tabulate-agree}
+use Rattle.lent.specs.Scan.{tabulate}
+use Rattle.lent.proofs.FillLaws.{length-tabulate, get_or-tabulate, tabulate-agree}
 use Rattle.numeric.specs.Constants.{one64}
 use Rattle.call_build.specs.Ratio.{nearest_ratio}
 use Rattle.call_build.specs.Build.{Raw, delta_at, ratio_at, built_deltas, built_ratios}
 use Rattle.call_build.specs.passes.Ratios.{ratio_from, ratios_from}
 
-module _ (deltas : List Float) where
-  pub length-ratios : length (ratios_from deltas) ≡ length deltas
-  length-ratios = length-tabulate (ratio_from deltas) (length deltas)
+pub length-ratios : (deltas : List Float) → length (ratios_from deltas) ≡ length deltas
+length-ratios deltas = length-tabulate (ratio_from deltas) (length deltas)
 
-  pub first_ratio_lem : 0 < length deltas → get_or (ratios_from deltas) 0 nan ≡ one64
-  unfolding ratio_from
-  first_ratio_lem h = get_or-tabulate (ratio_from deltas) (length deltas) 0 nan h
+-- the ratio of the object after object i
+abbrev pub ratio_after : List Float → ℕ → Float
+ratio_after deltas i = nearest_ratio (div binary64 (get_or deltas (i + 1) nan) (get_or deltas i nan))
 
-  before : (i : ℕ) → suc i - 1 ≡ i
-  before i = omega arith
+-- the first ratio is stored before those of the objects after it
+ratios-parted : (deltas : List Float) (n : ℕ) → tabulate (ratio_from deltas) (suc n) ≡ one64 ∷ tabulate (ratio_after deltas) n
+unfolding tabulate ratio_from
+ratios-parted deltas zero = refl
+ratios-parted deltas (suc n) = rw (ratios-parted deltas n, add-one n) refl
 
-  later : (i : ℕ) → 0 < i → ratio_from deltas i ≡ nearest_ratio (div binary64 (get_or deltas i nan) (get_or deltas (i - 1) nan))
-  unfolding ratio_from
-  later zero h = absurd (omega arith)
-  later (suc i) h = rw (before i) refl
+-- the later elements are written over all that stands behind the first
+over_first : (first : Float) (later old : List Float) (k : ℕ) → 0 < length old → k ≡ length (set old 0 first) - 1
+    → put_mid 1 k (set old 0 first) (over later (mid_of 1 k (set old 0 first))) ≡ over (first ∷ later) old
+unfolding over
+over_first first later [] k h e = absurd (omega arith)
+over_first first later (x ∷ old) k h e =
+    let past : drop k old ≡ [] = drop_of_length-le old (omega arith) in
+    rw (take_all k old (omega arith), past, append-nil) refl
 
-  pub later-ratio : (i : ℕ) → 0 < i → i < length deltas
-      → get_or (ratios_from deltas) i nan ≡ nearest_ratio (div binary64 (get_or deltas i nan) (get_or deltas (i - 1) nan))
-  later-ratio i p h = get_or-tabulate (ratio_from deltas) (length deltas) i nan h ∙ later i p
-
--- the first ratio is stored before the others
-pub first_stored : (deltas old : List Float) → 0 < length deltas → length deltas ≤ length old
-    → Fill (ratios_from deltas) (length deltas) 0 (set old 0 one64) (set old 0 one64) 1
-first_stored deltas old h r =
-    fill_from (ratios_from deltas) (length deltas) 0 (set old 0 one64) 1 nan (length-ratios deltas)
-    (omega (arith, length-set old 0 one64)) h
-    (λ j l. let e : j ≡ 0 = omega arith in rw (e) (first_ratio_lem deltas h ∙ sym (get_or-set_same old 0 one64 nan (omega arith))))
+pub ratios_stored : (deltas old : List Float) {new : List Float} → 0 < length deltas → length deltas ≤ length old
+    → let k : ℕ = length (set old 0 one64) - 1 in
+    new ≡ over (tabulate (ratio_after deltas) (length deltas - 1)) (mid_of 1 k (set old 0 one64)) → put_mid 1 k (set old 0 one64) new ≡ over (ratios_from deltas) old
+ratios_stored deltas old h r e =
+    let n = length deltas - 1 in
+    let whole : length deltas ≡ suc n = omega arith in
+    let parted : ratios_from deltas ≡ one64 ∷ tabulate (ratio_after deltas) n = ap (tabulate (ratio_from deltas)) whole ∙ ratios-parted deltas n in
+    rw (e, parted) (over_first one64 _ old _ (omega arith) refl)
 
 pub none_built : (deltas old : List Float) → length deltas ≡ 0 → old ≡ over (ratios_from deltas) old
 none_built deltas old e = sym (drop-over (ratios_from deltas) old 0 (omega (arith, length-ratios deltas)))

@@ -6,21 +6,19 @@ use Prim.Native.Nat.{ℕ, ◌≤◌}
 use native.Mathlib.Omega.{arith}
 use lib.ListN.{length, take, drop}
 use lib.Ieee.{Float}
+use Rattle.std.specs.Prelude.{Option, None, Ok}
 use Rattle.lent.specs.Over.{over}
 use Rattle.lent.proofs.OverLaws.{front}
 use Rattle.lent.proofs.FillLaws.{length-tabulate}
 use Rattle.grouping_chart.specs.Outcome.{outcome}
-use Rattle.grouping_chart.specs.Refusal.{verdict}
+use Rattle.grouping_chart.specs.Refusal.{Verdict, accepted, verdict}
 use Rattle.grouping_chart.specs.Room.{any_short}
-use Rattle.grouping_chart.specs.declared.refusal.Verdict.{Verdict}
-use Rattle.grouping_chart.specs.declared.refusal.Verdict.TheVariants.{Accepted}
+use Rattle.grouping_chart.specs.declared.refusal.Reason.{Reason}
 use Rattle.grouping_chart.proofs.RefusalLaws.{all_equal, verdict-objects}
 use Rattle.grouping_chart.proofs.RoomLaws.{all_long}
 use Rattle.grouping_chart.proofs.OutcomeLaws.{answered-done}
 use Rattle.call_build.specs.Build.{Raw, delta_at, built_size, built_starts, built_deltas, built_chart}
 use Rattle.call_build.specs.Call.{Memory, answer_lengths, verdict_of, judged, filled, chart_in, build_outcome}
-use Rattle.call_build.specs.declared.Building.TheVariants.{Done}
-use Rattle.call_build.specs.declared.Building.TheVariants as answer
 use Rattle.call_build.specs.passes.Ratios.{ratios_from}
 use Rattle.call_build.specs.passes.Room.{BuildRoom}
 use Rattle.call_build.proofs.BuiltLaws.{ratios_of_built}
@@ -34,7 +32,7 @@ judged-told rate r m size e f g = rw (size, ← e) (sym f ∙ g)
 
 module _ (rate : Float) (r : Raw) (m : Memory) {n : ℕ} (size : built_size r ≡ n) where
   -- an accepted call has room
-  pub build_room : judged rate r m ≡ Accepted → BuildRoom r n m
+  pub build_room : judged rate r m ≡ accepted → BuildRoom r n m
   build_room h =
       let p = all_passed rate r _ h in
       let l = all_long (built_size r) (answer_lengths m) p.long in
@@ -63,15 +61,15 @@ module _ (rate : Float) (r : Raw) (m : Memory) {n : ℕ} (size : built_size r �
       front (built_deltas rate r.times n) m.delta n (length-tabulate (delta_at rate r.times) n) in
       rw (a, b, c, rw (c, deltas, ratios_of_built rate r n) at d, size) refl
 
-  pub build-done : {new : Memory} → judged rate r m ≡ Accepted → new ≡ filled (built_chart rate r) m → outcome (Done n) new ≡ build_outcome rate r m
+  pub build-done : {new : Memory} → judged rate r m ≡ accepted → new ≡ filled (built_chart rate r) m → outcome (Ok n) new ≡ build_outcome rate r m
   unfolding build_outcome
-  build-done h e = rw (← size) (answered-done _ answer.Refused m h (λ t. outcome (Done (built_size r)) (e t)))
+  build-done h e = rw (← size) (answered-done _ _ m h (λ t. outcome (Ok (built_size r)) (e t)))
 
 -- ---- what an accepted call wrote
 
-module _ (rate : Float) (r : Raw) (m : Memory) (accepted : judged rate r m ≡ Accepted) where
+module _ (rate : Float) (r : Raw) (m : Memory) (passed : judged rate r m ≡ accepted) where
   left : (build_outcome rate r m).memory ≡ filled (built_chart rate r) m
-  left = rw (← build-done rate r m refl accepted refl)
+  left = rw (← build-done rate r m refl passed refl)
 
   -- its first n places are the built chart
   pub built-written : chart_in (built_size r) (build_outcome rate r m).memory ≡ built_chart rate r
@@ -90,8 +88,8 @@ module _ (rate : Float) (r : Raw) (m : Memory) (accepted : judged rate r m ≡ A
       ) refl
 
   -- every other call accepts it, where nothing is refused beside it
-  pub built-accepted : (refusal : ℕ) → refusal ≡ 0 → verdict (chart_in (built_size r) (build_outcome rate r m).memory) refusal ≡ Accepted
-  built-accepted refusal e =
-      let p = all_passed rate r _ accepted in
+  pub built-accepted : (beside : Option Reason) → beside ≡ None → verdict (chart_in (built_size r) (build_outcome rate r m).memory) beside ≡ accepted
+  built-accepted beside e =
+      let p = all_passed rate r _ passed in
       rw built-written
-      (verdict-objects (built_chart rate r) refusal (omega (arith, p.few, built-size rate r)) (sym (all_equal _ (built-lengths rate r))) e ∙ p.objects)
+      (verdict-objects (built_chart rate r) beside (omega (arith, p.few, built-size rate r)) (sym (all_equal _ (built-lengths rate r))) e ∙ p.objects)

@@ -8,11 +8,12 @@ use native.Mathlib.Omega.{arith}
 use lib.ListN.{length, take, drop, get_or, length-drop}
 use lib.Seq.{get_or-drop, drop-nil, take_all}
 use lib.Ieee.{Float, nan, le}
+use Rattle.std.specs.Prelude.{Option}
 use Rattle.lent.proofs.FillLaws.{length-tabulate, get_or-tabulate}
 use Rattle.numeric.specs.Constants.{one64}
 use Rattle.grouping_chart.specs.Chart.{size}
-use Rattle.grouping_chart.specs.Refusal.{kind_good, time_good, ratio_good, object_refusal, objects_verdict}
-use Rattle.grouping_chart.specs.declared.refusal.Verdict.TheVariants.{Accepted}
+use Rattle.grouping_chart.specs.Refusal.{kind_good, time_good, ratio_good, accepted, object_refusal, objects_verdict}
+use Rattle.grouping_chart.specs.declared.refusal.Reason.{Reason}
 use Rattle.grouping_chart.specs.passes.Good.{SameLengths, all, all_good}
 use Rattle.grouping_chart.proofs.RangeLaws.{good_ratio}
 use Rattle.grouping_chart.proofs.RefusalLaws.{refusal_ratio}
@@ -67,25 +68,25 @@ module _ (rate : Float) (r : Raw) where
   -- where kinds, starts and deltas are good, no object is refused
   good_lists : all kind_good (drop 2 r.kinds) ≡ true → all time_good (built_starts rate r.times (built_size r)) ≡ true
       → all time_good (built_deltas rate r.times (built_size r)) ≡ true → all ratio_good (built_chart rate r).ratios ≡ true
-      → all_good (built_chart rate r).kinds (built_chart rate r).starts (built_chart rate r).deltas (built_chart rate r).ratios ≡ true
+      → all_good (built_chart rate r) ≡ true
   unfolding built_chart
-  good_lists a b c d = lists_good _ _ _ _ a b c d
+  good_lists a b c d = lists_good _ a b c d
 
   pub good_built : {n : ℕ} {k s d : Bool} → built_size r ≡ n → k ≡ all kind_good (drop 2 r.kinds) → s ≡ all time_good (built_starts rate r.times n)
-      → d ≡ all time_good (built_deltas rate r.times n) → (k && (s && d)) ≡ true → Accepted ≡ objects_verdict (built_chart rate r)
+      → d ≡ all time_good (built_deltas rate r.times n) → (k && (s && d)) ≡ true → accepted ≡ objects_verdict (built_chart rate r)
   good_built size e f g t =
       let k = both_true _ _ t in
       let s = both_true _ _ k.1 in
-      all_good_accepted _ _ _ _ built-lengths
+      all_good_accepted _ built-lengths
       (good_lists (sym e ∙ k.0) (rw size (sym f ∙ s.0)) (rw size (sym g ∙ s.1)) all_ratios_good)
 
-  -- the number of object i, as it is found with the raw object's kind, and with 1.0 for the ratio
-  pub number_found : (i : ℕ) {v : ℕ} {s d : Float} → i < built_size r → s ≡ start_at rate r.times i → d ≡ delta_at rate r.times i
+  -- why object i is refused, as it is found with the raw object's kind, and with 1.0 for the ratio
+  pub reason_found : (i : ℕ) {v : Option Reason} {s d : Float} → i < built_size r → s ≡ start_at rate r.times i → d ≡ delta_at rate r.times i
       → v ≡ object_refusal (get_or r.kinds (i + 2) 0) s d one64
       → v ≡ object_refusal (get_or (built_chart rate r).kinds i 0) (get_or (built_chart rate r).starts i nan) (get_or (built_chart rate r).deltas i nan)
       (get_or (built_chart rate r).ratios i nan)
   unfolding built_chart
-  number_found i h e f g =
+  reason_found i h e f g =
       let kind : get_or (drop 2 r.kinds) i 0 ≡ get_or r.kinds (i + 2) 0 = get_or-drop 2 r.kinds i 0 ∙ rw (add_comm 2 i) in
       rw (kind, get_or-tabulate (start_at rate r.times) (built_size r) i nan h, get_or-tabulate (delta_at rate r.times) (built_size r) i nan h)
       (rw (e, f) at g ∙ refusal_ratio _ _ _ one64 _ one_good (ratios_good i h))

@@ -6,5 +6,4 @@ pub mod CallLaws
 pub mod ChartLaws
 mod BuiltLaws
 mod CandidateLaws
-mod TestedLaws
 mod Examples

@@ -1,17 +1,17 @@
 -- The call build (change requests: 1/12): what it answers, and what every lent slice holds afterwards.
 use Rattle.std.specs.Prelude.{ℕ, Bool, false, cond, List, [], ◌∷◌, eqb, ltb, pos, negsuc, length, take, Float}
+use Rattle.std.specs.Prelude.{Option, Some, None, Result}
 use Rattle.std.specs.Float.{fin}
 use Rattle.lent.specs.Over.{over}
 use Rattle.numeric.specs.Range.{within}
 use Rattle.grouping_chart.specs.Chart.{Chart}
-use Rattle.grouping_chart.specs.Refusal.{in_order, objects_verdict}
+use Rattle.grouping_chart.specs.Refusal.{Verdict, in_order, objects_verdict}
 use Rattle.grouping_chart.specs.Room.{any_short}
-use Rattle.grouping_chart.specs.Outcome.{Outcome, outcome, answered}
-use Rattle.grouping_chart.specs.declared.refusal.Verdict.{Verdict}
+use Rattle.grouping_chart.specs.Outcome.{Outcome, answered}
+use Rattle.grouping_chart.specs.declared.refusal.Reason.{Reason}
+use Rattle.grouping_chart.specs.declared.refusal.Reason.TheVariants.{ShortSlice, BadRate}
+use Rattle.grouping_chart.specs.declared.refusal.Refusal.{Refusal}
 use Rattle.call_build.specs.Build.{Raw, built_size, built_chart}
-use Rattle.call_build.specs.declared.Building.{Building}
-use Rattle.call_build.specs.declared.Building.TheVariants.{Done}
-use Rattle.call_build.specs.declared.Building.TheVariants as answer
 
 -- the slices that are lent to be written, all of them answers
 pub record Memory : Type 0 where
@@ -37,9 +37,9 @@ largest_raw = 16386
 unfoldable pub rate_good : Float → Bool
 rate_good rate = within (fin false 1 (negsuc 1)) (fin false 1 (pos 2)) rate
 
--- the number of what is refused beside the objects, or 0: an answer slice that is too short for them, then the rate
-unfoldable pub beside_refusal : Bool → Float → ℕ
-beside_refusal short rate = cond short 3 (cond (rate_good rate) 0 10)
+-- what is refused beside the objects, if anything is: an answer slice that is too short for them, then the rate
+unfoldable pub beside_refusal : Bool → Float → Option Reason
+beside_refusal short rate = cond short (Some ShortSlice) (cond (rate_good rate) None (Some BadRate))
 
 -- the verdict on a call, where `short` says that an answer slice is too short: the tests of every call, in their order
 unfoldable pub verdict_of : Float → Raw → Bool → Verdict
@@ -68,6 +68,6 @@ chart_in n m = record {
   ratios = take n m.ratio;
 }
 
-unfoldable pub build_outcome : Float → Raw → Memory → Outcome Building Memory
-build_outcome rate r m =
-    answered (judged rate r m) (outcome (Done (built_size r)) (filled (built_chart rate r) m)) answer.Refused m
+-- the answer is how many objects are built
+unfoldable pub build_outcome : Float → Raw → Memory → Outcome (Result ℕ Refusal) Memory
+build_outcome rate r m = answered (judged rate r m) (built_size r) (filled (built_chart rate r) m) m

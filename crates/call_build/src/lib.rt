@@ -3,36 +3,35 @@
 
 ghost use Rattle.std.specs.Prelude.{◌≡◌, ◌-◌, length};
 ghost use Rattle.grouping_chart.specs.Outcome.{outcome};
-ghost use Rattle.call_build.specs.Build.{raw, built_chart};
+ghost use Rattle.call_build.specs.Build.{built_chart};
 ghost use Rattle.call_build.specs.Call.{memory, filled, build_outcome};
+ghost use Rattle.call_build.specs.Lent.{seen};
 ghost use Rattle.call_build.specs.passes.Room.{BuildRoom};
 
-use grouping_chart::object::ObjectIndex;
-use grouping_chart::refusal::Verdict;
+use grouping_chart::refusal::Refusal;
 use lent::fill;
 
 pub mod objects;
 pub mod ratio;
 pub mod verdict;
 
-// How many objects are built, or the first refusal that applies and its place.
+// Raw objects as a call is lent them: two slices, with a place in each for each object.
 #[derive(Clone, Copy)]
-pub enum Building {
-    Done(usize),
-    Refused(u8, ObjectIndex),
+pub struct Raw<'a> {
+    pub kind: &'a [u8],
+    pub time: &'a [f64],
 }
 
 // How many objects are built of the raw ones.
-fn built_size(kind: &[u8]) -> usize
-    ensures { result ≡ length kind.now - 2 }
+fn built_size(raw: Raw) -> usize
+    ensures { result ≡ length raw.entry.kind.now - 2 }
 {
-    if kind.len() < 2 { 0 } else { kind.len() - 2 }
+    raw.kind.len().saturating_sub(2)
 }
 
 // What the call does with accepted objects: the ratios are made of the deltas that were filled.
 fn fill_chart(
-    kind: &[u8],
-    time: &[f64],
+    raw: Raw,
     rate: f64,
     n: usize,
     built_kind: &mut [u8],
@@ -40,36 +39,32 @@ fn fill_chart(
     delta: &mut [f64],
     ratio: &mut [f64],
 )
-    requires { BuildRoom (raw kind.now time.now) n (memory built_kind.old start.old delta.old ratio.old) }
+    requires { BuildRoom (seen raw) n (memory built_kind.old start.old delta.old ratio.old) }
     ensures { memory built_kind.new start.new delta.new ratio.new
-        ≡ filled (built_chart rate (raw kind.now time.now)) (memory built_kind.old start.old delta.old ratio.old) }
+        ≡ filled (built_chart rate (seen raw.entry)) (memory built_kind.old start.old delta.old ratio.old) }
 {
-    let from = kind.len() - n;
-    fill::copy(&kind[from..], built_kind);
-    objects::fill_starts(time, rate, n, start);
-    objects::fill_deltas(time, rate, n, delta);
+    let from = raw.kind.len() - n;
+    fill::copy(&raw.kind[from..], built_kind);
+    objects::fill_starts(raw.time, rate, n, start);
+    objects::fill_deltas(raw.time, rate, n, delta);
     objects::fill_ratios(&delta[..n], ratio);
 }
 
+// The answer slices are no struct: a clause on a struct that holds a `&mut` also has to say which borrow it is.
 pub fn build(
-    kind: &[u8],
-    time: &[f64],
+    raw: Raw,
     rate: f64,
     built_kind: &mut [u8],
     start: &mut [f64],
     delta: &mut [f64],
     ratio: &mut [f64],
-) -> Building
+) -> Result<usize, Refusal>
     ensures { outcome result (memory built_kind.new start.new delta.new ratio.new)
-        ≡ build_outcome rate (raw kind.now time.now) (memory built_kind.old start.old delta.old ratio.old) }
+        ≡ build_outcome rate (seen raw.entry) (memory built_kind.old start.old delta.old ratio.old) }
 {
-    let n = built_size(kind);
+    let n = built_size(raw);
     let short = (built_kind.len() < n) | (start.len() < n) | (delta.len() < n) | (ratio.len() < n);
-    match verdict::judge(kind, time, rate, n, short) {
-        Verdict::Refused(number, place) => Building::Refused(number, place),
-        Verdict::Accepted => {
-            fill_chart(kind, time, rate, n, built_kind, start, delta, ratio);
-            Building::Done(n)
-        }
-    }
+    verdict::judge(raw, rate, n, short)?;
+    fill_chart(raw, rate, n, built_kind, start, delta, ratio);
+    Ok(n)
 }

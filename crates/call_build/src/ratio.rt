@@ -14,6 +14,7 @@ pub struct Candidate {
     pub gap: f64,
 }
 
+#[tactic(auto, unfolding(crate::specs::passes::Candidate::candidate_of))]
 fn measured(ratio: f64, q: f64) -> Candidate
     ensures { result ≡ candidate_of q ratio }
 {

@@ -1,20 +1,15 @@
--- What build hands back on the lent slices is what its definition gives on slices full of sentinels; and each of its parts is held to the case.
+-- What build hands back on the lent slices is what its definition gives on slices full of sentinels.
 use mathlib.Core.Path.{◌≡◌, ap, ◌∙◌}
 use mathlib.Core.List.{List}
 use Rattle.std.specs.Prelude.{Some}
-use mathlib.Core.Bool.{Bool, false}
+use mathlib.Core.Bool.{Bool}
 use Prim.Native.Nat.{ℕ, ◌+◌, ◌-◌, ◌*◌}
-use lib.Dec.{eqb}
 use lib.ListN.{take, drop, replicate}
 use lib.Ieee.{Float, binary64, of_bits}
 use Rattle.lent.specs.Over.{over}
 use Rattle.lent.proofs.OverLaws.{lent-part}
-use Rattle.lent.proofs.NeverLaws.{never}
-use Rattle.grouping_chart.specs.declared.object.ObjectIndex.{ObjectIndex}
 use Rattle.call_build.specs.Build.{Raw}
 use Rattle.call_build.specs.Call.{Memory, largest_raw, build_outcome}
-use Rattle.call_build.specs.declared.Building.{Building}
-use Rattle.call_build.specs.declared.Building.TheVariants.{Done, Refused}
 use Rattle.vectors.specs.Held.{Tells}
 use Rattle.vectors.specs.Table.{entries}
 use Rattle.vectors.specs.declared.call.Call.TheVariants.{Build}
@@ -22,18 +17,9 @@ use Rattle.vectors.specs.declared.case.Head.{Head}
 use Rattle.vectors.specs.Sentinel.{byte_sentinel, float_sentinel}
 use Rattle.vectors.specs.passes.Room.{most_places, Few}
 use Rattle.vectors.proofs.TableLaws.{entries_front}
-use Rattle.vectors.proofs.TellsLaws.{denied, tells_as, tells_of, tells_eqb}
+use Rattle.vectors.proofs.TellsLaws.{tells_of}
 use Rattle.vectors.proofs.SentinelLaws.{bytes-lent, floats-lent}
 use Rattle.cases_build.specs.Build.{stored_rate, stored_raw, build_lent, BuildStored, BuildHolds}
-
--- ---- the answer
-
-module _ (n : ℕ) (answer : Building) where
-  pub count-told : (count : ℕ) → answer ≡ Done count → Tells (eqb count n) (answer ≡ Done n)
-  count-told count e = tells_as (λ h. e ∙ ap Done h) (λ h. cc) (tells_eqb count n)
-
-  pub refused-told : (number : ℕ) (place : ObjectIndex) → answer ≡ Refused number place → Tells false (answer ≡ Done n)
-  refused-told number place e = denied (λ h. never (cc))
 
 -- ---- the raw objects and the slices, as fronts of what the code makes
 

@@ -1,14 +1,13 @@
 -- When a stored case of build holds: on the raw objects that its bytes say and slices full of sentinels
 -- the call's definition gives the original's answer.
-use Rattle.std.specs.Prelude.{◌≡◌, List, map, ℕ, ◌+◌, ◌-◌, ◌*◌, length, replicate, Float}
+use Rattle.std.specs.Prelude.{◌≡◌, List, map, ℕ, ◌+◌, ◌-◌, ◌*◌, length, replicate, Float, Result, Ok}
 use Rattle.std.specs.Float.{binary64}
 use Rattle.std.specs.Float.Ieee.{to_bits, of_bits}
 use Rattle.lent.specs.Over.{part}
 use Rattle.grouping_chart.specs.Outcome.{Outcome}
+use Rattle.grouping_chart.specs.declared.refusal.Refusal.{Refusal}
 use Rattle.call_build.specs.Build.{Raw}
 use Rattle.call_build.specs.Call.{Memory, build_outcome}
-use Rattle.call_build.specs.declared.Building.{Building}
-use Rattle.call_build.specs.declared.Building.TheVariants.{Done}
 use Rattle.vectors.specs.Case.{pair_at, word_at, words}
 use Rattle.vectors.specs.Held.{FrontHeld}
 use Rattle.vectors.specs.Table.{entries}
@@ -54,8 +53,8 @@ pub record ChartHeld (at n : ℕ) (body : List ℕ) (m : Memory) : Type 0 where
   pub ratios : FloatsHeld body (at + 17 * n) n m.ratio
 
 -- n objects are built, and the slices hold the chart
-pub record BuildStored (at n : ℕ) (body : List ℕ) (o : Outcome Building Memory) : Type 0 where
-  pub answer : o.answer ≡ Done n
+pub record BuildStored (at n : ℕ) (body : List ℕ) (o : Outcome (Result ℕ Refusal) Memory) : Type 0 where
+  pub answer : o.answer ≡ Ok n
   pub chart : ChartHeld at n body o.memory
 
 -- ---- the case

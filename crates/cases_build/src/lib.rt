@@ -2,15 +2,15 @@
 #![tactic(auto)]
 
 ghost use Rattle.std.specs.Prelude.{◌≡◌, ◌+◌, ◌*◌, ◌≤◌, ◌<◌, length};
-ghost use Rattle.call_build.specs.Build.{raw};
 ghost use Rattle.call_build.specs.Call.{memory, build_outcome};
-ghost use Rattle.call_build.specs.declared.Building.TheVariants as building;
+ghost use Rattle.call_build.specs.Lent.{seen};
 ghost use Rattle.vectors.specs.Held.{Tells};
 ghost use Rattle.cases_build.specs.Build.{raw_size, stored_rate, stored_raw, build_lent};
 ghost use Rattle.cases_build.specs.Build.{ChartHeld, BuildStored, BuildForm, BuildHolds};
 ghost use Rattle.cases_build.specs.passes.Room.{BuildRoom};
 
-use call_build::Building;
+use call_build::Raw;
+use grouping_chart::chart::Chart;
 use vectors::call::Call;
 use vectors::case::Head;
 use vectors::column::Column;
@@ -38,33 +38,16 @@ fn stored_rate(body: &[u8]) -> f64
     case::float_of(case::word_at(body, 2))
 }
 
-// Whether n objects are built.
-fn count_holds(n: usize, answer: Building) -> bool
-    ensures { Tells result (answer ≡ building.Done n) }
-{
-    match answer {
-        Building::Done(count) => count == n,
-        Building::Refused(_, _) => false,
-    }
-}
-
 // Whether slices hold the chart that begins at a place of the body.
-fn chart_held(
-    at: usize,
-    n: usize,
-    body: &[u8],
-    kind: &[u8],
-    start: &[f64],
-    delta: &[f64],
-    ratio: &[f64],
-) -> bool
+fn chart_held(at: usize, n: usize, body: &[u8], chart: Chart) -> bool
     requires { at + 25 * n ≤ length body.now }
-    ensures { Tells result (ChartHeld at n body.now (memory kind.now start.now delta.now ratio.now)) }
+    ensures { Tells result (ChartHeld at n body.now
+        (memory chart.entry.kind.now chart.entry.start.now chart.entry.delta.now chart.entry.ratio.now)) }
 {
-    Column::bytes(body, at, n).held(BYTE_SENTINEL, kind)
-        && Column::words(body, at + n, n).held(FLOAT_SENTINEL, start)
-        && Column::words(body, at + 9 * n, n).held(FLOAT_SENTINEL, delta)
-        && Column::words(body, at + 17 * n, n).held(FLOAT_SENTINEL, ratio)
+    Column::bytes(body, at, n).held(BYTE_SENTINEL, chart.kind)
+        && Column::words(body, at + n, n).held(FLOAT_SENTINEL, chart.start)
+        && Column::words(body, at + 9 * n, n).held(FLOAT_SENTINEL, chart.delta)
+        && Column::words(body, at + 17 * n, n).held(FLOAT_SENTINEL, chart.ratio)
 }
 
 // Build in lent slices, held to the chart that begins at a place of the body.
@@ -72,8 +55,7 @@ fn lent_holds(
     at: usize,
     n: usize,
     body: &[u8],
-    kind: &[u8],
-    time: &[f64],
+    raw: Raw,
     rate: f64,
     built_kind: &mut [u8],
     start: &mut [f64],
@@ -82,11 +64,16 @@ fn lent_holds(
 ) -> bool
     requires { at + 25 * n ≤ length body.now }
     ensures { Tells result (BuildStored at n body.now
-        (build_outcome rate (raw kind.now time.now) (memory built_kind.old start.old delta.old ratio.old))) }
+        (build_outcome rate (seen raw.entry) (memory built_kind.old start.old delta.old ratio.old))) }
 {
-    let answer = call_build::build(kind, time, rate, built_kind, start, delta, ratio);
-    let count = count_holds(n, answer);
-    count && chart_held(at, n, body, built_kind, start, delta, ratio)
+    let answer = call_build::build(raw, rate, built_kind, start, delta, ratio);
+    let chart = Chart {
+        kind: built_kind,
+        start,
+        delta,
+        ratio,
+    };
+    answer == Ok(n) && chart_held(at, n, body, chart)
 }
 
 // Build of m raw objects in slices full of sentinels, held to the body.
@@ -100,12 +87,15 @@ fn call_holds(m: usize, room: Room, body: &[u8]) -> bool
     let rate = stored_rate(body);
     let mut times = [0.0; MOST_RAW];
     table::read(body, 10 + m, 0, 0, m, &mut times);
+    let raw = Raw {
+        kind: &body[10..10 + m],
+        time: &times[..m],
+    };
     lent_holds(
         10 + 9 * m,
         n,
         body,
-        &body[10..10 + m],
-        &times[..m],
+        raw,
         rate,
         &mut [BYTE_SENTINEL; MOST_PLACES][..places],
         &mut [FLOAT_SENTINEL; MOST_PLACES][..places],

@@ -3,28 +3,25 @@ use mathlib.Core.Path.{sym, ap, ◌∙◌}
 use mathlib.Core.List.{List}
 use Prim.Native.Nat.{ℕ}
 use Rattle.lent.specs.Over.{over}
-use Rattle.call_build.specs.Build.{raw}
 use Rattle.call_build.specs.Call.{memory}
+use Rattle.call_build.specs.Lent.{seen}
 use Rattle.call_build.proofs.ChartLaws.{lent-kinds}
 use Rattle.call_build.proofs.CallLaws.{deltas_left, chart-filled}
 use Rattle.call_build.proofs.fill_chart.Goals as goal
 
 pub slice_bounds-fill_ratios-end-2 : goal.slice_bounds-fill_ratios-end-2
 slice_bounds-fill_ratios-end-2 c =
-    let r = raw c.args.kind.now c.args.time.now in
     let m = memory c.args.built_kind.now c.args.start.now c.args.delta.now c.args.ratio.now in
-    sym (deltas_left _ r m c.requires.raw.size c.requires.delta c.fill_deltas.ensures)
+    sym (deltas_left _ (seen c.args.raw) m c.requires.raw.size c.requires.delta c.fill_deltas.ensures)
 
 pub fill_ratios-requires : goal.fill_ratios-requires
 fill_ratios-requires c =
-    let r = raw c.args.kind.now c.args.time.now in
     let m = memory c.args.built_kind.now c.args.start.now c.args.delta.now c.args.ratio.now in
-    rw (deltas_left _ r m c.requires.raw.size c.requires.delta c.fill_deltas.ensures) c.requires.ratio
+    rw (deltas_left _ (seen c.args.raw) m c.requires.raw.size c.requires.delta c.fill_deltas.ensures) c.requires.ratio
 
 pub returns : goal.returns
 returns c =
-    let r = raw c.args.kind.now c.args.time.now in
     let m = memory c.args.built_kind.now c.args.start.now c.args.delta.now c.args.ratio.now in
-    chart-filled _ r m c.requires.raw.size
-    (c.copy.ensures ∙ ap (λ (l : List ℕ). over l c.args.built_kind.now) (lent-kinds c.args.kind.now _ c.requires.raw.size))
+    chart-filled _ (seen c.args.raw) m c.requires.raw.size
+    (c.copy.ensures ∙ ap (λ (l : List ℕ). over l c.args.built_kind.now) (lent-kinds c.args.raw.kind.now _ c.requires.raw.size))
     c.fill_starts.ensures c.fill_deltas.ensures c.fill_ratios.ensures

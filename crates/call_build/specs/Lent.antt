@@ -1,0 +1,6 @@
+-- The raw objects that the lent slices hold.
+use Rattle.call_build.specs.Build.{Raw, raw}
+use Rattle.call_build.specs.declared.Raw as lent
+
+abbrev pub seen : lent.Raw → Raw
+seen r = raw r.kind.now r.time.now
