@@ -1,23 +1,26 @@
 -- The outcome of encode, case by case, over plain lists: a refusal leaves all as lent, and an accepted chart has room in every slice.
 use mathlib.Core.Path.{◌≡◌, refl}
+use mathlib.Core.Bool.{false}
 use mathlib.Core.List.{List, []}
 use Prim.Native.Nat.{ℕ, ◌≤◌, ◌<◌}
 use lib.ListN.{length, take, get_or, replicate}
 use lib.Ieee.{Float, binary64, of_bits}
 use native.Mathlib.Omega.{arith}
+use Rattle.std.specs.Prelude.{Ok}
 use Rattle.lent.specs.Over.{over}
 use Rattle.lent.proofs.OverLaws.{front}
 use Rattle.lent.proofs.PieceLaws.{get_or-over}
 use Rattle.grouping_chart.specs.Chart.{Chart, size}
 use Rattle.grouping_chart.specs.Outcome.{outcome}
 use Rattle.grouping_chart.specs.Settings.{Settings, Permitted}
-use Rattle.grouping_chart.specs.declared.refusal.Verdict.TheVariants.{Accepted}
-use Rattle.grouping_chart.proofs.OutcomeLaws.{answered-done, accommodated}
+use Rattle.grouping_chart.specs.Refusal.{Verdict, accepted, verdict}
+use Rattle.grouping_chart.specs.Room.{short_refusal}
+use Rattle.grouping_chart.proofs.OutcomeLaws.{verdict-judged, answered-done, accommodated}
+use Rattle.grouping_chart.proofs.RoomLaws.{joined, short_joined}
 use Rattle.grouping_colour.specs.MonoStreak.{streak_of}
 use Rattle.grouping_colour.proofs.StreakListLaws.{length-streak_of}
 use Rattle.grouping_preprocessor.specs.Preprocessor.{alternating_of, hit_of, interval_of, hit_count}
 use Rattle.grouping_preprocessor.proofs.BoundLaws.{length-alternating_of, length-hit_of, length-interval_of}
-use Rattle.call_encode.specs.declared.Encoding.TheVariants as answer
 use Rattle.call_encode.specs.Call.{Memory, answer_lengths, judged, encoded_kinds, with_scratch, filled, encode_outcome}
 use Rattle.call_encode.specs.passes.LookUps.{KindsRoom}
 
@@ -41,11 +44,17 @@ module _ (limit : ℕ) (kinds : List ℕ) (m : Memory) where
 
 -- ---- each case leaves its outcome
 
+-- the verdict of the definition is what `judge` gave on the code's tests of the answer slices
+pub judged-told : (c : Chart) (m : Memory) {v u : Verdict}
+    → v ≡ verdict c (short_refusal (joined (size c) false (answer_lengths m)) (size c) (length m.work) (length m.scratch))
+    → v ≡ u → judged c m ≡ u
+judged-told c m = verdict-judged c (answer_lengths m) _ _ (short_joined (size c) _ _)
+
 module _ (s : Settings) (c : Chart) (m : Memory) where
-  pub done-outcome : (count : ℕ) (new : Memory) → judged c m ≡ Accepted → count ≡ hit_count c.kinds → new ≡ filled s c m
-      → outcome (answer.Done count) new ≡ encode_outcome s c m
+  pub done-outcome : (count : ℕ) (new : Memory) → judged c m ≡ accepted → count ≡ hit_count c.kinds → new ≡ filled s c m
+      → outcome (Ok count) new ≡ encode_outcome s c m
   unfolding encode_outcome
-  done-outcome count new h e f = answered-done _ answer.Refused m h (λ t. outcome (answer.Done (e t)) (f t))
+  done-outcome count new h e f = answered-done _ _ m h (λ t. outcome (Ok (e t)) (f t))
 
   -- the memory that the passes leave is the definition's
   pub filled_is : {new : Memory} {scratch : List Float} → new ≡ encoded_kinds s.limit c.kinds (with_scratch m [])
@@ -54,7 +63,7 @@ module _ (s : Settings) (c : Chart) (m : Memory) where
   filled_is e f t = with_scratch (e t) (f t)
 
   -- an accepted call has room
-  pub kinds_room : Permitted s → judged c m ≡ Accepted → KindsRoom (size c) s.limit (with_scratch m [])
+  pub kinds_room : Permitted s → judged c m ≡ accepted → KindsRoom (size c) s.limit (with_scratch m [])
   kinds_room p h =
       let r = accommodated c (answer_lengths m) _ _ h in
       record {
@@ -69,13 +78,13 @@ module _ (s : Settings) (c : Chart) (m : Memory) where
         bytes = omega (arith, p.most);
       }
 
-pub scratch_room : (c : Chart) (m : Memory) → judged c m ≡ Accepted → size c ≤ length m.scratch
+pub scratch_room : (c : Chart) (m : Memory) → judged c m ≡ accepted → size c ≤ length m.scratch
 scratch_room c m h = (accommodated c (answer_lengths m) _ _ h).floats
 
 -- ---- what an accepted call writes, place by place
-module _ (s : Settings) (c : Chart) (lent : Memory) (accepted : judged c lent ≡ Accepted) where
+module _ (s : Settings) (c : Chart) (lent : Memory) (good : judged c lent ≡ accepted) where
   left : (encode_outcome s c lent).memory ≡ filled s c lent
-  left = rw (← done-outcome s c lent _ (filled s c lent) accepted refl refl)
+  left = rw (← done-outcome s c lent _ (filled s c lent) good refl refl)
 
   pub hit-written : (i : ℕ) → i < size c → get_or (encode_outcome s c lent).memory.hit i 0 ≡ get_or (hit_of c.kinds) i 0
   unfolding filled encoded_kinds

@@ -1,18 +1,16 @@
 -- The call encode (scope: calls): what it answers, and what every lent slice holds
 -- afterwards.
-use Rattle.std.specs.Prelude.{ℕ, List, [], ◌∷◌, length, Float}
+use Rattle.std.specs.Prelude.{ℕ, List, [], ◌∷◌, length, Float, Result}
 use Rattle.lent.specs.Over.{over}
 use Rattle.grouping_chart.specs.Chart.{Chart, size}
 use Rattle.grouping_chart.specs.Room.{cleared_work, cleared_scratch}
-use Rattle.grouping_chart.specs.Outcome.{Outcome, outcome, judged_by, answered}
+use Rattle.grouping_chart.specs.Outcome.{Outcome, judged_by, answered}
 use Rattle.grouping_chart.specs.Settings.{Settings}
-use Rattle.grouping_chart.specs.declared.refusal.Verdict.{Verdict}
+use Rattle.grouping_chart.specs.Refusal.{Verdict}
+use Rattle.grouping_chart.specs.declared.refusal.Refusal.{Refusal}
 use Rattle.grouping_colour.specs.MonoStreak.{streak_of}
 use Rattle.grouping_preprocessor.specs.Preprocessor.{streak_place_of, alternating_of, pattern_place_of}
 use Rattle.grouping_preprocessor.specs.Preprocessor.{hit_of, interval_of, hit_count}
-use Rattle.call_encode.specs.declared.Encoding.{Encoding}
-use Rattle.call_encode.specs.declared.Encoding.TheVariants.{Done}
-use Rattle.call_encode.specs.declared.Encoding.TheVariants as answer
 
 -- the slices that are lent to be written: six answers and two work slices
 pub record Memory : Type 0 where
@@ -77,5 +75,6 @@ kinds_memory streak streak_place pattern pattern_place hit interval work =
 unfoldable pub filled : Settings → Chart → Memory → Memory
 filled s c m = with_scratch (encoded_kinds s.limit c.kinds m) (cleared_scratch (size c) m.scratch)
 
-unfoldable pub encode_outcome : Settings → Chart → Memory → Outcome Encoding Memory
-encode_outcome s c m = answered (judged c m) (outcome (Done (hit_count c.kinds)) (filled s c m)) answer.Refused m
+-- the number of hit patterns, or the first refusal that applies
+unfoldable pub encode_outcome : Settings → Chart → Memory → Outcome (Result ℕ Refusal) Memory
+encode_outcome s c m = answered (judged c m) (hit_count c.kinds) (filled s c m) m

@@ -7,24 +7,17 @@ ghost use Rattle.lent.specs.Scan.{gathered};
 ghost use Rattle.grouping_preprocessor.specs.Preprocessor.{hit_count};
 ghost use Rattle.grouping_chart.specs.Settings.{base_settings};
 ghost use Rattle.grouping_chart.specs.Outcome.{outcome};
-ghost use Rattle.grouping_chart.specs.Chart.{chart};
+ghost use Rattle.grouping_chart.specs.Lent.{seen};
 ghost use Rattle.call_encode.specs.Call.{memory, encoded_kinds, kinds_memory, encode_outcome};
 ghost use Rattle.call_encode.specs.passes.LookUps.{PatternsRoom, by_streak, HitsRoom, by_pattern, KindsRoom};
 
-use grouping_chart::object::ObjectIndex;
-use grouping_chart::refusal::Verdict;
+use grouping_chart::chart::Chart;
+use grouping_chart::refusal::Refusal;
 use grouping_chart::room::judge;
 use grouping_chart::settings;
 use grouping_hits::limit::SearchLimit;
 use grouping_preprocessor::Levels;
 use lent::fill;
-
-// The number of hit patterns, or the first refusal that applies and its place.
-#[derive(Clone, Copy)]
-pub enum Encoding {
-    Done(usize),
-    Refused(u8, ObjectIndex),
-}
 
 // Gives each object its streak, the streak's place and its pattern, from the encoder's tables.
 fn spread_patterns(
@@ -100,10 +93,7 @@ pub fn encode_kinds(
 }
 
 pub fn encode(
-    kind: &[u8],
-    start: &[f64],
-    delta: &[f64],
-    ratio: &[f64],
+    chart: Chart,
     streak: &mut [u16],
     streak_place: &mut [u16],
     pattern: &mut [u16],
@@ -112,39 +102,35 @@ pub fn encode(
     interval: &mut [u8],
     work: &mut [u16],
     scratch: &mut [f64],
-) -> Encoding
+) -> Result<usize, Refusal>
     ensures { outcome result
         (memory streak.new streak_place.new pattern.new pattern_place.new hit.new interval.new work.new scratch.new)
-        ≡ encode_outcome base_settings (chart kind.now start.now delta.now ratio.now)
+        ≡ encode_outcome base_settings (seen chart.entry)
         (memory streak.old streak_place.old pattern.old pattern_place.old hit.old interval.old work.old scratch.old) }
 {
-    let n = kind.len();
+    let n = chart.kind.len();
     let short = (streak.len() < n)
         | (streak_place.len() < n)
         | (pattern.len() < n)
         | (pattern_place.len() < n)
         | (hit.len() < n)
         | (interval.len() < n);
-    match judge(kind, start, delta, ratio, short, work.len(), scratch.len()) {
-        Verdict::Refused(number, place) => Encoding::Refused(number, place),
-        Verdict::Accepted => {
-            let s = settings::base();
-            let limit = SearchLimit {
-                value: s.limit as u16,
-            };
-            let hits = encode_kinds(
-                kind,
-                limit,
-                streak,
-                streak_place,
-                pattern,
-                pattern_place,
-                hit,
-                interval,
-                work,
-            );
-            fill::front(scratch, n, 0.0);
-            Encoding::Done(hits)
-        }
-    }
+    judge(chart, short, work.len(), scratch.len())?;
+    let s = settings::base();
+    let limit = SearchLimit {
+        value: s.limit as u16,
+    };
+    let hits = encode_kinds(
+        chart.kind,
+        limit,
+        streak,
+        streak_place,
+        pattern,
+        pattern_place,
+        hit,
+        interval,
+        work,
+    );
+    fill::front(scratch, n, 0.0);
+    Ok(hits)
 }

@@ -1,38 +1,23 @@
 -- What encode hands back on the lent slices is what its definition gives on slices full of sentinels; and each of its parts is held to the case.
-use mathlib.Core.Path.{◌≡◌, ap, ◌∙◌}
+use mathlib.Core.Path.{◌≡◌}
 use mathlib.Core.List.{List}
 use Rattle.std.specs.Prelude.{Some}
-use mathlib.Core.Bool.{Bool, false}
+use mathlib.Core.Bool.{Bool}
 use Prim.Native.Nat.{ℕ, ◌+◌, ◌-◌, ◌*◌}
-use lib.Dec.{eqb}
 use lib.ListN.{take, drop, replicate}
 use lib.Ieee.{Float}
 use Rattle.lent.proofs.OverLaws.{lent-part}
-use Rattle.lent.proofs.NeverLaws.{never}
 use Rattle.grouping_chart.specs.Chart.{Chart, largest}
 use Rattle.grouping_chart.specs.Settings.{base_settings}
-use Rattle.grouping_chart.specs.declared.object.ObjectIndex.{ObjectIndex}
 use Rattle.call_encode.specs.Call.{Memory, encode_outcome}
-use Rattle.call_encode.specs.declared.Encoding.{Encoding}
-use Rattle.call_encode.specs.declared.Encoding.TheVariants.{Done, Refused}
-use Rattle.vectors.specs.Case.{pair_at}
 use Rattle.vectors.specs.Held.{Tells}
 use Rattle.vectors.specs.declared.call.Call.TheVariants.{Encode}
 use Rattle.vectors.specs.declared.case.Head.{Head}
 use Rattle.vectors.specs.Sentinel.{number_sentinel, byte_sentinel, float_sentinel}
 use Rattle.vectors.specs.passes.Room.{most_places, most_work, Few}
-use Rattle.vectors.proofs.TellsLaws.{denied, tells_as, tells_of, tells_eqb}
+use Rattle.vectors.proofs.TellsLaws.{tells_of}
 use Rattle.vectors.proofs.SentinelLaws.{code_one, ones_lent, numbers-lent, bytes-lent, work-lent, floats-lent}
 use Rattle.cases_encode.specs.Encode.{encode_chart, encode_lent, EncodeStored, EncodeHolds}
-
--- ---- the answer
-
-module _ (body : List ℕ) (answer : Encoding) where
-  pub count-told : (count stored : ℕ) → answer ≡ Done count → stored ≡ pair_at body 0 → Tells (eqb count stored) (answer ≡ Done (pair_at body 0))
-  count-told count stored e q = tells_as (λ h. e ∙ ap Done (h ∙ q)) (λ h. cc) (tells_eqb count stored)
-
-  pub refused-told : (number : ℕ) (place : ObjectIndex) → answer ≡ Refused number place → Tells false (answer ≡ Done (pair_at body 0))
-  refused-told number place e = denied (λ h. never (cc))
 
 -- ---- the chart and the slices, as fronts of what the code makes
 

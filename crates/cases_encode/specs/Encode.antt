@@ -1,14 +1,13 @@
 -- When a stored case of encode holds: on the chart that its bytes say and slices full of sentinels
 -- the call's definition gives the original's answer.
-use Rattle.std.specs.Prelude.{◌≡◌, List, ℕ, ◌+◌, ◌*◌, length, replicate, Float}
+use Rattle.std.specs.Prelude.{◌≡◌, List, ℕ, ◌+◌, ◌*◌, length, replicate, Float, Result, Ok}
 use Rattle.lent.specs.Over.{part}
 use Rattle.numeric.specs.Constants.{one64}
 use Rattle.grouping_chart.specs.Chart.{Chart}
 use Rattle.grouping_chart.specs.Outcome.{Outcome}
 use Rattle.grouping_chart.specs.Settings.{base_settings}
+use Rattle.grouping_chart.specs.declared.refusal.Refusal.{Refusal}
 use Rattle.call_encode.specs.Call.{Memory, encode_outcome}
-use Rattle.call_encode.specs.declared.Encoding.{Encoding}
-use Rattle.call_encode.specs.declared.Encoding.TheVariants.{Done}
 use Rattle.vectors.specs.Case.{pair_at, column_size, column}
 use Rattle.vectors.specs.Held.{FrontHeld}
 use Rattle.vectors.specs.declared.call.Call.TheVariants.{Encode}
@@ -36,8 +35,8 @@ encode_lent n spare = record {
 }
 
 -- the number of hit patterns, five columns of numbers with so many bytes each, a row of bytes, and cleared work slices
-pub record EncodeStored (size width n : ℕ) (body : List ℕ) (o : Outcome Encoding Memory) : Type 0 where
-  pub answer : o.answer ≡ Done (pair_at body 0)
+pub record EncodeStored (size width n : ℕ) (body : List ℕ) (o : Outcome (Result ℕ Refusal) Memory) : Type 0 where
+  pub answer : o.answer ≡ Ok (pair_at body 0)
   pub streak : FrontHeld (column body (2 + n) width n) number_sentinel o.memory.streak
   pub streak_place : FrontHeld (column body (2 + n + size) width n) number_sentinel o.memory.streak_place
   pub pattern : FrontHeld (column body (2 + n + 2 * size) width n) number_sentinel o.memory.pattern

@@ -4,17 +4,17 @@
 ghost use Rattle.std.specs.Prelude.{◌≡◌};
 ghost use Rattle.grouping_chart.specs.Settings.{base_settings};
 ghost use Rattle.grouping_chart.specs.Outcome.{outcome};
-ghost use Rattle.grouping_chart.specs.Chart.{chart};
+ghost use Rattle.grouping_chart.specs.Lent.{seen};
 ghost use Rattle.call_encode.specs.Call.{memory, encode_outcome};
-ghost use Rattle.call_encode.specs.declared.Encoding.TheVariants as encoding;
-ghost use Rattle.vectors.specs.Case.{pair_at, column_size};
+ghost use Rattle.vectors.specs.Case.{column_size};
 ghost use Rattle.vectors.specs.Held.{Tells};
 ghost use Rattle.cases_encode.specs.Encode.{encode_chart, encode_lent, EncodeStored, EncodeHolds};
 ghost use Rattle.cases_encode.specs.passes.Room.{EncodeBody};
 
-use call_encode::Encoding;
+use grouping_chart::chart::Chart;
+use grouping_chart::refusal::Refusal;
 use vectors::call::Call;
-use vectors::case::Head;
+use vectors::case::{Head, pair_at};
 use vectors::column::Column;
 use vectors::form::formed;
 use vectors::room::{Room, Spare};
@@ -23,21 +23,11 @@ use vectors::sentinel::{
     BYTE_SENTINEL, FLOAT_SENTINEL, MOST_OBJECTS, MOST_PLACES, MOST_WORK, NUMBER_SENTINEL,
 };
 
-// Whether the chart is accepted, with as many hit patterns as the body's first number says.
-fn count_holds(body: &[u8], answer: Encoding) -> bool
-    ensures { Tells result (answer ≡ encoding.Done (pair_at body.now 0)) }
-{
-    match answer {
-        Encoding::Done(count) => count == vectors::case::pair_at(body, 0) as usize,
-        Encoding::Refused(_, _) => false,
-    }
-}
-
 // Whether an answer and slices are those of the body, each of whose columns has so many bytes.
 fn outcome_holds(
     room: Room,
     body: &[u8],
-    answer: Encoding,
+    answer: Result<usize, Refusal>,
     streak: &[u16],
     streak_place: &[u16],
     pattern: &[u16],
@@ -56,7 +46,7 @@ fn outcome_holds(
     let width = room.head.width;
     let size = room.column_size();
     let at = 2 + n;
-    count_holds(body, answer)
+    answer == Ok(usize::from(pair_at(body, 0)))
         && sentinel::columns_held(body, at, size, width, n, streak, streak_place)
         && sentinel::columns_held(body, at + 2 * size, size, width, n, pattern, pattern_place)
         && Column::numbers(body, at + 4 * size, width, n).held(NUMBER_SENTINEL, hit)
@@ -68,8 +58,7 @@ fn outcome_holds(
 fn lent_holds(
     room: Room,
     body: &[u8],
-    kind: &[u8],
-    one: &[f64],
+    chart: Chart,
     streak: &mut [u16],
     streak_place: &mut [u16],
     pattern: &mut [u16],
@@ -81,14 +70,11 @@ fn lent_holds(
 ) -> bool
     requires { EncodeBody room.head body.now }
     ensures { let h = room.head in Tells result (EncodeStored (column_size h.objects h.width) h.width h.objects body.now
-        (encode_outcome base_settings (chart kind.now one.now one.now one.now)
+        (encode_outcome base_settings (seen chart.entry)
         (memory streak.old streak_place.old pattern.old pattern_place.old hit.old interval.old work.old scratch.old))) }
 {
     let got = call_encode::encode(
-        kind,
-        one,
-        one,
-        one,
+        chart,
         streak,
         streak_place,
         pattern,
@@ -121,11 +107,17 @@ fn call_holds(room: Room, body: &[u8]) -> bool
 {
     let n = room.head.objects;
     let places = n + room.spare;
+    let ones = &[1.0; MOST_OBJECTS][..n];
+    let chart = Chart {
+        kind: &body[2..2 + n],
+        start: ones,
+        delta: ones,
+        ratio: ones,
+    };
     lent_holds(
         room,
         body,
-        &body[2..2 + n],
-        &[1.0; MOST_OBJECTS][..n],
+        chart,
         &mut [NUMBER_SENTINEL; MOST_PLACES][..places],
         &mut [NUMBER_SENTINEL; MOST_PLACES][..places],
         &mut [NUMBER_SENTINEL; MOST_PLACES][..places],
