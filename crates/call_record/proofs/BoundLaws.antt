@@ -8,15 +8,16 @@ use native.Mathlib.Omega.{arith}
 use lib.Dec.{T, lit≤}
 use lib.ListN.{length, get_or}
 use lib.Ieee.{Float, nan, is_nan}
+use Rattle.std.specs.Prelude.{Option}
 use Rattle.numeric.specs.Constants.{one64, thousand64}
 use Rattle.numeric.proofs.Bounded.{Bounded, sub_bounded, le_bounded}
 use Rattle.numeric.proofs.range.Laws.{within_ends}
 use Rattle.grouping_marks.proofs.PartedLaws.{parted_all, parted-some}
 use Rattle.grouping_chart.specs.Chart.{Chart, size}
-use Rattle.grouping_chart.specs.Refusal.{verdict}
+use Rattle.grouping_chart.specs.Refusal.{accepted, verdict}
 use Rattle.grouping_interval.specs.Notes.{note_objects}
 use Rattle.grouping_chart.specs.Settings.{Settings}
-use Rattle.grouping_chart.specs.declared.refusal.Verdict.TheVariants.{Accepted}
+use Rattle.grouping_chart.specs.declared.refusal.Reason.{Reason}
 use Rattle.grouping_chart.proofs.AcceptedLaws.{GoodChart, accepted_good}
 use Rattle.grouping_interval.proofs.NoteLaws.{object-below}
 use Rattle.grouping_chart.proofs.RangeLaws.{time_range}
@@ -29,16 +30,16 @@ use Rattle.evaluator_rhythm.proofs.PenaltyLaws as penalty
 use Rattle.call_record.specs.Record.{objects_in, owns_at, duration_of, record_at}
 use Rattle.call_record.specs.Call.{window_good}
 
-start_bounded : {c : Chart} {refusal : ℕ} → GoodChart c refusal → (i : ℕ) → i < size c → Bounded (get_or c.starts i nan) (2 ^ 24)
+start_bounded : {c : Chart} {beside : Option Reason} → GoodChart c beside → (i : ℕ) → i < size c → Bounded (get_or c.starts i nan) (2 ^ 24)
 start_bounded {c} good i h =
     let r = time_range (get_or c.starts i nan) (good.objects i nan h).start in
     le_bounded (get_or c.starts i nan) 24 r.0 r.1
 
-module _ (s : Settings) (c : Chart) (refusal g : ℕ) (accepted : verdict c refusal ≡ Accepted) (there : g < groups_in s.margin c.kinds c.deltas) where
+module _ (s : Settings) (c : Chart) (beside : Option Reason) (g : ℕ) (told : verdict c beside ≡ accepted) (there : g < groups_in s.margin c.kinds c.deltas) where
   -- group g is one of the groups
   group_there : g < length (group_objects s.margin c.kinds c.deltas)
   group_there =
-      let l = length_first_objects s.margin c.kinds c.deltas (accepted_good c refusal accepted).lengths.delta in
+      let l = length_first_objects s.margin c.kinds c.deltas (accepted_good c beside told).lengths.delta in
       omega (arith, l, length-firsts (group_objects s.margin c.kinds c.deltas))
 
   objects : List ℕ
@@ -62,7 +63,7 @@ module _ (s : Settings) (c : Chart) (refusal g : ℕ) (accepted : verdict c refu
   duration_bounded : Bounded (duration_of c.starts objects) (2 ^ 25)
   unfolding duration_of
   duration_bounded =
-      let good = accepted_good c refusal accepted in
+      let good = accepted_good c beside told in
       sub_bounded (get_or c.starts (get_or objects (length objects - 1) 0) nan) (get_or c.starts (get_or objects 0 0) nan) (2 ^ 24) (2 ^ 24) (lit≤ tt)
       (start_bounded good (get_or objects (length objects - 1) 0) (object-inside (length objects - 1) (omega (arith, has_object))))
       (start_bounded good (get_or objects 0 0) (object-inside 0 has_object))

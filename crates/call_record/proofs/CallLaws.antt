@@ -1,5 +1,5 @@
 -- The outcomes of record, case by case, over plain lists: a refusal leaves all as lent, and an accepted call has room in both slices and finite deltas.
-use mathlib.Core.Path.{◌≡◌, refl, sym, ◌∙◌}
+use mathlib.Core.Path.{◌≡◌, refl}
 use mathlib.Core.Bool.{Bool, true, false, cond}
 use Prim.Native.Nat.{ℕ, ◌≤◌, ◌<◌}
 use native.Mathlib.Omega.{arith}
@@ -8,20 +8,23 @@ use lib.Dec.{T, ltb}
 use lib.ListN.{length, get_or}
 use lib.Ieee.{Float, nan}
 use lib.Ieee.Scale.{finite}
+use Rattle.std.specs.Prelude.{Some, None, Ok, Err}
+use Rattle.lent.proofs.NeverLaws.{never}
 use Rattle.numeric.specs.Range.{earliest, latest}
 use Rattle.numeric.proofs.Values.{finite-between}
 use Rattle.grouping_chart.specs.Chart.{Chart, size}
-use Rattle.grouping_chart.specs.Refusal.{time_good}
+use Rattle.grouping_chart.specs.Refusal.{Verdict, accepted, at_0, time_good, verdict}
+use Rattle.grouping_chart.specs.Room.{short_refusal}
 use Rattle.grouping_chart.specs.Outcome.{outcome}
 use Rattle.grouping_chart.specs.Settings.{Settings}
-use Rattle.grouping_chart.specs.declared.object.ObjectIndex.{ObjectIndex}
-use Rattle.grouping_chart.specs.declared.refusal.Verdict.TheVariants.{Accepted, Refused}
+use Rattle.grouping_chart.specs.declared.refusal.Reason.{Reason}
+use Rattle.grouping_chart.specs.declared.refusal.Reason.TheVariants.{BadWindow, OutOfRange}
+use Rattle.grouping_chart.specs.declared.refusal.Refusal.{Refusal}
 use Rattle.grouping_chart.proofs.RangeLaws.{time_range}
-use Rattle.grouping_chart.proofs.OutcomeLaws.{accommodated, chart-refused, none_refused, then-refused, answered-refused, answered-done}
+use Rattle.grouping_chart.proofs.OutcomeLaws.{verdict-judged, accommodated, chart-refused, nothing-refused, then-refused, answered-refused, answered-done}
+use Rattle.grouping_chart.proofs.RoomLaws.{none_asked}
 use Rattle.call_rhythm.proofs.TablesLaws.{accepted-tables}
 use Rattle.call_record.specs.declared.GroupRecord.{GroupRecord}
-use Rattle.call_record.specs.declared.Recording.TheVariants.{Done}
-use Rattle.call_record.specs.declared.Recording.TheVariants as answer
 use Rattle.call_record.specs.Record.{record_at}
 use Rattle.call_record.specs.Call.{Memory, answer_lengths, judged, window_good, record_refusal, cleared, groups_of, record_outcome}
 use Rattle.call_record.specs.passes.Found.{GroupRoom}
@@ -32,60 +35,63 @@ finite_time x t =
     let b = time_range x t in
     finite-between earliest x latest tt tt b.0 b.1
 
+-- ---- the verdict, from what `judge` answered
+pub told : (c : Chart) (m : Memory) {v u : Verdict} → v ≡ verdict c (short_refusal false (size c) (length m.work) (length m.scratch)) → v ≡ u → judged c m ≡ u
+told c m = verdict-judged c (answer_lengths m) _ _ (none_asked (size c))
+
 -- ---- what is known of an accepted call
-pub lengths_same : (c : Chart) (m : Memory) → judged c m ≡ Accepted → length c.deltas ≡ size c
+pub lengths_same : (c : Chart) (m : Memory) → judged c m ≡ accepted → length c.deltas ≡ size c
 lengths_same c m h = (accommodated c (answer_lengths m) _ _ h).chart.lengths.delta
 
 -- ---- what is refused after the chart
 
 module _ (window : Float) (g groups : ℕ) where
-  pub window_refused : window_good window ≡ false → 8 ≡ record_refusal window g groups
+  pub window_refused : window_good window ≡ false → Some BadWindow ≡ record_refusal window g groups
   unfolding record_refusal
   window_refused h = rw h
 
-  pub group-refused : window_good window ≡ true → groups ≤ g → 9 ≡ record_refusal window g groups
+  pub group-refused : window_good window ≡ true → groups ≤ g → Some OutOfRange ≡ record_refusal window g groups
   unfolding record_refusal
   group-refused h k = rw (h, le-ltb g groups k)
 
-  pub neither_refused : window_good window ≡ true → g < groups → 0 ≡ record_refusal window g groups
+  pub neither_refused : window_good window ≡ true → g < groups → None ≡ record_refusal window g groups
   unfolding record_refusal
   neither_refused h k = rw (h, lt-ltb g groups k)
 
-  group-below : record_refusal window g groups ≡ 0 → g < groups
+  group-below : record_refusal window g groups ≡ None → g < groups
   unfolding record_refusal
   group-below e = go (window_good window) (ltb g groups) refl e
     where
-      go : (good below : Bool) → ltb g groups ≡ below → ◌≡◌ {A = ℕ} (cond good (cond below 0 9) 8) 0 → g < groups
+      go : (good below : Bool) → ltb g groups ≡ below → cond good (cond below None (Some OutOfRange)) (Some BadWindow) ≡ None → g < groups
       go true true q e = ltb-true g groups q
-      go true false q e = absurd (omega arith)
-      go false below q e = absurd (omega arith)
+      go true false q e = never (cc)
+      go false below q e = never (cc)
 
 -- ---- each case leaves its outcome
 
 module _ (s : Settings) (c : Chart) (m : Memory) (g : ℕ) (window : Float) where
-  pub outcome-refused : {number : ℕ} {place : ObjectIndex} → judged c m ≡ Refused number place
-      → outcome (answer.Refused number place) m ≡ record_outcome s c g window m
+  pub outcome-refused : {first : Refusal} → judged c m ≡ Err first → outcome (Err first) m ≡ record_outcome s c g window m
   unfolding record_outcome
-  outcome-refused h = answered-refused _ answer.Refused m (chart-refused _ h)
+  outcome-refused h = answered-refused _ _ m (chart-refused _ h)
 
   -- the chart is accepted, and the window and the group number are tested
-  module _ (accepted : judged c m ≡ Accepted) {number : ℕ} (e : number ≡ record_refusal window g (groups_of s c)) where
-    pub number_refused : (number ≡ 0 → ⊥) → outcome (answer.Refused number (record { 0 = 0 })) m ≡ record_outcome s c g window m
+  module _ (taken : judged c m ≡ accepted) where
+    pub asked_refused : {r : Reason} → record_refusal window g (groups_of s c) ≡ Some r → outcome (Err (at_0 r)) m ≡ record_outcome s c g window m
     unfolding record_outcome
-    number_refused h = answered-refused _ answer.Refused m (rw (← e) (then-refused number accepted h))
+    asked_refused e = answered-refused _ _ m (then-refused _ taken e)
 
-    module _ (none : number ≡ 0) where
+    module _ (none : record_refusal window g (groups_of s c) ≡ None) where
       pub group_room : GroupRoom s.margin c.kinds c.starts c.deltas g m.work m.scratch
       group_room =
-          let r = accommodated c (answer_lengths m) _ _ accepted in
+          let r = accommodated c (answer_lengths m) _ _ taken in
           let good = r.chart in
           record {
             tables = accepted-tables m.work m.scratch r;
             numbers = λ i k. finite_time (get_or c.deltas i nan) (good.objects i nan (omega (arith, good.lengths.delta))).delta;
-            there = group-below window g (groups_of s c) (sym e ∙ none);
+            there = group-below window g (groups_of s c) none;
           }
 
       pub outcome-done : (r : GroupRecord) (new : Memory) → r ≡ record_at s c.kinds c.starts c.deltas g window → new ≡ cleared (size c) m
-          → outcome (Done r) new ≡ record_outcome s c g window m
+          → outcome (Ok r) new ≡ record_outcome s c g window m
       unfolding record_outcome
-      outcome-done r new a b = answered-done _ answer.Refused m (rw (← e) (none_refused number accepted none)) (λ t. outcome (Done (a t)) (b t))
+      outcome-done r new a b = answered-done _ _ m (nothing-refused _ taken none) (λ t. outcome (Ok (a t)) (b t))

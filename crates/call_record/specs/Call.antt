@@ -1,18 +1,19 @@
 -- The call record (scope: Calls and what they fill): what it answers, and what every lent slice holds
 -- afterwards. Refusals 8 and 9 are tested after 1 to 7.
-use Rattle.std.specs.Prelude.{ℕ, Bool, cond, List, [], ltb, Float}
+use Rattle.std.specs.Prelude.{ℕ, Bool, cond, List, [], ltb, Float, Option, Some, None, Result}
 use Rattle.numeric.specs.Constants.{one64, thousand64}
 use Rattle.numeric.specs.Range.{within}
 use Rattle.grouping_chart.specs.Chart.{Chart, size}
 use Rattle.grouping_chart.specs.Room.{cleared_work, cleared_scratch}
-use Rattle.grouping_chart.specs.Outcome.{Outcome, outcome, judged_by, refused_then, answered}
+use Rattle.grouping_chart.specs.Outcome.{Outcome, judged_by, refused_then, answered}
 use Rattle.grouping_chart.specs.Settings.{Settings}
-use Rattle.grouping_chart.specs.declared.refusal.Verdict.{Verdict}
+use Rattle.grouping_chart.specs.Refusal.{Verdict}
+use Rattle.grouping_chart.specs.declared.refusal.Reason.{Reason}
+use Rattle.grouping_chart.specs.declared.refusal.Reason.TheVariants.{BadWindow, OutOfRange}
+use Rattle.grouping_chart.specs.declared.refusal.Refusal.{Refusal}
 use Rattle.call_rhythm.specs.Rhythm.{groups_in}
 use Rattle.call_record.specs.Record.{record_at}
-use Rattle.call_record.specs.declared.Recording.{Recording}
-use Rattle.call_record.specs.declared.Recording.TheVariants.{Done}
-use Rattle.call_record.specs.declared.Recording.TheVariants as answer
+use Rattle.call_record.specs.declared.GroupRecord.{GroupRecord}
 
 -- the slices that are lent to be written: two work slices
 pub record Memory : Type 0 where
@@ -42,10 +43,10 @@ cleared n m = record {
 unfoldable pub window_good : Float → Bool
 window_good window = within one64 thousand64 window
 
--- the number of what is refused of a window and a group number, or 0: 8 for a window that is not good, then 9 for a
--- number that no group has
-unfoldable pub record_refusal : Float → ℕ → ℕ → ℕ
-record_refusal window g groups = cond (window_good window) (cond (ltb g groups) 0 9) 8
+-- why a window and a group number are refused, if they are: a window that is not good, then a number that no group has
+unfoldable pub record_refusal : Float → ℕ → ℕ → Option Reason
+record_refusal window g groups =
+    cond (window_good window) (cond (ltb g groups) None (Some OutOfRange)) (Some BadWindow)
 
 -- and it comes after what is refused of the chart
 abbrev pub record_verdict : Verdict → Float → ℕ → ℕ → Verdict
@@ -55,8 +56,7 @@ record_verdict v window g groups = refused_then v (record_refusal window g group
 abbrev pub groups_of : Settings → Chart → ℕ
 groups_of s c = groups_in s.margin c.kinds c.deltas
 
-unfoldable pub record_outcome : Settings → Chart → ℕ → Float → Memory → Outcome Recording Memory
+unfoldable pub record_outcome : Settings → Chart → ℕ → Float → Memory → Outcome (Result GroupRecord Refusal) Memory
 record_outcome s c g window m =
     answered (record_verdict (judged c m) window g (groups_of s c))
-    (outcome (Done (record_at s c.kinds c.starts c.deltas g window)) (cleared (size c) m))
-    answer.Refused m
+    (record_at s c.kinds c.starts c.deltas g window) (cleared (size c) m) m

@@ -1,10 +1,13 @@
 // One rhythm group of a chart, found by passes through the work slices.
-ghost use Rattle.std.specs.Prelude.{◌≡◌, length, drop};
+ghost use Rattle.std.specs.Prelude.{◌≡◌, drop};
 ghost use Rattle.lent.specs.Over.{written};
+ghost use Rattle.grouping_chart.specs.Chart.{size};
+ghost use Rattle.grouping_chart.specs.Lent.{seen};
 ghost use Rattle.call_rhythm.specs.passes.Tables.{notes_writes};
 ghost use Rattle.call_record.specs.passes.Found.{GroupRoom, located_at, locate_writes, found_at, find_writes};
 
 use call_rhythm::tables::number_notes;
+use grouping_chart::chart::Chart;
 use grouping_chart::object::ObjectIndex;
 use grouping_interval::notes::list_notes;
 use grouping_same_rhythm::groups::fill_intervals;
@@ -32,28 +35,29 @@ pub struct FoundGroup {
 
 // The notes of group g. The work slice takes the regions of `number_notes`, and `scratch` the notes' deltas.
 fn locate(
-    kind: &[u8],
-    start: &[f64],
-    delta: &[f64],
+    chart: Chart,
     margin: f64,
     g: usize,
     work: &mut [u16],
     scratch: &mut [f64],
 ) -> LocatedGroup
-    requires { GroupRoom margin kind.now start.now delta.now g work.old scratch.old }
-    ensures found { result ≡ located_at margin kind.now start.now delta.now g }
-    ensures work { work.new ≡ written (notes_writes margin kind.now delta.now) work.old }
-    ensures scratch { scratch.new ≡ written (locate_writes margin kind.now delta.now g) scratch.old }
-    ensures rest { drop (length kind.now) scratch.new ≡ drop (length kind.now) scratch.old }
+    requires { GroupRoom margin chart.kind.now chart.start.now chart.delta.now g work.old scratch.old }
+    ensures found { let c = seen chart.entry in result ≡ located_at margin c.kinds c.starts c.deltas g }
+    ensures work { let c = seen chart.entry in work.new
+        ≡ written (notes_writes margin c.kinds c.deltas) work.old }
+    ensures scratch { let c = seen chart.entry in scratch.new
+        ≡ written (locate_writes margin c.kinds c.deltas g) scratch.old }
+    ensures rest { let c = seen chart.entry in drop (size c) scratch.new ≡ drop (size c) scratch.old }
 {
-    let n = kind.len();
-    let m = list_notes(kind, delta, work, scratch);
+    let n = chart.kind.len();
+    let m = list_notes(chart.kind, chart.delta, work, scratch);
     let groups = number_notes(&scratch[..m], margin, work, n);
     let reached = reach(&mut scratch[..m], margin, g);
     let objects = &work[reached.at..reached.end];
     let notes = objects.len();
     let first = objects[0] as usize;
     let last = objects[notes - 1] as usize;
+    let start = chart.start;
     LocatedGroup {
         first: ObjectIndex(first),
         notes,
@@ -65,25 +69,24 @@ fn locate(
 
 // Group g. Once its notes are located, `scratch` takes the groups' intervals.
 pub fn find(
-    kind: &[u8],
-    start: &[f64],
-    delta: &[f64],
+    chart: Chart,
     margin: f64,
     g: usize,
     work: &mut [u16],
     scratch: &mut [f64],
 ) -> FoundGroup
-    requires { GroupRoom margin kind.now start.now delta.now g work.old scratch.old }
-    ensures found { result ≡ found_at margin kind.now start.now delta.now g }
-    ensures work { work.new ≡ written (notes_writes margin kind.now delta.now) work.old }
-    ensures scratch { scratch.new
-        ≡ written (find_writes margin kind.now start.now delta.now g) scratch.old }
-    ensures rest { drop (length kind.now) scratch.new ≡ drop (length kind.now) scratch.old }
+    requires { GroupRoom margin chart.kind.now chart.start.now chart.delta.now g work.old scratch.old }
+    ensures found { let c = seen chart.entry in result ≡ found_at margin c.kinds c.starts c.deltas g }
+    ensures work { let c = seen chart.entry in work.new
+        ≡ written (notes_writes margin c.kinds c.deltas) work.old }
+    ensures scratch { let c = seen chart.entry in scratch.new
+        ≡ written (find_writes margin c.kinds c.starts c.deltas g) scratch.old }
+    ensures rest { let c = seen chart.entry in drop (size c) scratch.new ≡ drop (size c) scratch.old }
 {
-    let n = kind.len();
-    let located = locate(kind, start, delta, margin, g, work, scratch);
+    let n = chart.kind.len();
+    let located = locate(chart, margin, g, work, scratch);
     let groups = located.groups;
-    fill_intervals(start, &work[n..n + groups], margin, scratch);
+    fill_intervals(chart.start, &work[n..n + groups], margin, scratch);
     let interval = scratch[g];
     let pattern = pattern_at(&scratch[..groups], margin, g);
     FoundGroup {

@@ -4,18 +4,21 @@
 ghost use Rattle.std.specs.Prelude.{◌≡◌, length};
 ghost use Rattle.grouping_chart.specs.Settings.{base_settings};
 ghost use Rattle.grouping_chart.specs.Outcome.{outcome};
-ghost use Rattle.grouping_chart.specs.Chart.{chart};
+ghost use Rattle.grouping_chart.specs.Chart.{size};
+ghost use Rattle.grouping_chart.specs.Lent.{seen};
 ghost use Rattle.call_rhythm.specs.Rhythm.{groups_in};
 ghost use Rattle.call_record.specs.Record.{record_at};
 ghost use Rattle.call_record.specs.Call.{memory, window_good, record_refusal, cleared, record_outcome};
 ghost use Rattle.call_record.specs.passes.Found.{GroupRoom};
 
 use evaluator_rhythm::repeated_interval_penalty;
+use grouping_chart::chart::Chart;
 use grouping_chart::object::ObjectIndex;
-use grouping_chart::refusal::Verdict;
+use grouping_chart::refusal::{Reason, Refusal};
 use grouping_chart::room::judge;
 use grouping_chart::settings;
 use grouping_chart::settings::Settings;
+use grouping_interval::notes::count_groups;
 use lent::fill;
 use numeric::canonical::canonical;
 
@@ -36,51 +39,43 @@ pub struct GroupRecord {
     pub patternratio: f64,
 }
 
-// The record, or the first refusal that applies and its place.
-#[derive(Clone, Copy)]
-pub enum Recording {
-    Done(GroupRecord),
-    Refused(u8, ObjectIndex),
-}
-
 fn window_good(window: f64) -> bool
     ensures { result ≡ window_good window }
 {
     numeric::range::is_within(1.0, 1000.0, window)
 }
 
-// The number of what is refused of an accepted chart's window and group number, or 0: 8 for a window that is not good,
-// then 9 for a number that no group has.
-fn record_refusal(kind: &[u8], delta: &[f64], margin: f64, g: usize, window: f64) -> u8
+// Why an accepted chart's window and group number are refused, if they are: a window that is not good, then a number
+// that no group has.
+fn record_refusal(kind: &[u8], delta: &[f64], margin: f64, g: usize, window: f64) -> Option<Reason>
     requires { length delta.now ≡ length kind.now }
     ensures { result ≡ record_refusal window g (groups_in margin kind.now delta.now) }
 {
-    if window_good(window) {
-        if g < grouping_interval::notes::count_groups(kind, delta, margin) {
-            return 0;
-        }
-        return 9;
+    if !window_good(window) {
+        return Some(Reason::BadWindow);
     }
-    8
+    if count_groups(kind, delta, margin) <= g {
+        return Some(Reason::OutOfRange);
+    }
+    None
 }
 
 // What the call does with an accepted chart and group number: finds the group, clears the work slices, and scores.
 fn make_record(
-    kind: &[u8],
-    start: &[f64],
-    delta: &[f64],
+    chart: Chart,
     s: Settings,
     g: usize,
     window: f64,
     work: &mut [u16],
     scratch: &mut [f64],
 ) -> GroupRecord
-    requires { GroupRoom s.margin kind.now start.now delta.now g work.old scratch.old }
-    ensures made { result ≡ record_at s kind.now start.now delta.now g window }
-    ensures cleared { memory work.new scratch.new ≡ cleared (length kind.now) (memory work.old scratch.old) }
+    requires { GroupRoom s.margin chart.kind.now chart.start.now chart.delta.now g work.old scratch.old }
+    ensures made { let c = seen chart.entry in result ≡ record_at s c.kinds c.starts c.deltas g window }
+    ensures cleared { memory work.new scratch.new
+        ≡ cleared (size (seen chart.entry)) (memory work.old scratch.old) }
 {
-    let n = kind.len();
-    let found = found::find(kind, start, delta, s.margin, g, work, scratch);
+    let n = chart.kind.len();
+    let found = found::find(chart, s.margin, g, work, scratch);
     fill::front(work, 8 * n, 0);
     fill::front(scratch, n, 0.0);
     let located = found.located;
@@ -110,28 +105,19 @@ fn make_record(
 }
 
 pub fn record(
-    kind: &[u8],
-    start: &[f64],
-    delta: &[f64],
-    ratio: &[f64],
-    g: usize,
+    chart: Chart,
+    group: usize,
     window: f64,
     work: &mut [u16],
     scratch: &mut [f64],
-) -> Recording
+) -> Result<GroupRecord, Refusal>
     ensures { outcome result (memory work.new scratch.new)
-        ≡ record_outcome base_settings (chart kind.now start.now delta.now ratio.now) g window
-        (memory work.old scratch.old) }
+        ≡ record_outcome base_settings (seen chart.entry) group window (memory work.old scratch.old) }
 {
-    match judge(kind, start, delta, ratio, false, work.len(), scratch.len()) {
-        Verdict::Refused(number, place) => Recording::Refused(number, place),
-        Verdict::Accepted => {
-            let s = settings::base();
-            let number = record_refusal(kind, delta, s.margin, g, window);
-            if number != 0 {
-                return Recording::Refused(number, ObjectIndex(0));
-            }
-            Recording::Done(make_record(kind, start, delta, s, g, window, work, scratch))
-        }
+    judge(chart, false, work.len(), scratch.len())?;
+    let s = settings::base();
+    if let Some(reason) = record_refusal(chart.kind, chart.delta, s.margin, group, window) {
+        return Err(Refusal::from(reason));
     }
+    Ok(make_record(chart, s, group, window, work, scratch))
 }

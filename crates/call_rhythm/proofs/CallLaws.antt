@@ -11,20 +11,20 @@ use Rattle.grouping_interval.specs.Notes.{of_notes}
 use Rattle.grouping_chart.specs.Chart.{Chart, size}
 use Rattle.grouping_chart.specs.Outcome.{outcome}
 use Rattle.grouping_chart.specs.Settings.{Settings}
-use Rattle.grouping_chart.specs.declared.refusal.Verdict.TheVariants.{Accepted}
 use Rattle.grouping_chart.proofs.OutcomeLaws.{accommodated, answered-done}
 use Rattle.grouping_interval.specs.IntervalGrouping.{interval_marks}
 use Rattle.grouping_same_rhythm.proofs.MadeLaws.{rhythm_marks_made}
-use Rattle.call_rhythm.specs.declared.Grouping.TheVariants as answer
+use Rattle.std.specs.Prelude.{Ok}
+use Rattle.grouping_chart.specs.Refusal.{accepted}
 use Rattle.call_rhythm.specs.declared.tables.GroupCounts.{GroupCounts}
 use Rattle.call_rhythm.specs.Rhythm.{note_group, group_of, counts_of}
-use Rattle.call_rhythm.specs.Call.{Memory, answer_lengths, judged, filled, grouping_done, rhythm_outcome}
+use Rattle.call_rhythm.specs.Call.{Memory, answer_lengths, judged, filled, totals, rhythm_outcome}
 use Rattle.call_rhythm.specs.passes.Tables.{GroupsRoom}
 use Rattle.call_rhythm.proofs.TablesLaws.{accepted-tables}
 use Rattle.call_rhythm.proofs.PerNoteLaws.{length_per_note, per_note_at}
 
 -- an accepted call has room
-pub rhythm_room : (c : Chart) (m : Memory) → judged c m ≡ Accepted → GroupsRoom c.kinds c.starts c.deltas m
+pub rhythm_room : (c : Chart) (m : Memory) → judged c m ≡ accepted → GroupsRoom c.kinds c.starts c.deltas m
 rhythm_room c m h =
     let r = accommodated c (answer_lengths m) _ _ h in
     record { tables = accepted-tables m.work m.scratch r; group_room = r.long.0; pattern_room = r.long.1.0 }
@@ -33,16 +33,16 @@ rhythm_room c m h =
 
 module _ (s : Settings) (c : Chart) (m : Memory) where
   -- the counts and the memory that the passes leave are the definition's
-  pub rhythm-done : (k : GroupCounts) (new : Memory) → judged c m ≡ Accepted → k ≡ counts_of s.margin c.kinds c.starts c.deltas
-      → new ≡ filled s c.kinds c.starts c.deltas m → outcome (grouping_done k) new ≡ rhythm_outcome s c m
+  pub rhythm-done : (k : GroupCounts) (new : Memory) → judged c m ≡ accepted → k ≡ counts_of s.margin c.kinds c.starts c.deltas
+      → new ≡ filled s c.kinds c.starts c.deltas m → outcome (Ok (totals k)) new ≡ rhythm_outcome s c m
   unfolding rhythm_outcome
-  rhythm-done k new h e f = answered-done _ answer.Refused m h (λ t. outcome (grouping_done (e t)) (f t))
+  rhythm-done k new h e f = answered-done _ _ m h (λ t. outcome (Ok (totals (e t))) (f t))
 
-  left : judged c m ≡ Accepted → (rhythm_outcome s c m).memory ≡ filled s c.kinds c.starts c.deltas m
+  left : judged c m ≡ accepted → (rhythm_outcome s c m).memory ≡ filled s c.kinds c.starts c.deltas m
   left h = rw (← rhythm-done _ _ h refl refl)
 
   -- what an accepted call writes for an object that is a note: the group of its note, by the notes' deltas
-  pub group-written : judged c m ≡ Accepted → (o : ℕ) → o < size c → is_note (get_or c.kinds o 0) ≡ true
+  pub group-written : judged c m ≡ accepted → (o : ℕ) → o < size c → is_note (get_or c.kinds o 0) ≡ true
       → get_or (rhythm_outcome s c m).memory.group o 0
       ≡ get_or (group_numbers (interval_marks s.margin (of_notes c.kinds c.deltas))) (note_idx c.kinds o) 0
   unfolding filled group_of note_group

@@ -1,16 +1,15 @@
 -- The call rhythm (scope: Calls and what they fill): what it answers, and what every lent slice holds afterwards.
-use Rattle.std.specs.Prelude.{ℕ, List, [], ◌∷◌, length, Float}
+use Rattle.std.specs.Prelude.{ℕ, List, [], ◌∷◌, length, Float, Result}
 use Rattle.lent.specs.Over.{over}
 use Rattle.grouping_chart.specs.Chart.{Chart}
 use Rattle.grouping_chart.specs.Room.{cleared_work, cleared_scratch}
-use Rattle.grouping_chart.specs.Outcome.{Outcome, outcome, judged_by, answered}
+use Rattle.grouping_chart.specs.Outcome.{Outcome, judged_by, answered}
 use Rattle.grouping_chart.specs.Settings.{Settings}
-use Rattle.grouping_chart.specs.declared.refusal.Verdict.{Verdict}
+use Rattle.grouping_chart.specs.Refusal.{Verdict}
+use Rattle.grouping_chart.specs.declared.refusal.Refusal.{Refusal}
 use Rattle.call_rhythm.specs.Rhythm.{group_of, pattern_group_of, counts_of}
 use Rattle.call_rhythm.specs.declared.tables.GroupCounts.{GroupCounts}
-use Rattle.call_rhythm.specs.declared.Grouping.{Grouping}
-use Rattle.call_rhythm.specs.declared.Grouping.TheVariants.{Done}
-use Rattle.call_rhythm.specs.declared.Grouping.TheVariants as answer
+use Rattle.call_rhythm.specs.declared.GroupTotals.{GroupTotals}
 
 -- the slices that are lent to be written: two answers and two work slices
 pub record Memory : Type 0 where
@@ -41,11 +40,10 @@ filled s kinds starts deltas m = record {
 }
 
 -- the two numbers that an accepted call answers
-abbrev pub grouping_done : GroupCounts → Grouping
-grouping_done k = Done k.groups k.patterns
+abbrev pub totals : GroupCounts → GroupTotals
+totals k = record { groups = k.groups; patterns = k.patterns }
 
-unfoldable pub rhythm_outcome : Settings → Chart → Memory → Outcome Grouping Memory
+unfoldable pub rhythm_outcome : Settings → Chart → Memory → Outcome (Result GroupTotals Refusal) Memory
 rhythm_outcome s c m =
-    let counts = counts_of s.margin c.kinds c.starts c.deltas in
-    answered (judged c m)
-    (outcome (grouping_done counts) (filled s c.kinds c.starts c.deltas m)) answer.Refused m
+    answered (judged c m) (totals (counts_of s.margin c.kinds c.starts c.deltas))
+    (filled s c.kinds c.starts c.deltas m) m

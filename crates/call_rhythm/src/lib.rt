@@ -4,14 +4,14 @@
 ghost use Rattle.std.specs.Prelude.{◌≡◌};
 ghost use Rattle.grouping_chart.specs.Settings.{base_settings};
 ghost use Rattle.grouping_chart.specs.Outcome.{outcome};
-ghost use Rattle.grouping_chart.specs.Chart.{chart};
+ghost use Rattle.grouping_chart.specs.Lent.{seen};
 ghost use Rattle.call_rhythm.specs.Rhythm.{counts_of};
 ghost use Rattle.call_rhythm.specs.Call.{memory, filled, rhythm_outcome};
 ghost use Rattle.call_rhythm.specs.passes.Tables.{GroupsRoom};
 
 use crate::tables::GroupCounts;
-use grouping_chart::object::ObjectIndex;
-use grouping_chart::refusal::Verdict;
+use grouping_chart::chart::Chart;
+use grouping_chart::refusal::Refusal;
 use grouping_chart::room::judge;
 use grouping_chart::settings;
 use grouping_chart::settings::Settings;
@@ -20,59 +20,53 @@ use lent::fill;
 pub mod spread;
 pub mod tables;
 
-// How many groups and pattern groups there are, or the first refusal that applies and its place.
+// How many rhythm groups and pattern groups there are.
 #[derive(Clone, Copy)]
-pub enum Grouping {
-    Done(usize, usize),
-    Refused(u8, ObjectIndex),
+pub struct GroupTotals {
+    pub groups: usize,
+    pub patterns: usize,
 }
 
 // What the call does with an accepted chart: group, fill the answers, and clear the work slices.
 fn fill_groups(
-    kind: &[u8],
-    start: &[f64],
-    delta: &[f64],
+    chart: Chart,
     s: Settings,
     group: &mut [u16],
     pattern: &mut [u16],
     work: &mut [u16],
     scratch: &mut [f64],
 ) -> GroupCounts
-    requires { GroupsRoom kind.now start.now delta.now (memory group.old pattern.old work.old scratch.old) }
-    ensures counts { result ≡ counts_of s.margin kind.now start.now delta.now }
-    ensures filled { memory group.new pattern.new work.new scratch.new
-        ≡ filled s kind.now start.now delta.now (memory group.old pattern.old work.old scratch.old) }
+    requires { GroupsRoom chart.kind.now chart.start.now chart.delta.now
+        (memory group.old pattern.old work.old scratch.old) }
+    ensures counts { let c = seen chart.entry in result ≡ counts_of s.margin c.kinds c.starts c.deltas }
+    ensures filled { let c = seen chart.entry in memory group.new pattern.new work.new scratch.new
+        ≡ filled s c.kinds c.starts c.deltas (memory group.old pattern.old work.old scratch.old) }
 {
-    let n = kind.len();
-    let k = tables::group_notes(kind, start, delta, s.margin, work, scratch);
-    spread::fill_answers(kind, k, work, group, pattern);
+    let n = chart.kind.len();
+    let k = tables::group_notes(chart, s.margin, work, scratch);
+    spread::fill_answers(chart.kind, k, work, group, pattern);
     fill::front(work, 8 * n, 0);
     fill::front(scratch, n, 0.0);
     k
 }
 
 pub fn rhythm(
-    kind: &[u8],
-    start: &[f64],
-    delta: &[f64],
-    ratio: &[f64],
+    chart: Chart,
     group: &mut [u16],
     pattern: &mut [u16],
     work: &mut [u16],
     scratch: &mut [f64],
-) -> Grouping
+) -> Result<GroupTotals, Refusal>
     ensures { outcome result (memory group.new pattern.new work.new scratch.new)
-        ≡ rhythm_outcome base_settings (chart kind.now start.now delta.now ratio.now)
+        ≡ rhythm_outcome base_settings (seen chart.entry)
         (memory group.old pattern.old work.old scratch.old) }
 {
-    let n = kind.len();
+    let n = chart.kind.len();
     let short = (group.len() < n) | (pattern.len() < n);
-    match judge(kind, start, delta, ratio, short, work.len(), scratch.len()) {
-        Verdict::Refused(number, place) => Grouping::Refused(number, place),
-        Verdict::Accepted => {
-            let s = settings::base();
-            let k = fill_groups(kind, start, delta, s, group, pattern, work, scratch);
-            Grouping::Done(k.groups, k.patterns)
-        }
-    }
+    judge(chart, short, work.len(), scratch.len())?;
+    let k = fill_groups(chart, settings::base(), group, pattern, work, scratch);
+    Ok(GroupTotals {
+        groups: k.groups,
+        patterns: k.patterns,
+    })
 }

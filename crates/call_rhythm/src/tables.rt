@@ -2,11 +2,13 @@
 ghost use Rattle.std.specs.Prelude.{◌≡◌, ◌*◌, length, take};
 ghost use Rattle.lent.specs.Over.{over, put, written};
 ghost use Rattle.grouping_marks.specs.Marks.{group_count, group_numbers};
+ghost use Rattle.grouping_chart.specs.Lent.{seen};
 ghost use Rattle.grouping_interval.specs.IntervalGrouping.{interval_marks};
 ghost use Rattle.call_rhythm.specs.Rhythm.{counts_of};
 ghost use Rattle.call_rhythm.specs.passes.Tables.{NumbersRoom, numbers_writes, FirstsThere, intervals_from};
 ghost use Rattle.call_rhythm.specs.passes.Tables.{patterns_from, TablesRoom, work_writes, scratch_writes};
 
+use grouping_chart::chart::Chart;
 use grouping_interval::marks::mark_intervals;
 use grouping_interval::notes::list_notes;
 use grouping_interval::{as_usize, group_by_interval};
@@ -67,24 +69,18 @@ fn number_groups(
 }
 
 // Fills all four.
-pub fn group_notes(
-    kind: &[u8],
-    start: &[f64],
-    delta: &[f64],
-    margin: f64,
-    work: &mut [u16],
-    scratch: &mut [f64],
-) -> GroupCounts
-    requires { TablesRoom kind.now start.now delta.now work.old scratch.old }
-    ensures count { result ≡ counts_of margin kind.now start.now delta.now }
-    ensures work { work.new ≡ written (work_writes margin kind.now start.now delta.now) work.old }
-    ensures scratch { scratch.new
-        ≡ written (scratch_writes margin kind.now start.now delta.now) scratch.old }
+pub fn group_notes(chart: Chart, margin: f64, work: &mut [u16], scratch: &mut [f64]) -> GroupCounts
+    requires { TablesRoom chart.kind.now chart.start.now chart.delta.now work.old scratch.old }
+    ensures count { let c = seen chart.entry in result ≡ counts_of margin c.kinds c.starts c.deltas }
+    ensures work { let c = seen chart.entry in work.new
+        ≡ written (work_writes margin c.kinds c.starts c.deltas) work.old }
+    ensures scratch { let c = seen chart.entry in scratch.new
+        ≡ written (scratch_writes margin c.kinds c.starts c.deltas) scratch.old }
 {
-    let n = kind.len();
-    let notes = list_notes(kind, delta, work, scratch);
+    let n = chart.kind.len();
+    let notes = list_notes(chart.kind, chart.delta, work, scratch);
     let groups = number_notes(&scratch[..notes], margin, work, n);
-    let patterns = number_groups(start, margin, n, groups, work, scratch);
+    let patterns = number_groups(chart.start, margin, n, groups, work, scratch);
     GroupCounts {
         notes,
         groups,

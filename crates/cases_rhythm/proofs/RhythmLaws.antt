@@ -2,21 +2,15 @@
 use mathlib.Core.Path.{◌≡◌, ap, ◌∙◌}
 use mathlib.Core.List.{List}
 use Rattle.std.specs.Prelude.{Some}
-use mathlib.Core.Bool.{Bool, false, ◌&&◌}
+use mathlib.Core.Bool.{Bool}
 use Prim.Native.Nat.{ℕ, ◌+◌, ◌-◌, ◌*◌, ◌≤◌}
 use native.Mathlib.Omega.{arith}
-use lib.Dec.{eqb}
 use lib.ListN.{length, take, drop, replicate}
 use lib.Ieee.{Float, binary64, of_bits}
 use Rattle.lent.proofs.OverLaws.{lent-part}
-use Rattle.lent.proofs.NeverLaws.{never}
 use Rattle.grouping_chart.specs.Chart.{Chart, largest}
 use Rattle.grouping_chart.specs.Settings.{base_settings}
-use Rattle.grouping_chart.specs.declared.object.ObjectIndex.{ObjectIndex}
 use Rattle.call_rhythm.specs.Call.{Memory, rhythm_outcome}
-use Rattle.call_rhythm.specs.declared.Grouping.{Grouping}
-use Rattle.call_rhythm.specs.declared.Grouping.TheVariants.{Done, Refused}
-use Rattle.vectors.specs.Case.{pair_at}
 use Rattle.vectors.specs.Held.{Tells}
 use Rattle.vectors.specs.Table.{entries}
 use Rattle.vectors.specs.declared.call.Call.TheVariants.{Rhythm}
@@ -24,22 +18,10 @@ use Rattle.vectors.specs.declared.case.Head.{Head}
 use Rattle.vectors.specs.Sentinel.{number_sentinel, float_sentinel}
 use Rattle.vectors.specs.passes.Room.{most_places, most_work, Few}
 use Rattle.vectors.proofs.TableLaws.{entries_front}
-use Rattle.vectors.proofs.TellsLaws.{denied, tells_as, tells_both, tells_of, tells_eqb}
+use Rattle.vectors.proofs.TellsLaws.{tells_of}
 use Rattle.vectors.proofs.SentinelLaws.{code_one, ones_lent, numbers-lent, work-lent, floats-lent}
 use Rattle.cases_rhythm.specs.Rhythm.{rhythm_chart, rhythm_lent, RhythmStored, RhythmForm, RhythmHolds}
 use Rattle.cases_rhythm.specs.passes.Times.{TimesRead}
-
--- ---- the answer of rhythm
-
-module _ (body : List ℕ) (answer : Grouping) where
-  pub counts-told : (groups patterns : ℕ) {a b : ℕ} {r : Bool} → answer ≡ Done groups patterns
-      → a ≡ pair_at body 0 → b ≡ pair_at body 2 → r ≡ (eqb groups a && eqb patterns b)
-      → Tells r (answer ≡ Done (pair_at body 0) (pair_at body 2))
-  counts-told groups patterns {a} {b} e p q c =
-      tells_as (λ h. e ∙ (λ i. Done ((h.0 ∙ p) i) ((h.1 ∙ q) i))) (λ h. (cc, cc)) (tells_both _ _ c (tells_eqb groups a) (tells_eqb patterns b))
-
-  pub counts-refused : (number : ℕ) (place : ObjectIndex) → answer ≡ Refused number place → Tells false (answer ≡ Done (pair_at body 0) (pair_at body 2))
-  counts-refused number place e = denied (λ h. never (cc))
 
 -- ---- the chart and the slices, as fronts of what the code makes
 

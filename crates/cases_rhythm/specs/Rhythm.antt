@@ -1,14 +1,14 @@
 -- When a stored case of rhythm holds: on the chart that its bytes say and slices full of sentinels
 -- the call's definition gives the original's answer.
-use Rattle.std.specs.Prelude.{◌≡◌, List, ℕ, ◌+◌, ◌*◌, length, replicate}
+use Rattle.std.specs.Prelude.{◌≡◌, List, ℕ, ◌+◌, ◌*◌, length, replicate, Result, Ok}
 use Rattle.lent.specs.Over.{part}
 use Rattle.numeric.specs.Constants.{one64}
 use Rattle.grouping_chart.specs.Chart.{Chart}
 use Rattle.grouping_chart.specs.Outcome.{Outcome}
 use Rattle.grouping_chart.specs.Settings.{base_settings}
+use Rattle.grouping_chart.specs.declared.refusal.Refusal.{Refusal}
 use Rattle.call_rhythm.specs.Call.{Memory, rhythm_outcome}
-use Rattle.call_rhythm.specs.declared.Grouping.{Grouping}
-use Rattle.call_rhythm.specs.declared.Grouping.TheVariants.{Done}
+use Rattle.call_rhythm.specs.declared.GroupTotals.{GroupTotals}
 use Rattle.vectors.specs.Case.{pair_at}
 use Rattle.vectors.specs.Table.{entries}
 use Rattle.vectors.specs.declared.call.Call.TheVariants.{Rhythm}
@@ -39,9 +39,13 @@ rhythm_lent n spare = record {
   scratch = floats_lent n spare;
 }
 
+-- how many groups and pattern groups are stored
+abbrev pub totals_at : List ℕ → GroupTotals
+totals_at body = record { groups = pair_at body 0; patterns = pair_at body 2 }
+
 -- both counts, the numbers of each object, which have two bytes, and cleared work slices
-pub record RhythmStored (n : ℕ) (body : List ℕ) (o : Outcome Grouping Memory) : Type 0 where
-  pub answer : o.answer ≡ Done (pair_at body 0) (pair_at body 2)
+pub record RhythmStored (n : ℕ) (body : List ℕ) (o : Outcome (Result GroupTotals Refusal) Memory) : Type 0 where
+  pub answer : o.answer ≡ Ok (totals_at body)
   pub numbers : ColumnsHeld body (4 + 17 * n) (2 * n) 2 n o.memory.group o.memory.pattern
   pub cleared : Cleared n o.memory.work o.memory.scratch
 

@@ -4,19 +4,19 @@
 ghost use Rattle.std.specs.Prelude.{◌≡◌, ◌+◌, ◌≤◌, length};
 ghost use Rattle.grouping_chart.specs.Settings.{base_settings};
 ghost use Rattle.grouping_chart.specs.Outcome.{outcome};
-ghost use Rattle.grouping_chart.specs.Chart.{chart};
+ghost use Rattle.grouping_chart.specs.Lent.{seen};
 ghost use Rattle.call_rhythm.specs.Call.{memory, rhythm_outcome};
-ghost use Rattle.call_rhythm.specs.declared.Grouping.TheVariants as grouping;
-ghost use Rattle.vectors.specs.Case.{pair_at};
 ghost use Rattle.vectors.specs.Held.{Tells};
-ghost use Rattle.cases_rhythm.specs.Rhythm.{rhythm_chart, rhythm_lent, RhythmStored, RhythmForm, RhythmHolds};
+ghost use Rattle.cases_rhythm.specs.Rhythm.{rhythm_chart, rhythm_lent, totals_at, RhythmStored};
+ghost use Rattle.cases_rhythm.specs.Rhythm.{RhythmForm, RhythmHolds};
 ghost use Rattle.cases_rhythm.specs.passes.Times.{TimesRoom, TimesRead};
 
-use call_rhythm::Grouping;
+use call_rhythm::GroupTotals;
+use grouping_chart::chart::Chart;
+use grouping_chart::refusal::Refusal;
 use vectors::call::Call;
 use vectors::case::Head;
 use vectors::form::formed;
-use vectors::held::both;
 use vectors::room::{Room, Spare};
 use vectors::sentinel::{FLOAT_SENTINEL, MOST_OBJECTS, MOST_PLACES, MOST_WORK, NUMBER_SENTINEL};
 use vectors::{case, sentinel, table};
@@ -31,15 +31,15 @@ pub fn read_times(n: usize, body: &[u8], start: &mut [f64], delta: &mut [f64])
 }
 
 // Whether the chart is accepted, with as many groups and pattern groups as the body's first two numbers say.
-fn counts_hold(body: &[u8], answer: Grouping) -> bool
-    ensures { Tells result (answer ≡ grouping.Done (pair_at body.now 0) (pair_at body.now 2)) }
+fn counts_hold(body: &[u8], answer: Result<GroupTotals, Refusal>) -> bool
+    ensures { Tells result (answer ≡ Ok (totals_at body.now)) }
 {
     match answer {
-        Grouping::Done(groups, patterns) => both(
-            groups == case::pair_at(body, 0) as usize,
-            patterns == case::pair_at(body, 2) as usize,
-        ),
-        Grouping::Refused(_, _) => false,
+        Ok(k) => {
+            k.groups == usize::from(case::pair_at(body, 0))
+                && k.patterns == usize::from(case::pair_at(body, 2))
+        }
+        Err(_) => false,
     }
 }
 
@@ -47,7 +47,7 @@ fn counts_hold(body: &[u8], answer: Grouping) -> bool
 fn outcome_holds(
     room: Room,
     body: &[u8],
-    answer: Grouping,
+    answer: Result<GroupTotals, Refusal>,
     group: &[u16],
     pattern: &[u16],
     work: &[u16],
@@ -66,20 +66,16 @@ fn outcome_holds(
 fn lent_holds(
     room: Room,
     body: &[u8],
-    kind: &[u8],
-    start: &[f64],
-    delta: &[f64],
-    one: &[f64],
+    chart: Chart,
     group: &mut [u16],
     pattern: &mut [u16],
     work: &mut [u16],
     scratch: &mut [f64],
 ) -> bool
     ensures { Tells result (RhythmStored room.head.objects body.now
-        (rhythm_outcome base_settings (chart kind.now start.now delta.now one.now)
-        (memory group.old pattern.old work.old scratch.old))) }
+        (rhythm_outcome base_settings (seen chart.entry) (memory group.old pattern.old work.old scratch.old))) }
 {
-    let answer = call_rhythm::rhythm(kind, start, delta, one, group, pattern, work, scratch);
+    let answer = call_rhythm::rhythm(chart, group, pattern, work, scratch);
     outcome_holds(room, body, answer, group, pattern, work, scratch)
 }
 
@@ -94,13 +90,17 @@ fn call_holds(room: Room, body: &[u8]) -> bool
     let mut starts = [0.0; MOST_OBJECTS];
     let mut deltas = [0.0; MOST_OBJECTS];
     read_times(n, body, &mut starts, &mut deltas);
+    let ones = [1.0; MOST_OBJECTS];
+    let chart = Chart {
+        kind: &body[4..4 + n],
+        start: &starts[..n],
+        delta: &deltas[..n],
+        ratio: &ones[..n],
+    };
     lent_holds(
         room,
         body,
-        &body[4..4 + n],
-        &starts[..n],
-        &deltas[..n],
-        &[1.0; MOST_OBJECTS][..n],
+        chart,
         &mut [NUMBER_SENTINEL; MOST_PLACES][..places],
         &mut [NUMBER_SENTINEL; MOST_PLACES][..places],
         &mut [NUMBER_SENTINEL; MOST_WORK][..8 * n + room.spare],

@@ -1,60 +1,47 @@
--- `record` meets its contract: the verdict of the definition is the one that the tests gave, and each case leaves its outcome.
-use mathlib.Core.Path.{◌≡◌, ap, ◌∙◌}
-use Prim.Native.Nat.{ℕ}
-use lib.Ieee.{Float}
-use Rattle.grouping_chart.specs.Chart.{Chart, size, chart}
-use Rattle.grouping_chart.specs.Settings.{Settings, base_settings}
-use Rattle.grouping_chart.specs.Outcome.{Outcome}
-use Rattle.grouping_chart.proofs.OutcomeLaws.{verdict-judged}
-use Rattle.grouping_chart.proofs.RoomLaws.{none_asked}
-use Rattle.call_record.specs.declared.Recording.{Recording}
-use Rattle.call_record.specs.Call.{Memory, memory, answer_lengths, record_outcome}
-use Rattle.call_record.proofs.CallLaws.{lengths_same, outcome-refused, number_refused, group_room, outcome-done}
+-- The verdict of the definition is the one that the tests gave, and each case leaves its outcome.
+use Rattle.std.proofs.Common.{◌≡◌, sym, ◌∙◌, ap, Err, rules}
+use Rattle.grouping_chart.specs.Lent.{seen}
+use Rattle.grouping_chart.specs.Settings.{base_settings}
+use Rattle.grouping_chart.specs.Outcome.{outcome}
+use Rattle.call_record.specs.Call.{memory}
+use Rattle.call_record.proofs.CallLaws.{told, lengths_same, outcome-refused, asked_refused, group_room, outcome-done}
 use Rattle.call_record.proofs.record.Goals as goal
 
--- what is said under the settings that were made is said under the base's
-at_base : (ch : Chart) (g : ℕ) (window : Float) (m : Memory) {s : Settings} {o : Outcome Recording Memory} → o ≡ record_outcome s ch g window m
-    → s ≡ base_settings → o ≡ record_outcome base_settings ch g window m
-at_base ch g window m e f = e ∙ ap (λ (s : Settings). record_outcome s ch g window m) f
-
-pub record_refusal-number-requires : goal.record_refusal-number-requires
-record_refusal-number-requires c =
+pub returns-in_err-judge : goal.returns-in_err-judge
+returns-in_err-judge c =
     let a = c.args in
-    let ch = chart a.kind.now a.start.now a.delta.now a.ratio.now in
     let m = memory a.work.now a.scratch.now in
-    lengths_same ch m (verdict-judged ch (answer_lengths m) _ _ (none_asked (size ch)) c.judge.ensures c.in-Accepted.is)
+    let judged = told (seen a.chart) m c.judge.ensures c.in_err-judge.was in
+    let same : c.from_residual.result ≡ Err c.in_err-judge.field-0.0 = search rules in
+    ap (λ r. outcome r m) same ∙ outcome-refused base_settings (seen a.chart) m a.group a.window judged
 
-pub returns-then-number-ne0 : goal.returns-then-number-ne0
-returns-then-number-ne0 c =
+pub record_refusal-requires : goal.record_refusal-requires
+record_refusal-requires c =
     let a = c.args in
-    let ch = chart a.kind.now a.start.now a.delta.now a.ratio.now in
     let m = memory a.work.now a.scratch.now in
-    at_base ch a.g a.window m
-    (number_refused c.base-s.result ch m a.g a.window (verdict-judged ch (answer_lengths m) _ _ (none_asked (size ch)) c.judge.ensures c.in-Accepted.is)
-    c.record_refusal-number.ensures c.if-number-ne0.true) c.base-s.ensures
+    lengths_same (seen a.chart) m (told (seen a.chart) m c.judge.ensures c.in_ok-judge.was)
+
+pub returns-in-Some : goal.returns-in-Some
+returns-in-Some c =
+    let a = c.args in
+    let m = memory a.work.now a.scratch.now in
+    let judged = told (seen a.chart) m c.judge.ensures c.in_ok-judge.was in
+    let asked = sym c.record_refusal.ensures ∙ c.in-Some.is in
+    ap (λ f. outcome (Err f) m) c.from.ensures
+    ∙ rw c.base-s.ensures at (asked_refused c.base-s.result (seen a.chart) m a.group a.window judged asked)
 
 pub make_record-requires : goal.make_record-requires
 make_record-requires c =
     let a = c.args in
-    let ch = chart a.kind.now a.start.now a.delta.now a.ratio.now in
     let m = memory a.work.now a.scratch.now in
-    group_room c.base-s.result ch m a.g a.window (verdict-judged ch (answer_lengths m) _ _ (none_asked (size ch)) c.judge.ensures c.in-Accepted.is)
-    c.record_refusal-number.ensures c.if-number-ne0.false
+    let judged = told (seen a.chart) m c.judge.ensures c.in_ok-judge.was in
+    group_room c.base-s.result (seen a.chart) m a.group a.window judged (sym c.record_refusal.ensures ∙ c.in_default.is)
 
-pub returns-in-Refused : goal.returns-in-Refused
-returns-in-Refused c =
+pub returns : goal.returns
+returns c =
     let a = c.args in
-    let ch = chart a.kind.now a.start.now a.delta.now a.ratio.now in
     let m = memory a.work.now a.scratch.now in
-    outcome-refused base_settings ch m a.g a.window (verdict-judged ch (answer_lengths m) _ _ (none_asked (size ch)) c.judge.ensures c.in-Refused.is)
-
-pub returns-else-number-ne0 : goal.returns-else-number-ne0
-returns-else-number-ne0 c =
-    let a = c.args in
-    let ch = chart a.kind.now a.start.now a.delta.now a.ratio.now in
-    let m = memory a.work.now a.scratch.now in
+    let judged = told (seen a.chart) m c.judge.ensures c.in_ok-judge.was in
+    let none = sym c.record_refusal.ensures ∙ c.in_default.is in
     let made = c.make_record.ensures in
-    at_base ch a.g a.window m
-    (outcome-done c.base-s.result ch m a.g a.window (verdict-judged ch (answer_lengths m) _ _ (none_asked (size ch)) c.judge.ensures c.in-Accepted.is)
-    c.record_refusal-number.ensures
-    c.if-number-ne0.false _ _ made.made made.cleared) c.base-s.ensures
+    rw c.base-s.ensures at (outcome-done c.base-s.result (seen a.chart) m a.group a.window judged none _ _ made.made made.cleared)

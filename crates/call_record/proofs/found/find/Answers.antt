@@ -1,4 +1,4 @@
--- `find` meets its contract: the intervals are made where the first objects were left, and the group is read from them.
+-- The intervals are made where the first objects were left, and the group is read from them.
 use native.Mathlib.Omega.{arith}
 use Rattle.call_record.proofs.FindLaws.{located_is, groups-small, group-below, region_inside, intervals_room}
 use Rattle.call_record.proofs.FindLaws.{intervals-inside, intervals-counted, found, scratch-found, past_found}
