@@ -1,22 +1,14 @@
 -- What a host gets for each answer (scope: "Calls and what they fill"): a record of plain numbers. `refusal` is 0 on
 -- acceptance; on refusal every other field but `place` is 0.
-use Rattle.std.specs.Prelude.{ℕ, pos}
+use Rattle.std.specs.Prelude.{ℕ, pos, Option, None, Some, Result, Ok, Err, Float}
 use Rattle.std.specs.Float.{binary64}
 use Rattle.std.specs.Float.Ieee.{of_bits, to_bits}
 use Rattle.grouping_chart.specs.Outcome.{Outcome, outcome}
-use Rattle.call_build.specs.declared.Building.{Building}
-use Rattle.call_build.specs.declared.Building.TheVariants as building
-use Rattle.call_encode.specs.declared.Encoding.{Encoding}
-use Rattle.call_encode.specs.declared.Encoding.TheVariants as encoding
-use Rattle.call_colour.specs.declared.Colouring.{Colouring}
-use Rattle.call_colour.specs.declared.Colouring.TheVariants as colouring
-use Rattle.call_colour.specs.declared.Stretching.{Stretching}
-use Rattle.call_colour.specs.declared.Stretching.TheVariants as stretching
-use Rattle.std.specs.Prelude.{Option, None, Some, Float}
-use Rattle.call_rhythm.specs.declared.Grouping.{Grouping}
-use Rattle.call_rhythm.specs.declared.Grouping.TheVariants as grouping
-use Rattle.call_record.specs.declared.Recording.{Recording}
-use Rattle.call_record.specs.declared.Recording.TheVariants as record-answer
+use Rattle.grouping_chart.specs.Refusal.{reason_number}
+use Rattle.grouping_chart.specs.declared.refusal.Refusal.{Refusal}
+use Rattle.call_colour.specs.declared.StretchMean.{StretchMean}
+use Rattle.call_rhythm.specs.declared.GroupTotals.{GroupTotals}
+use Rattle.call_record.specs.declared.GroupRecord.{GroupRecord}
 use Rattle.dresserduck.specs.declared.Built.{Built}
 use Rattle.dresserduck.specs.declared.Encoded.{Encoded}
 use Rattle.dresserduck.specs.declared.Coloured.{Coloured}
@@ -24,27 +16,31 @@ use Rattle.dresserduck.specs.declared.Stretched.{Stretched}
 use Rattle.dresserduck.specs.declared.Grouped.{Grouped}
 use Rattle.dresserduck.specs.declared.Recorded.{Recorded}
 
-unfoldable pub built_of : Building → Built
-built_of (building.Done objects) = record { refusal = 0; place = 0; objects = objects }
-built_of (building.Refused number place) = record { refusal = number; place = place.0; objects = 0 }
+unfoldable pub built_of : Result ℕ Refusal → Built
+built_of (Ok objects) = record { refusal = 0; place = 0; objects = objects }
+built_of (Err first) = record { refusal = reason_number first.reason; place = first.place.0; objects = 0 }
 
-unfoldable pub encoded_of : Encoding → Encoded
-encoded_of (encoding.Done count) = record { refusal = 0; place = 0; hitpatterns = count }
-encoded_of (encoding.Refused number place) = record { refusal = number; place = place.0; hitpatterns = 0 }
+unfoldable pub encoded_of : Result ℕ Refusal → Encoded
+encoded_of (Ok count) = record { refusal = 0; place = 0; hitpatterns = count }
+encoded_of (Err first) = record { refusal = reason_number first.reason; place = first.place.0; hitpatterns = 0 }
 
-unfoldable pub coloured_of : Colouring → Coloured
-coloured_of colouring.Done = record { refusal = 0; place = 0 }
-coloured_of (colouring.Refused number place) = record { refusal = number; place = place.0 }
+unfoldable pub coloured_of : Result (Unit {0}) Refusal → Coloured
+coloured_of (Ok done) = record { refusal = 0; place = 0 }
+coloured_of (Err first) = record { refusal = reason_number first.reason; place = first.place.0 }
 
-unfoldable pub stretched_of : Stretching → Stretched
-stretched_of (stretching.Done mean tenths) = record { refusal = 0; place = 0; mean = mean; tenths = tenths }
-stretched_of (stretching.Refused number place) =
-    record { refusal = number; place = place.0; mean = of_bits binary64 0; tenths = pos 0 }
+unfoldable pub stretched_of : Result StretchMean Refusal → Stretched
+stretched_of (Ok found) = record { refusal = 0; place = 0; mean = found.mean; tenths = found.tenths }
+stretched_of (Err first) = record {
+  refusal = reason_number first.reason;
+  place = first.place.0;
+  mean = of_bits binary64 0;
+  tenths = pos 0;
+}
 
-unfoldable pub grouped_of : Grouping → Grouped
-grouped_of (grouping.Done groups patterns) = record
-    { refusal = 0; place = 0; groups = groups; patterngroups = patterns }
-grouped_of (grouping.Refused number place) = record { refusal = number; place = place.0; groups = 0; patterngroups = 0 }
+unfoldable pub grouped_of : Result GroupTotals Refusal → Grouped
+grouped_of (Ok totals) = record { refusal = 0; place = 0; groups = totals.groups; patterngroups = totals.patterns }
+grouped_of (Err first) =
+    record { refusal = reason_number first.reason; place = first.place.0; groups = 0; patterngroups = 0 }
 
 -- an own interval, absent or not, and its bits
 unfoldable pub has_own : Option Float → ℕ
@@ -56,8 +52,8 @@ own_bits None = 0
 own_bits (Some x) = to_bits binary64 x
 
 -- a float leaves as its bits: a NaN as 7FF8000000000000
-unfoldable pub recorded_of : Recording → Recorded
-recorded_of (record-answer.Done r) = record {
+unfoldable pub recorded_of : Result GroupRecord Refusal → Recorded
+recorded_of (Ok r) = record {
   refusal = 0;
   place = 0;
   firstnote = r.first.0;
@@ -70,9 +66,9 @@ recorded_of (record-answer.Done r) = record {
   patterngroup = r.pattern;
   patternratiobits = to_bits binary64 r.patternratio;
 }
-recorded_of (record-answer.Refused number place) = record {
-  refusal = number;
-  place = place.0;
+recorded_of (Err first) = record {
+  refusal = reason_number first.reason;
+  place = first.place.0;
   firstnote = 0;
   notecount = 0;
   hasown = 0;

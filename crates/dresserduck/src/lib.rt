@@ -1,4 +1,5 @@
-// The calls for C and Rust. Each hands its slices on and turns the answer into a record of plain numbers.
+// The calls for C and Rust. Each hands its slices on and turns the answer into a record of plain numbers. The records, the
+// lists of slices and one function for each call are what C asks for.
 #![tactic(auto)]
 
 ghost use Rattle.std.specs.Prelude.{◌≡◌};
@@ -11,42 +12,41 @@ ghost use Rattle.call_encode.specs.Call as encode;
 ghost use Rattle.call_colour.specs.Call as calls;
 ghost use Rattle.call_rhythm.specs.Call as rhythm;
 ghost use Rattle.call_record.specs.Call as recording;
-ghost use Rattle.call_record.specs.declared.Recording.TheVariants as answer;
 ghost use Rattle.dresserduck.specs.Host.{built_of, encoded_of, coloured_of, stretched_of, grouped_of, recorded_of};
 ghost use Rattle.dresserduck.specs.Host.{has_own, own_bits, for_host};
 
-use call_build::Building;
-use call_colour::{Colouring, Stretching};
-use call_encode::Encoding;
-use call_record::Recording;
-use call_rhythm::Grouping;
+use call_build::Raw;
+use call_colour::StretchMean;
+use call_record::GroupRecord;
+use call_rhythm::GroupTotals;
+use grouping_chart::chart::Chart;
+use grouping_chart::refusal::Refusal;
 use numeric::canonical::bits;
 
 // dresserduck_built in the header.
 #[repr(C)]
-#[derive(Clone, Copy)]
+#[derive(Clone, Copy, Default)]
 pub struct Built {
     pub refusal: u64,
     pub place: u64,
     pub objects: u64,
 }
 
-fn built_of(answer: Building) -> Built
-    ensures { result ≡ built_of answer }
-{
-    match answer {
-        Building::Done(objects) => Built {
-            refusal: 0,
-            place: 0,
-            objects: objects as u64,
-        },
-        Building::Refused(number, place) => {
-            let at = place.0;
-            Built {
-                refusal: number as u64,
-                place: at as u64,
-                objects: 0,
-            }
+impl From<Result<usize, Refusal>> for Built {
+    ghost from_gives = { λ answer told. told ≡ built_of answer };
+
+    #[tactic(auto, unfolding(crate::specs::Host::built_of))]
+    fn from(answer: Result<usize, Refusal>) -> Built {
+        match answer {
+            Ok(objects) => Built {
+                objects: objects as u64,
+                ..Built::default()
+            },
+            Err(first) => Built {
+                refusal: u64::from(first.reason),
+                place: first.place.0 as u64,
+                ..Built::default()
+            },
         }
     }
 }
@@ -65,35 +65,34 @@ pub extern "C" fn dresserduck_build(
         ≡ for_host built_of (build.build_outcome rate (raw kind.now time.now)
         (build.memory built_kind.old start.old delta.old ratio.old)) }
 {
-    let answer = call_build::build(kind, time, rate, built_kind, start, delta, ratio);
-    built_of(answer)
+    let raw = Raw { kind, time };
+    Built::from(call_build::build(raw, rate, built_kind, start, delta, ratio))
 }
 
 // dresserduck_encoded in the header.
 #[repr(C)]
-#[derive(Clone, Copy)]
+#[derive(Clone, Copy, Default)]
 pub struct Encoded {
     pub refusal: u64,
     pub place: u64,
     pub hitpatterns: u64,
 }
 
-fn encoded_of(answer: Encoding) -> Encoded
-    ensures { result ≡ encoded_of answer }
-{
-    match answer {
-        Encoding::Done(count) => Encoded {
-            refusal: 0,
-            place: 0,
-            hitpatterns: count as u64,
-        },
-        Encoding::Refused(number, place) => {
-            let at = place.0;
-            Encoded {
-                refusal: number as u64,
-                place: at as u64,
-                hitpatterns: 0,
-            }
+impl From<Result<usize, Refusal>> for Encoded {
+    ghost from_gives = { λ answer told. told ≡ encoded_of answer };
+
+    #[tactic(auto, unfolding(crate::specs::Host::encoded_of))]
+    fn from(answer: Result<usize, Refusal>) -> Encoded {
+        match answer {
+            Ok(count) => Encoded {
+                hitpatterns: count as u64,
+                ..Encoded::default()
+            },
+            Err(first) => Encoded {
+                refusal: u64::from(first.reason),
+                place: first.place.0 as u64,
+                ..Encoded::default()
+            },
         }
     }
 }
@@ -120,11 +119,14 @@ pub extern "C" fn dresserduck_encode(
         (encode.memory streak.old streak_place.old pattern.old pattern_place.old hit.old interval.old work.old
         scratch.old)) }
 {
-    let answer = call_encode::encode(
+    let chart = Chart {
         kind,
         start,
         delta,
         ratio,
+    };
+    Encoded::from(call_encode::encode(
+        chart,
         streak,
         streak_place,
         pattern,
@@ -133,32 +135,29 @@ pub extern "C" fn dresserduck_encode(
         interval,
         work,
         scratch,
-    );
-    encoded_of(answer)
+    ))
 }
 
 // dresserduck_coloured in the header.
 #[repr(C)]
-#[derive(Clone, Copy)]
+#[derive(Clone, Copy, Default)]
 pub struct Coloured {
     pub refusal: u64,
     pub place: u64,
 }
 
-fn coloured_of(answer: Colouring) -> Coloured
-    ensures { result ≡ coloured_of answer }
-{
-    match answer {
-        Colouring::Done => Coloured {
-            refusal: 0,
-            place: 0,
-        },
-        Colouring::Refused(number, place) => {
-            let at = place.0;
-            Coloured {
-                refusal: number as u64,
-                place: at as u64,
-            }
+impl From<Result<(), Refusal>> for Coloured {
+    ghost from_gives = { λ answer told. told ≡ coloured_of answer };
+
+    #[tactic(auto, unfolding(crate::specs::Host::coloured_of))]
+    fn from(answer: Result<(), Refusal>) -> Coloured {
+        match answer {
+            Ok(()) => Coloured::default(),
+            Err(first) => Coloured {
+                refusal: u64::from(first.reason),
+                place: first.place.0 as u64,
+                ..Coloured::default()
+            },
         }
     }
 }
@@ -177,13 +176,18 @@ pub extern "C" fn dresserduck_colour(
         ≡ for_host coloured_of (calls.colour_outcome base_settings (chart kind.now start.now delta.now ratio.now)
         (calls.memory value.old work.old scratch.old)) }
 {
-    let answer = call_colour::colour(kind, start, delta, ratio, value, work, scratch);
-    coloured_of(answer)
+    let chart = Chart {
+        kind,
+        start,
+        delta,
+        ratio,
+    };
+    Coloured::from(call_colour::colour(chart, value, work, scratch))
 }
 
 // dresserduck_stretched in the header.
 #[repr(C)]
-#[derive(Clone, Copy)]
+#[derive(Clone, Copy, Default)]
 pub struct Stretched {
     pub refusal: u64,
     pub place: u64,
@@ -191,24 +195,22 @@ pub struct Stretched {
     pub tenths: i64,
 }
 
-fn stretched_of(answer: Stretching) -> Stretched
-    ensures { result ≡ stretched_of answer }
-{
-    match answer {
-        Stretching::Done(mean, tenths) => Stretched {
-            refusal: 0,
-            place: 0,
-            mean,
-            tenths,
-        },
-        Stretching::Refused(number, place) => {
-            let at = place.0;
-            Stretched {
-                refusal: number as u64,
-                place: at as u64,
-                mean: 0.0,
-                tenths: 0,
-            }
+impl From<Result<StretchMean, Refusal>> for Stretched {
+    ghost from_gives = { λ answer told. told ≡ stretched_of answer };
+
+    #[tactic(auto, unfolding(crate::specs::Host::stretched_of))]
+    fn from(answer: Result<StretchMean, Refusal>) -> Stretched {
+        match answer {
+            Ok(found) => Stretched {
+                mean: found.mean,
+                tenths: found.tenths,
+                ..Stretched::default()
+            },
+            Err(first) => Stretched {
+                refusal: u64::from(first.reason),
+                place: first.place.0 as u64,
+                ..Stretched::default()
+            },
         }
     }
 }
@@ -229,13 +231,18 @@ pub extern "C" fn dresserduck_stretch(
         ≡ for_host stretched_of (calls.stretch_outcome base_settings (chart kind.now start.now delta.now ratio.now) a b
         (calls.memory value.old work.old scratch.old)) }
 {
-    let answer = call_colour::stretch(kind, start, delta, ratio, a, b, value, work, scratch);
-    stretched_of(answer)
+    let chart = Chart {
+        kind,
+        start,
+        delta,
+        ratio,
+    };
+    Stretched::from(call_colour::stretch(chart, a, b, value, work, scratch))
 }
 
 // dresserduck_grouped in the header.
 #[repr(C)]
-#[derive(Clone, Copy)]
+#[derive(Clone, Copy, Default)]
 pub struct Grouped {
     pub refusal: u64,
     pub place: u64,
@@ -243,24 +250,22 @@ pub struct Grouped {
     pub patterngroups: u64,
 }
 
-fn grouped_of(answer: Grouping) -> Grouped
-    ensures { result ≡ grouped_of answer }
-{
-    match answer {
-        Grouping::Done(groups, patterns) => Grouped {
-            refusal: 0,
-            place: 0,
-            groups: groups as u64,
-            patterngroups: patterns as u64,
-        },
-        Grouping::Refused(number, place) => {
-            let at = place.0;
-            Grouped {
-                refusal: number as u64,
-                place: at as u64,
-                groups: 0,
-                patterngroups: 0,
-            }
+impl From<Result<GroupTotals, Refusal>> for Grouped {
+    ghost from_gives = { λ answer told. told ≡ grouped_of answer };
+
+    #[tactic(auto, unfolding(crate::specs::Host::grouped_of))]
+    fn from(answer: Result<GroupTotals, Refusal>) -> Grouped {
+        match answer {
+            Ok(totals) => Grouped {
+                groups: totals.groups as u64,
+                patterngroups: totals.patterns as u64,
+                ..Grouped::default()
+            },
+            Err(first) => Grouped {
+                refusal: u64::from(first.reason),
+                place: first.place.0 as u64,
+                ..Grouped::default()
+            },
         }
     }
 }
@@ -280,13 +285,18 @@ pub extern "C" fn dresserduck_rhythm(
         ≡ for_host grouped_of (rhythm.rhythm_outcome base_settings (chart kind.now start.now delta.now ratio.now)
         (rhythm.memory group.old pattern.old work.old scratch.old)) }
 {
-    let answer = call_rhythm::rhythm(kind, start, delta, ratio, group, pattern, work, scratch);
-    grouped_of(answer)
+    let chart = Chart {
+        kind,
+        start,
+        delta,
+        ratio,
+    };
+    Grouped::from(call_rhythm::rhythm(chart, group, pattern, work, scratch))
 }
 
 // dresserduck_recorded in the header. A float leaves as its bits.
 #[repr(C)]
-#[derive(Clone, Copy)]
+#[derive(Clone, Copy, Default)]
 pub struct Recorded {
     pub refusal: u64,
     pub place: u64,
@@ -315,46 +325,30 @@ fn own_bits(own: Option<f64>) -> u64
     own.map_or(0, bits)
 }
 
-fn recorded_of(answer: Recording) -> Recorded
-    ensures { result ≡ recorded_of answer }
-{
-    match answer {
-        Recording::Done(r) => {
-            let first = r.first;
-            let own = r.own;
-            Recorded {
-                refusal: 0,
-                place: 0,
-                firstnote: first.0 as u64,
+impl From<Result<GroupRecord, Refusal>> for Recorded {
+    ghost from_gives = { λ answer told. told ≡ recorded_of answer };
+
+    #[tactic(auto, unfolding(crate::specs::Host::recorded_of))]
+    fn from(answer: Result<GroupRecord, Refusal>) -> Recorded {
+        match answer {
+            Ok(r) => Recorded {
+                firstnote: r.first.0 as u64,
                 notecount: r.notes as u64,
-                hasown: has_own(own),
-                ownbits: own_bits(own),
+                hasown: has_own(r.own),
+                ownbits: own_bits(r.own),
                 ratiobits: bits(r.ratio),
                 intervalbits: bits(r.interval),
                 penaltybits: bits(r.penalty),
                 patterngroup: r.pattern as u64,
                 patternratiobits: bits(r.patternratio),
-            }
+                ..Recorded::default()
+            },
+            Err(first) => Recorded {
+                refusal: u64::from(first.reason),
+                place: first.place.0 as u64,
+                ..Recorded::default()
+            },
         }
-        Recording::Refused(number, place) => refused_record(number, place.0),
-    }
-}
-
-fn refused_record(number: u8, place: usize) -> Recorded
-    ensures { result ≡ recorded_of (answer.Refused number (record { 0 = place })) }
-{
-    Recorded {
-        refusal: number as u64,
-        place: place as u64,
-        firstnote: 0,
-        notecount: 0,
-        hasown: 0,
-        ownbits: 0,
-        ratiobits: 0,
-        intervalbits: 0,
-        penaltybits: 0,
-        patterngroup: 0,
-        patternratiobits: 0,
     }
 }
 
@@ -374,6 +368,11 @@ pub extern "C" fn dresserduck_record(
         group window
         (recording.memory work.old scratch.old)) }
 {
-    let answer = call_record::record(kind, start, delta, ratio, group, window, work, scratch);
-    recorded_of(answer)
+    let chart = Chart {
+        kind,
+        start,
+        delta,
+        ratio,
+    };
+    Recorded::from(call_record::record(chart, group, window, work, scratch))
 }
