@@ -10,7 +10,7 @@ use Rattle.lent.specs.Scan.{gathered}
 use Rattle.grouping_marks.specs.Marks.{group_count, group_numbers, group_places}
 use Rattle.lent.proofs.FillLaws.{length-gathered, get_or-gathered}
 use Rattle.grouping_marks.proofs.MarksLaws.{numbers-below, length-sizes, length-firsts}
-use Rattle.grouping_hits.proofs.LengthLaws.{length-hit_marks}
+use Rattle.grouping_hits.proofs.LengthLaws.{length-hit_marks, length-intervals}
 use Rattle.grouping_hits.proofs.RangeLaws.{interval_range, interval_byte}
 use Rattle.grouping_colour.specs.MonoStreak.{streak_marks, streak_of, streak_lengths}
 use Rattle.grouping_preprocessor.specs.Preprocessor.{patterns_open, first_lengths, streak_counts, pattern_types, coupled_patterns, hits_open, hit_count}
@@ -48,6 +48,10 @@ module _ (kinds : List ℕ) where
       → (get_or (hit_intervals limit kinds) j 0 < limit) ⊎ (get_or (hit_intervals limit kinds) j 0 ≡ limit + 1)
   unfolding hit_intervals hit_sizes hit_count
   hit-interval_range limit j h = interval_range limit (hit_sizes kinds) (hit_firsts kinds) (hit_seconds kinds) j (omega (arith, length-sizes (hits_open kinds)))
+
+  pub length-hit_intervals : (limit : ℕ) → length (hit_intervals limit kinds) ≡ hit_count kinds
+  unfolding hit_intervals hit_sizes hit_count
+  length-hit_intervals limit = length-intervals limit (hit_sizes kinds) (hit_firsts kinds) (hit_seconds kinds) ∙ length-sizes (hits_open kinds)
 
   pub hit-interval_byte : (limit : ℕ) → limit ≤ 254 → (j : ℕ) → get_or (hit_intervals limit kinds) j 0 < 256
   unfolding hit_intervals

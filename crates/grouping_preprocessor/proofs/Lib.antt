@@ -1,6 +1,7 @@
 -- The laws of this crate. Those that are public are for the crates above, or are results of their own; the others serve the proofs of this crate alone.
 pub mod BoundLaws
 pub mod MadeLaws
+pub mod LookUpsLaws
 mod StepLaws
 mod RegionLaws
 mod ComposeLaws

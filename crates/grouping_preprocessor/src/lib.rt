@@ -15,6 +15,8 @@ use grouping_marks::alike::Features;
 use grouping_marks::{group_firsts, group_numbers, group_places, group_sizes};
 use lent::fill;
 
+pub mod tables;
+
 // How many streaks, alternating patterns and hit patterns there are, and the search limit of the intervals.
 #[derive(Clone, Copy)]
 pub struct Levels {

@@ -1,0 +1,40 @@
+// The encoder's tables, from which each object's six numbers are looked up.
+ghost use Rattle.std.specs.Prelude.{◌≡◌, ◌*◌, length};
+ghost use Rattle.lent.specs.Over.{part};
+ghost use Rattle.grouping_preprocessor.specs.passes.LookUps.{TablesRoom};
+
+use crate::Levels;
+
+// Each object's streak; each streak's alternating pattern and its place there; each alternating pattern's hit pattern
+// and its place there; each hit pattern's interval.
+#[derive(Clone, Copy)]
+pub struct Tables<'a> {
+    pub streak: &'a [u16],
+    pub pattern: &'a [u16],
+    pub streak_place: &'a [u16],
+    pub hit: &'a [u16],
+    pub pattern_place: &'a [u16],
+    pub interval: &'a [u16],
+}
+
+impl<'a> Tables<'a> {
+    // Where `encode_levels` leaves them for n objects: in the work slice, in regions of n places.
+    pub fn of(work: &'a [u16], n: usize, levels: Levels) -> Tables<'a>
+        requires { TablesRoom n levels (length work.now) }
+        ensures streak { result.streak.now ≡ part 0 n work.now }
+        ensures pattern { result.pattern.now ≡ part (3 * n) levels.streaks work.now }
+        ensures streak_place { result.streak_place.now ≡ part (4 * n) levels.streaks work.now }
+        ensures hit { result.hit.now ≡ part n levels.patterns work.now }
+        ensures pattern_place { result.pattern_place.now ≡ part (2 * n) levels.patterns work.now }
+        ensures interval { result.interval.now ≡ part (7 * n) levels.hits work.now }
+    {
+        Tables {
+            streak: &work[..n],
+            pattern: &work[3 * n..3 * n + levels.streaks],
+            streak_place: &work[4 * n..4 * n + levels.streaks],
+            hit: &work[n..n + levels.patterns],
+            pattern_place: &work[2 * n..2 * n + levels.patterns],
+            interval: &work[7 * n..7 * n + levels.hits],
+        }
+    }
+}
