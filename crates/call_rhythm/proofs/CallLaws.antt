@@ -1,9 +1,10 @@
 -- The outcome of rhythm, case by case, over plain lists: a refusal leaves all as lent, and an accepted call has room in every slice.
 use mathlib.Core.Path.{◌≡◌, refl, ◌∙◌}
-use mathlib.Core.Bool.{true}
+use mathlib.Core.Bool.{true, ◌||◌}
 use Prim.Native.Nat.{ℕ, ◌<◌}
 use native.Mathlib.Omega.{arith}
-use lib.ListN.{get_or}
+use lib.Dec.{ltb}
+use lib.ListN.{length, get_or}
 use Rattle.grouping_marks.specs.Marks.{group_numbers}
 use Rattle.lent.proofs.PieceLaws.{get_or-over}
 use Rattle.grouping_chart.specs.Object.{is_note, note_idx}
@@ -11,17 +12,25 @@ use Rattle.grouping_interval.specs.Notes.{of_notes}
 use Rattle.grouping_chart.specs.Chart.{Chart, size}
 use Rattle.grouping_chart.specs.Outcome.{outcome}
 use Rattle.grouping_chart.specs.Settings.{Settings}
-use Rattle.grouping_chart.proofs.OutcomeLaws.{accommodated, answered-done}
+use Rattle.grouping_chart.proofs.OutcomeLaws.{verdict-judged, accommodated, answered-done}
 use Rattle.grouping_interval.specs.IntervalGrouping.{interval_marks}
 use Rattle.grouping_same_rhythm.proofs.MadeLaws.{rhythm_marks_made}
 use Rattle.std.specs.Prelude.{Ok}
-use Rattle.grouping_chart.specs.Refusal.{accepted}
+use Rattle.grouping_chart.specs.Refusal.{Verdict, accepted, verdict}
+use Rattle.grouping_chart.specs.Room.{short_refusal}
+use Rattle.grouping_chart.proofs.RoomLaws.{short_joined}
 use Rattle.call_rhythm.specs.declared.tables.GroupCounts.{GroupCounts}
 use Rattle.call_rhythm.specs.Rhythm.{note_group, group_of, counts_of}
 use Rattle.call_rhythm.specs.Call.{Memory, answer_lengths, judged, filled, totals, rhythm_outcome}
 use Rattle.call_rhythm.specs.passes.Tables.{GroupsRoom}
 use Rattle.call_rhythm.proofs.TablesLaws.{accepted-tables}
 use Rattle.call_rhythm.proofs.PerNoteLaws.{length_per_note, per_note_at}
+
+-- the verdict, from what `judge` answered
+pub told : (c : Chart) (m : Memory) {v u : Verdict}
+    → v ≡ verdict c (short_refusal (ltb (length m.group) (size c) || ltb (length m.pattern) (size c)) (size c) (length m.work) (length m.scratch)) → v ≡ u
+    → judged c m ≡ u
+told c m = verdict-judged c (answer_lengths m) _ _ (short_joined (size c) _ _)
 
 -- an accepted call has room
 pub rhythm_room : (c : Chart) (m : Memory) → judged c m ≡ accepted → GroupsRoom c.kinds c.starts c.deltas m

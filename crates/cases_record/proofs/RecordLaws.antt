@@ -1,37 +1,23 @@
--- What record hands back on the lent slices is what its definition gives on slices full of sentinels; and its fields are compared one by one.
-use mathlib.Core.Path.{◌≡◌, sym}
+-- What record hands back on the lent slices is what its definition gives on slices full of sentinels.
+use mathlib.Core.Path.{◌≡◌}
 use mathlib.Core.List.{List}
 use Rattle.std.specs.Prelude.{Some}
-use mathlib.Core.Bool.{Bool, false, ◌&&◌}
+use mathlib.Core.Bool.{Bool}
 use Prim.Native.Nat.{ℕ, ◌+◌, ◌*◌}
 use lib.ListN.{take, replicate}
 use lib.Ieee.{Float}
-use Rattle.grouping_chart.specs.declared.object.ObjectIndex.{ObjectIndex}
 use Rattle.call_record.specs.Call.{Memory}
-use Rattle.call_record.specs.declared.GroupRecord.{GroupRecord}
-use Rattle.call_record.specs.declared.Recording.{Recording}
-use Rattle.call_record.specs.declared.Recording.TheVariants.{Done, Refused}
 use Rattle.vectors.specs.Held.{Tells}
 use Rattle.vectors.specs.declared.call.Call.TheVariants.{Record as RecordCall}
 use Rattle.vectors.specs.declared.case.Head.{Head}
 use Rattle.vectors.specs.Sentinel.{number_sentinel, float_sentinel}
 use Rattle.vectors.specs.passes.Room.{most_places, most_work, Few}
 use Rattle.vectors.proofs.SentinelLaws.{work-lent, floats-lent}
-use Rattle.vectors.proofs.TellsLaws.{denied, tells_both, tells_of}
+use Rattle.vectors.proofs.TellsLaws.{tells_of}
 use Rattle.cases_rhythm.specs.Rhythm.{rhythm_chart}
 use Rattle.cases_rhythm.specs.passes.Times.{TimesRead}
 use Rattle.cases_rhythm.proofs.RhythmLaws.{made_chart, zeros, chart_is}
-use Rattle.cases_record.specs.Record.{record_lent, asked_outcome, PlacesAre, ScoresAre, RecordIs, RecordStored, RecordHolds}
-
-module _ (part : List ℕ) (answer : Recording) where
-  pub fields_told : (s : GroupRecord) {a b r : Bool} → answer ≡ Done s → Tells a (PlacesAre part s) → Tells b (ScoresAre part s) → r ≡ (a && b)
-      → Tells r (RecordIs part answer)
-  unfolding RecordIs
-  fields_told s e t u q = tells_of (RecordIs part) (sym e) (tells_both _ _ q t u)
-
-  pub fields_refused : (number : ℕ) (place : ObjectIndex) → answer ≡ Refused number place → Tells false (RecordIs part answer)
-  unfolding RecordIs
-  fields_refused number place e = tells_of (RecordIs part) (sym e) (denied (λ p. p))
+use Rattle.cases_record.specs.Record.{record_lent, asked_outcome, RecordStored, RecordHolds}
 
 -- ---- the chart and the slices, as fronts of what the code makes
 

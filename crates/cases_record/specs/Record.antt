@@ -6,11 +6,10 @@ use Rattle.std.specs.Float.Ieee.{to_bits, of_bits}
 use Rattle.grouping_chart.specs.Chart.{Chart}
 use Rattle.grouping_chart.specs.Outcome.{Outcome}
 use Rattle.grouping_chart.specs.Settings.{base_settings}
-use Rattle.std.specs.Prelude.{Option, None, Some, Float}
+use Rattle.grouping_chart.specs.declared.refusal.Refusal.{Refusal}
+use Rattle.std.specs.Prelude.{Option, None, Some, Result, Ok, Err, Float}
 use Rattle.call_record.specs.Call.{Memory, record_outcome}
 use Rattle.call_record.specs.declared.GroupRecord.{GroupRecord}
-use Rattle.call_record.specs.declared.Recording.{Recording}
-use Rattle.call_record.specs.declared.Recording.TheVariants.{Done, Refused}
 use Rattle.vectors.specs.Case.{pair_at, word_at}
 use Rattle.vectors.specs.declared.call.Call.TheVariants.{Record as RecordCall}
 use Rattle.vectors.specs.declared.case.Head.{Head}
@@ -40,16 +39,16 @@ pub record ScoresAre (part : List ℕ) (r : GroupRecord) : Type 0 where
   pub penalty : to_bits binary64 r.penalty ≡ word_at part 42
   pub patternratio : to_bits binary64 r.patternratio ≡ word_at part 50
 
-unfoldable pub RecordIs : List ℕ → Recording → Type 0
-RecordIs part (Done r) = PlacesAre part r × ScoresAre part r
-RecordIs part (Refused number place) = ⊥
+unfoldable pub RecordIs : List ℕ → Result GroupRecord Refusal → Type 0
+RecordIs part (Ok r) = PlacesAre part r × ScoresAre part r
+RecordIs part (Err refused) = ⊥
 
-pub record RecordStored (n : ℕ) (part : List ℕ) (o : Outcome Recording Memory) : Type 0 where
+pub record RecordStored (n : ℕ) (part : List ℕ) (o : Outcome (Result GroupRecord Refusal) Memory) : Type 0 where
   pub answer : RecordIs part o.answer
   pub cleared : Cleared n o.memory.work o.memory.scratch
 
 -- what the definition gives for the group and the window that are stored
-unfoldable pub asked_outcome : List ℕ → Chart → Memory → Outcome Recording Memory
+unfoldable pub asked_outcome : List ℕ → Chart → Memory → Outcome (Result GroupRecord Refusal) Memory
 asked_outcome part c m = record_outcome base_settings c (pair_at part 0) (of_bits binary64 (word_at part 10)) m
 
 -- a record with this head and these bytes, of the chart of a rhythm case

@@ -6,18 +6,19 @@ ghost use Rattle.std.specs.Float.Ieee as Ieee;
 ghost use Rattle.std.specs.Float.{binary64};
 ghost use Rattle.vectors.specs.Case.{pair_at, word_at};
 ghost use Rattle.vectors.specs.Held.{Tells};
-ghost use Rattle.grouping_chart.specs.Chart.{chart};
+ghost use Rattle.grouping_chart.specs.Lent.{seen};
 ghost use Rattle.call_record.specs.Call.{memory};
 ghost use Rattle.cases_rhythm.specs.Rhythm.{rhythm_chart};
 ghost use Rattle.cases_record.specs.Record.{record_lent, asked_outcome, OwnIs, PlacesAre, ScoresAre};
 ghost use Rattle.cases_record.specs.Record.{RecordIs, RecordStored, RecordHolds};
 
-use call_record::{GroupRecord, Recording};
+use call_record::GroupRecord;
+use grouping_chart::chart::Chart;
+use grouping_chart::refusal::Refusal;
 use numeric::canonical::bits;
 use vectors::call::Call;
 use vectors::case::Head;
 use vectors::form::part_formed;
-use vectors::held::both;
 use vectors::room::{Room, Spare};
 use vectors::sentinel::{FLOAT_SENTINEL, MOST_OBJECTS, MOST_PLACES, MOST_WORK, NUMBER_SENTINEL};
 use vectors::{case, sentinel};
@@ -70,33 +71,25 @@ fn scores_hold(part: &[u8], r: GroupRecord) -> bool
 }
 
 // Whether the record is accepted, with every field of the part.
-fn fields_hold(part: &[u8], answer: Recording) -> bool
+#[tactic(auto, unfolding(crate::specs::Record::RecordIs))]
+fn fields_hold(part: &[u8], answer: Result<GroupRecord, Refusal>) -> bool
     ensures { Tells result (RecordIs part.now answer) }
 {
     match answer {
-        Recording::Done(r) => both(places_hold(part, r), scores_hold(part, r)),
-        Recording::Refused(_, _) => false,
+        Ok(r) => places_hold(part, r) && scores_hold(part, r),
+        Err(_) => false,
     }
 }
 
 // Record in lent slices, held to the part.
 #[tactic(auto, unfolding(crate::specs::Record::asked_outcome))]
-fn lent_holds(
-    room: Room,
-    part: &[u8],
-    kind: &[u8],
-    start: &[f64],
-    delta: &[f64],
-    one: &[f64],
-    work: &mut [u16],
-    scratch: &mut [f64],
-) -> bool
+fn lent_holds(room: Room, part: &[u8], chart: Chart, work: &mut [u16], scratch: &mut [f64]) -> bool
     ensures { Tells result (RecordStored room.head.objects part.now
-        (asked_outcome part.now (chart kind.now start.now delta.now one.now) (memory work.old scratch.old))) }
+        (asked_outcome part.now (seen chart.entry) (memory work.old scratch.old))) }
 {
     let group = usize::from(case::pair_at(part, 0));
     let window = case::float_of(case::word_at(part, 10));
-    let answer = call_record::record(kind, start, delta, one, group, window, work, scratch);
+    let answer = call_record::record(chart, group, window, work, scratch);
     fields_hold(part, answer) && sentinel::work_cleared(room.head.objects, work, scratch)
 }
 
@@ -110,13 +103,17 @@ fn call_holds(room: Room, body: &[u8], part: &[u8]) -> bool
     let mut starts = [0.0; MOST_OBJECTS];
     let mut deltas = [0.0; MOST_OBJECTS];
     cases_rhythm::read_times(n, body, &mut starts, &mut deltas);
+    let ones = [1.0; MOST_OBJECTS];
+    let chart = Chart {
+        kind: &body[4..4 + n],
+        start: &starts[..n],
+        delta: &deltas[..n],
+        ratio: &ones[..n],
+    };
     lent_holds(
         room,
         part,
-        &body[4..4 + n],
-        &starts[..n],
-        &deltas[..n],
-        &[1.0; MOST_OBJECTS][..n],
+        chart,
         &mut [NUMBER_SENTINEL; MOST_WORK][..8 * n + room.spare],
         &mut [FLOAT_SENTINEL; MOST_PLACES][..n + room.spare],
     )

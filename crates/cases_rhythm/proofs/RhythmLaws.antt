@@ -1,4 +1,4 @@
--- What rhythm hands back on the lent slices is what its definition gives on slices full of sentinels; and each of its parts is held to the case.
+-- What rhythm hands back on the lent slices is what its definition gives on slices full of sentinels.
 use mathlib.Core.Path.{◌≡◌, ap, ◌∙◌}
 use mathlib.Core.List.{List}
 use Rattle.std.specs.Prelude.{Some}

@@ -1,12 +1,10 @@
 -- The verdict of the definition is the one that the tests gave, and each case leaves its outcome.
 use Rattle.std.proofs.Common.{◌≡◌, ◌∙◌, ap, Err, rules}
-use Rattle.grouping_chart.specs.Chart.{size}
 use Rattle.grouping_chart.specs.Lent.{seen}
 use Rattle.grouping_chart.specs.Outcome.{outcome}
-use Rattle.grouping_chart.proofs.OutcomeLaws.{verdict-judged, answered-refused}
-use Rattle.grouping_chart.proofs.RoomLaws.{short_joined}
-use Rattle.call_rhythm.specs.Call.{memory, answer_lengths, rhythm_outcome}
-use Rattle.call_rhythm.proofs.CallLaws.{rhythm_room, rhythm-done}
+use Rattle.grouping_chart.proofs.OutcomeLaws.{answered-refused}
+use Rattle.call_rhythm.specs.Call.{memory, rhythm_outcome}
+use Rattle.call_rhythm.proofs.CallLaws.{told, rhythm_room, rhythm-done}
 use Rattle.call_rhythm.proofs.rhythm.Goals as goal
 
 pub returns-in_err-judge : goal.returns-in_err-judge
@@ -14,21 +12,20 @@ unfolding rhythm_outcome
 returns-in_err-judge c =
     let a = c.args in
     let m = memory a.group.now a.pattern.now a.work.now a.scratch.now in
-    let told = verdict-judged (seen a.chart) (answer_lengths m) _ _ (short_joined (size (seen a.chart)) _ _) c.judge.ensures c.in_err-judge.was in
+    let judged = told (seen a.chart) m c.judge.ensures c.in_err-judge.was in
     let same : c.from_residual.result ≡ Err c.in_err-judge.field-0.0 = search rules in
-    ap (λ r. outcome r m) same ∙ answered-refused _ _ m told
+    ap (λ r. outcome r m) same ∙ answered-refused _ _ m judged
 
 pub fill_groups-k-requires : goal.fill_groups-k-requires
 fill_groups-k-requires c =
     let a = c.args in
     let m = memory a.group.now a.pattern.now a.work.now a.scratch.now in
-    rhythm_room (seen a.chart) m
-    (verdict-judged (seen a.chart) (answer_lengths m) _ _ (short_joined (size (seen a.chart)) _ _) c.judge.ensures c.in_ok-judge.was)
+    rhythm_room (seen a.chart) m (told (seen a.chart) m c.judge.ensures c.in_ok-judge.was)
 
 pub returns : goal.returns
 returns c =
     let a = c.args in
     let m = memory a.group.now a.pattern.now a.work.now a.scratch.now in
     let counted = c.fill_groups-k.ensures in
-    let told = verdict-judged (seen a.chart) (answer_lengths m) _ _ (short_joined (size (seen a.chart)) _ _) c.judge.ensures c.in_ok-judge.was in
-    rw c.base.ensures at (rhythm-done c.base.result (seen a.chart) m _ _ told counted.counts counted.filled)
+    let judged = told (seen a.chart) m c.judge.ensures c.in_ok-judge.was in
+    rw c.base.ensures at (rhythm-done c.base.result (seen a.chart) m _ _ judged counted.counts counted.filled)
