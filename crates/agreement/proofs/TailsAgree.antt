@@ -3,20 +3,21 @@
 use mathlib.Core.Path.{◌≡◌}
 use Prim.Native.Nat.{ℕ}
 use Rattle.grouping_chart.specs.Chart.{Chart}
-use Rattle.grouping_chart.specs.Refusal.{verdict}
+use Rattle.std.specs.Prelude.{Option}
+use Rattle.grouping_chart.specs.Refusal.{accepted, verdict}
+use Rattle.grouping_chart.specs.declared.refusal.Reason.{Reason}
 use Rattle.grouping_chart.specs.Settings.{Settings}
-use Rattle.grouping_chart.specs.declared.refusal.Verdict.TheVariants.{Accepted}
 use Rattle.grouping_chart.proofs.AcceptedLaws.{accepted_good}
 use Rattle.agreement.specs.TailAgreement.{AlikeTails, TailAgreement}
 use Rattle.agreement.proofs.colour.Claimed.{colour_claim}
 use Rattle.agreement.proofs.rhythm.Claimed.{chart_claim}
 use Rattle.agreement.proofs.rhythm.NoteLaws.{same_note}
 
-pub tails_agree : (s : Settings) (c c' : Chart) (refusal refusal' m : ℕ) → verdict c refusal ≡ Accepted → verdict c' refusal' ≡ Accepted → AlikeTails c c' m
-    → TailAgreement s c c' m
-tails_agree s c c' refusal refusal' m accepted accepted' t =
-    let long = (accepted_good c refusal accepted).lengths in
-    let long' = (accepted_good c' refusal' accepted').lengths in
+pub tails_agree : (s : Settings) (c c' : Chart) (beside beside' : Option Reason) (m : ℕ) → verdict c beside ≡ accepted → verdict c' beside' ≡ accepted
+    → AlikeTails c c' m → TailAgreement s c c' m
+tails_agree s c c' beside beside' m good good' t =
+    let long = (accepted_good c beside good).lengths in
+    let long' = (accepted_good c' beside' good').lengths in
     record {
       colour = λ p p' far landmark. colour_claim s c c' long.ratio long'.ratio t.kinds t.ratios far landmark;
       rhythm = chart_claim s c c' long.delta long'.delta t.kinds t.deltas;

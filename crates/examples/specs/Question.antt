@@ -6,20 +6,17 @@ use Rattle.std.specs.Float.Ieee.{of_int, to_bits}
 use Rattle.numeric.specs.RoundTiesEven.{round_ties_even}
 use Rattle.grouping_marks.specs.Marks.{group_numbers}
 use Rattle.grouping_chart.specs.Chart.{Chart}
+use Rattle.grouping_chart.specs.Refusal.{reason_number}
+use Rattle.grouping_chart.specs.declared.refusal.Refusal.{Refusal}
 use Rattle.grouping_chart.specs.Outcome.{Outcome}
 use Rattle.grouping_chart.specs.Settings.{base_settings}
 use Rattle.call_encode.specs.Call as encode
-use Rattle.call_encode.specs.declared.Encoding.{Encoding}
-use Rattle.call_encode.specs.declared.Encoding.TheVariants as encoding
 use Rattle.grouping_interval.specs.IntervalGrouping.{interval_marks}
 use Rattle.grouping_normalizer.specs.Normalizer.{normalized}
 use Rattle.call_rhythm.specs.Call as rhythm
-use Rattle.call_rhythm.specs.declared.Grouping.{Grouping}
-use Rattle.call_rhythm.specs.declared.Grouping.TheVariants as grouping
-use Rattle.std.specs.Prelude.{Option, Some}
+use Rattle.call_rhythm.specs.declared.GroupTotals.{GroupTotals}
+use Rattle.std.specs.Prelude.{Option, Some, Result, Ok, Err}
 use Rattle.call_colour.specs.Call as calls
-use Rattle.call_colour.specs.declared.Colouring.{Colouring}
-use Rattle.call_colour.specs.declared.Colouring.TheVariants as colouring
 use Rattle.evaluator_rhythm.specs.RepeatedInterval.{walk_penalty}
 
 pub data Question : Type 0 where
@@ -83,29 +80,29 @@ rhythm_memory n = record {
 }
 
 -- 0 and the number of hit patterns, or the refusal and its place
-unfoldable pub encode_answer : Encoding → List ℕ
-encode_answer (encoding.Done hits) = 0 ∷ hits ∷ []
-encode_answer (encoding.Refused number place) = number ∷ place.0 ∷ []
+unfoldable pub encode_answer : Result ℕ Refusal → List ℕ
+encode_answer (Ok hits) = 0 ∷ hits ∷ []
+encode_answer (Err first) = reason_number first.reason ∷ first.place.0 ∷ []
 
-unfoldable pub colour_answer : Colouring → List ℕ
-colour_answer colouring.Done = 0 ∷ []
-colour_answer (colouring.Refused number place) = number ∷ place.0 ∷ []
+unfoldable pub colour_answer : Result (Unit {0}) Refusal → List ℕ
+colour_answer (Ok done) = 0 ∷ []
+colour_answer (Err first) = reason_number first.reason ∷ first.place.0 ∷ []
 
 -- 0 and how many groups and pattern groups there are, or the refusal and its place
-unfoldable pub rhythm_answer : Grouping → List ℕ
-rhythm_answer (grouping.Done groups patterns) = 0 ∷ groups ∷ patterns ∷ []
-rhythm_answer (grouping.Refused number place) = number ∷ place.0 ∷ []
+unfoldable pub rhythm_answer : Result GroupTotals Refusal → List ℕ
+rhythm_answer (Ok totals) = 0 ∷ totals.groups ∷ totals.patterns ∷ []
+rhythm_answer (Err first) = reason_number first.reason ∷ first.place.0 ∷ []
 
-unfoldable pub encode_shown : Outcome Encoding encode.Memory → List (List ℕ)
+unfoldable pub encode_shown : Outcome (Result ℕ Refusal) encode.Memory → List (List ℕ)
 encode_shown o =
     encode_answer o.answer ∷ o.memory.streak ∷ o.memory.streak_place ∷ o.memory.pattern ∷ o.memory.pattern_place
     ∷ o.memory.hit ∷ o.memory.interval ∷ o.memory.work ∷ bits_of o.memory.scratch ∷ []
 
-unfoldable pub colour_shown : Outcome Colouring calls.Memory → List (List ℕ)
+unfoldable pub colour_shown : Outcome (Result (Unit {0}) Refusal) calls.Memory → List (List ℕ)
 colour_shown o =
     colour_answer o.answer ∷ bits_of o.memory.value ∷ o.memory.work ∷ bits_of o.memory.scratch ∷ []
 
-unfoldable pub rhythm_shown : Outcome Grouping rhythm.Memory → List (List ℕ)
+unfoldable pub rhythm_shown : Outcome (Result GroupTotals Refusal) rhythm.Memory → List (List ℕ)
 rhythm_shown o =
     rhythm_answer o.answer ∷ o.memory.group ∷ o.memory.pattern ∷ o.memory.work
     ∷ bits_of o.memory.scratch ∷ []

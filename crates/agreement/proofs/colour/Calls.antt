@@ -5,15 +5,15 @@ use mathlib.Core.Logic.{◌⊎◌}
 use mathlib.Core.List.{List}
 use Prim.Native.Nat.{ℕ}
 use native.Mathlib.Omega.{arith}
+use Rattle.std.specs.Prelude.{Option, Ok}
 use Rattle.grouping_chart.specs.Chart.{Chart, size}
-use Rattle.grouping_chart.specs.Refusal.{verdict}
-use Rattle.grouping_chart.specs.declared.refusal.Verdict.TheVariants.{Accepted}
+use Rattle.grouping_chart.specs.Refusal.{accepted, verdict}
+use Rattle.grouping_chart.specs.declared.refusal.Reason.{Reason}
 use Rattle.grouping_chart.specs.Settings.{Settings}
 use Rattle.grouping_chart.proofs.AcceptedLaws.{accepted_good}
 use Rattle.call_encode.specs.Call as encode
 use Rattle.call_encode.proofs.CallLaws.{hit-written, interval-written}
-use Rattle.call_colour.specs.Call.{Memory, judged}
-use Rattle.call_colour.specs.declared.Stretching.TheVariants.{Done}
+use Rattle.call_colour.specs.Call.{Memory, judged, stretch_mean}
 use Rattle.call_colour.proofs.AnswerLaws.{value-written, stretch-answered}
 use Rattle.agreement.specs.CommonTail.{Counterparts, SameLast}
 use Rattle.agreement.specs.SameGroups.{groups}
@@ -51,15 +51,15 @@ hits-alike e f e' f' k = record {
 module _ (s : Settings) (c c' : Chart) {m p p' : ℕ} (k : SameLast m c.kinds c'.kinds) (t : SameLast m c.ratios c'.ratios)
     (far : Counterparts (size c) (size c') p p') (landmark : ColourLandmark c.kinds m p ⊎ ColourLandmark c'.kinds m p') where
   -- two charts accepted by any calls
-  pub accepted_claim : (b b' : ℕ) → verdict c b ≡ Accepted → verdict c' b' ≡ Accepted → ColourClaim s c c' p p'
+  pub accepted_claim : (b b' : Option Reason) → verdict c b ≡ accepted → verdict c' b' ≡ accepted → ColourClaim s c c' p p'
   accepted_claim b b' x x' = colour_claim s c c' (accepted_good c b x).lengths.ratio (accepted_good c' b' x').lengths.ratio k t far landmark
 
-  pub encode_claim : (lent lent' : encode.Memory) → encode.judged c lent ≡ Accepted → encode.judged c' lent' ≡ Accepted → EncodeClaim s c c' lent lent' p p'
+  pub encode_claim : (lent lent' : encode.Memory) → encode.judged c lent ≡ accepted → encode.judged c' lent' ≡ accepted → EncodeClaim s c c' lent lent' p p'
   encode_claim lent lent' x x' =
       hits-alike (record { at = hit-written s c lent x }) (record { at = interval-written s c lent x }) (record { at = hit-written s c' lent' x' })
       (record { at = interval-written s c' lent' x' }) (accepted_claim _ _ x x').hits
 
-  pub calls_claim : (lent lent' : Memory) → judged c lent ≡ Accepted → judged c' lent' ≡ Accepted → CallsClaim s c c' lent lent' p p'
+  pub calls_claim : (lent lent' : Memory) → judged c lent ≡ accepted → judged c' lent' ≡ accepted → CallsClaim s c c' lent lent' p p'
   calls_claim lent lent' x x' =
       let claim = accepted_claim _ _ x x' in
       record {
@@ -67,5 +67,5 @@ module _ (s : Settings) (c c' : Chart) {m p p' : ℕ} (k : SameLast m c.kinds c'
         done = stretch-answered s c lent x;
         stretch = λ a b a' b' y z from to.
             let same = claim.stretch a b a' b' y z from to in
-            stretch-answered s c lent x a b z ∙ (λ i. Done (same.mean i) (same.tenths i)) ∙ sym (stretch-answered s c' lent' x' a' b' same.accepted);
+            stretch-answered s c lent x a b z ∙ (λ i. Ok (stretch_mean (same.mean i) (same.tenths i))) ∙ sym (stretch-answered s c' lent' x' a' b' same.accepted);
       }

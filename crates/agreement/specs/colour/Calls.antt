@@ -1,13 +1,12 @@
 -- The colour claim of what the calls encode, colour and stretch leave and answer on two accepted charts.
-use Rattle.std.specs.Prelude.{ℕ, ◌≡◌}
+use Rattle.std.specs.Prelude.{ℕ, ◌≡◌, Ok}
 use Rattle.std.specs.Float.{nan}
 use Rattle.grouping_chart.specs.Chart.{Chart, size}
 use Rattle.grouping_chart.specs.Settings.{Settings}
 use Rattle.call_encode.specs.Call as encode
 use Rattle.call_encode.specs.Call.{encode_outcome}
 use Rattle.call_colour.specs.Stretch.{GoodStretch, chart_mean, chart_tenths}
-use Rattle.call_colour.specs.Call.{Memory, colour_outcome, stretch_outcome}
-use Rattle.call_colour.specs.declared.Stretching.TheVariants.{Done}
+use Rattle.call_colour.specs.Call.{Memory, stretch_mean, colour_outcome, stretch_outcome}
 use Rattle.agreement.specs.CommonTail.{Counterparts}
 use Rattle.agreement.specs.SameGroups.{groups}
 use Rattle.agreement.specs.colour.Claim.{Settled, SettledSame, EncodedHits, HitsClaim, hit_patterns}
@@ -30,7 +29,7 @@ pub record CallsClaim (s : Settings) (c c' : Chart) (lent lent' : Memory) (p p' 
       (colour_outcome s c lent).memory.value (colour_outcome s c' lent').memory.value
   -- stretch answers a mean and its tenths, no refusal,
   pub done : (a b : ℕ) → GoodStretch c.kinds a b
-      → (stretch_outcome s c a b lent).answer ≡ Done (chart_mean s c a b) (chart_tenths s c a b)
+      → (stretch_outcome s c a b lent).answer ≡ Ok (stretch_mean (chart_mean s c a b) (chart_tenths s c a b))
   -- and the same ones for the counterpart
   pub stretch : (a b a' b' : ℕ) → Settled s.limit (hit_patterns c) p a → GoodStretch c.kinds a b
       → Counterparts (size c) (size c') a a' → Counterparts (size c) (size c') b b'
