@@ -22,7 +22,7 @@ use Rattle.grouping_colour.proofs.StreakListLaws.{length-streak_of}
 use Rattle.grouping_preprocessor.specs.Preprocessor.{alternating_of, hit_of, interval_of, hit_count}
 use Rattle.grouping_preprocessor.proofs.BoundLaws.{length-alternating_of, length-hit_of, length-interval_of}
 use Rattle.call_encode.specs.Call.{Memory, answer_lengths, judged, encoded_kinds, with_scratch, filled, encode_outcome}
-use Rattle.call_encode.specs.passes.LookUps.{KindsRoom}
+use Rattle.call_encode.specs.passes.Rooms.{KindsRoom}
 
 -- ---- the first places of what is encoded
 module _ (limit : ℕ) (kinds : List ℕ) (m : Memory) where

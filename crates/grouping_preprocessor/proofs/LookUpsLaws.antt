@@ -1,32 +1,22 @@
 -- What the tables say of each object is the definitions' list, and no look-up leaves its table.
 use mathlib.Core.Path.{◌≡◌, ap, ◌∙◌}
 use mathlib.Core.List.{List}
-use Prim.Native.Nat.{ℕ, ◌*◌, ◌<◌}
+use Prim.Native.Nat.{ℕ, ◌<◌}
 use native.Mathlib.Omega.{arith}
 use lib.ListN.{length, get_or}
-use Rattle.lent.specs.Over.{part}
 use Rattle.lent.specs.Scan.{gathered}
 use Rattle.lent.specs.passes.Bounds.{AllBelow}
 use Rattle.grouping_marks.proofs.MarksLaws.{length-numbers, length-places}
 use Rattle.grouping_colour.proofs.StreakListLaws.{length-streak_of, streak-below}
 use Rattle.grouping_preprocessor.specs.Preprocessor.{patterns_open, hits_open, streak_place_of, alternating_of, pattern_place_of, hit_of, interval_of}
 use Rattle.grouping_preprocessor.specs.passes.Steps as steps
-use Rattle.grouping_preprocessor.specs.passes.LookUps.{streak_places, patterns, pattern_places, hits, intervals, Linked, TablesOf}
+use Rattle.grouping_preprocessor.specs.passes.LookUps.{Cut, streak_places, patterns, pattern_places, hits, intervals, Linked, TablesOf}
 use Rattle.grouping_preprocessor.specs.declared.Levels.{Levels}
 use Rattle.grouping_preprocessor.specs.declared.tables.Tables.{Tables}
 use Rattle.grouping_preprocessor.proofs.BoundLaws.{length-patterns_open, length-hits_open, length-hit_intervals, length-alternating_of, length-hit_of, alternating_of-below, hit_of-below}
 use Rattle.grouping_preprocessor.proofs.BoundLaws.{streak_place_of_looked, alternating_of_looked, pattern_place_of_looked, hit_of_looked, interval_of_looked}
 
 -- ---- the tables that the encoder left, cut
-
--- the parts that `of` cuts
-pub record Cut (n : ℕ) (k : Levels) (w : List ℕ) (t : Tables) : Type 0 where
-  pub streak : t.streak.now ≡ part 0 n w
-  pub pattern : t.pattern.now ≡ part (3 * n) k.streaks w
-  pub streak_place : t.streak_place.now ≡ part (4 * n) k.streaks w
-  pub hit : t.hit.now ≡ part n k.patterns w
-  pub pattern_place : t.pattern_place.now ≡ part (2 * n) k.patterns w
-  pub interval : t.interval.now ≡ part (7 * n) k.hits w
 
 pub tables_of : {limit : ℕ} {kinds w₀ w : List ℕ} {k : Levels} {t : Tables} → steps.Tables limit kinds w₀ w k → Cut (length kinds) k w t → TablesOf limit kinds t
 tables_of e c = record {

@@ -1,7 +1,6 @@
 // The encoder's tables, from which each object's six numbers are looked up.
-ghost use Rattle.std.specs.Prelude.{◌≡◌, ◌*◌, length};
-ghost use Rattle.lent.specs.Over.{part};
-ghost use Rattle.grouping_preprocessor.specs.passes.LookUps.{TablesRoom};
+ghost use Rattle.std.specs.Prelude.{length};
+ghost use Rattle.grouping_preprocessor.specs.passes.LookUps.{TablesRoom, Cut};
 
 use crate::Levels;
 
@@ -21,12 +20,7 @@ impl<'a> Tables<'a> {
     // Where `encode_levels` leaves them for n objects: in the work slice, in regions of n places.
     pub fn of(work: &'a [u16], n: usize, levels: Levels) -> Tables<'a>
         requires { TablesRoom n levels (length work.now) }
-        ensures streak { result.streak.now ≡ part 0 n work.now }
-        ensures pattern { result.pattern.now ≡ part (3 * n) levels.streaks work.now }
-        ensures streak_place { result.streak_place.now ≡ part (4 * n) levels.streaks work.now }
-        ensures hit { result.hit.now ≡ part n levels.patterns work.now }
-        ensures pattern_place { result.pattern_place.now ≡ part (2 * n) levels.patterns work.now }
-        ensures interval { result.interval.now ≡ part (7 * n) levels.hits work.now }
+        ensures { Cut n levels work.now result }
     {
         Tables {
             streak: &work[..n],

@@ -1,31 +1,20 @@
 -- `encode_kinds` meets its contract: the encoder's tables, spread over the objects, and then cleared.
-use native.Mathlib.Omega.{arith}
-use Rattle.call_encode.proofs.KindsLaws.{patterns_room, hits_room, encoded}
+use Rattle.grouping_preprocessor.proofs.LookUpsLaws.{tables_of}
+use Rattle.call_encode.specs.Call.{kinds_memory}
+use Rattle.call_encode.proofs.KindsLaws.{spread_room, encoded}
 use Rattle.call_encode.proofs.encode_kinds.Goals as goal
 
-pub spread_patterns-requires : goal.spread_patterns-requires
-spread_patterns-requires c =
-    patterns_room c.encode_levels-k.ensures.tables c.requires
+pub spread-requires : goal.spread-requires
+spread-requires c =
+    let a = c.args in
+    let old = kinds_memory a.streak.now a.streak_place.now a.pattern.now a.pattern_place.now a.hit.now a.interval.now a.work.now in
+    spread_room old (tables_of c.encode_levels-levels.ensures.tables c.of-tables.ensures) c.requires
 
-pub spread_hits-requires : goal.spread_hits-requires
-spread_hits-requires c =
-    hits_room c.encode_levels-k.ensures.tables c.requires c.spread_patterns.ensures.pattern c.spread_patterns.auto.pattern
-
-pub overflow_mul-n : goal.overflow_mul-n
-overflow_mul-n c =
-    omega (arith, c.requires)
-
-pub front-requires : goal.front-requires
-front-requires c =
-    omega (arith, c.requires, c.encode_levels-k.ensures.tables.outside)
-
-pub returns : goal.returns
-returns c =
-    let tables = c.encode_levels-k.ensures.tables in
-    let p = c.spread_patterns.ensures in
-    let q = c.spread_hits.ensures in
-    record {
-      count = tables.count_h;
-      filled =
-          encoded tables c.requires p.pattern p.streak p.streak_place q.pattern_place q.hit q.interval c.front.ensures;
-    }
+pub returns-clause-filled : goal.returns-clause-filled
+returns-clause-filled c =
+    let a = c.args in
+    let old = kinds_memory a.streak.now a.streak_place.now a.pattern.now a.pattern_place.now a.hit.now a.interval.now a.work.now in
+    let tables = c.encode_levels-levels.ensures.tables in
+    let s = c.spread.ensures in
+    encoded old (tables_of {t = c.of-tables.result} tables c.of-tables.ensures) s.streak s.streak_place s.pattern s.pattern_place s.hit s.interval
+    tables c.front.ensures

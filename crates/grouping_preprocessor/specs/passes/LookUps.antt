@@ -1,5 +1,6 @@
 -- The encoder's tables, cut from the work slice: what they say of each object, and where they are whole.
 use Rattle.std.specs.Prelude.{◌≡◌, ℕ, ◌*◌, ◌≤◌, List, length}
+use Rattle.lent.specs.Over.{part}
 use Rattle.lent.specs.Scan.{gathered}
 use Rattle.lent.specs.passes.Bounds.{AllBelow}
 use Rattle.grouping_marks.specs.Marks.{group_numbers, group_places}
@@ -16,6 +17,15 @@ pub record TablesRoom (n : ℕ) (k : Levels) (places : ℕ) : Type 0 where
   pub patterns : k.patterns ≤ n
   pub hits : k.hits ≤ n
   pub regions : 8 * n ≤ places
+
+-- where the encoder leaves each table
+pub record Cut (n : ℕ) (k : Levels) (w : List ℕ) (t : Tables) : Type 0 where
+  pub streak : t.streak.now ≡ part 0 n w
+  pub pattern : t.pattern.now ≡ part (3 * n) k.streaks w
+  pub streak_place : t.streak_place.now ≡ part (4 * n) k.streaks w
+  pub hit : t.hit.now ≡ part n k.patterns w
+  pub pattern_place : t.pattern_place.now ≡ part (2 * n) k.patterns w
+  pub interval : t.interval.now ≡ part (7 * n) k.hits w
 
 -- object by object, as they are looked up
 abbrev pub streaks : Tables → List ℕ
