@@ -68,6 +68,11 @@ module _ (margin : Float) (deltas : List Float) (n : ℕ) (work₀ : List ℕ) (
       nothing [] h = refl
       nothing (x ∷ l) h = absurd (omega arith)
 
+  -- the marks, put back into region 2
+  pub marks_put : {region : List ℕ} → region ≡ over marks (take (2 * n + length deltas - 2 * n) (drop (2 * n) work₀))
+      → take (2 * n) work₀ ++ (region ++ drop (2 * n + length deltas - 2 * n) (drop (2 * n) work₀)) ≡ put (2 * n) marks work₀
+  marks_put e = put-back (2 * n) (2 * n + length deltas - 2 * n) marks work₀ _ (omega (arith, marked_each)) e
+
   -- ---- taken apart, with the marks in region 2: the objects, region 1, the marks and what follows
   module _ (work₁ : List ℕ) (marked : work₁ ≡ put (2 * n) marks work₀) (front back : List ℕ) (o : front ≡ take n work₁) (b : back ≡ drop n work₁)
       (region rest : List ℕ) (f : region ≡ take n back) (t : rest ≡ drop n back) where

@@ -9,9 +9,9 @@ ghost use Rattle.call_rhythm.specs.passes.Tables.{NumbersRoom, numbers_writes, F
 ghost use Rattle.call_rhythm.specs.passes.Tables.{patterns_from, TablesRoom, work_writes, scratch_writes};
 
 use grouping_chart::chart::Chart;
+use grouping_interval::group_by_interval;
 use grouping_interval::marks::mark_intervals;
 use grouping_interval::notes::list_notes;
-use grouping_interval::{as_usize, group_by_interval};
 use grouping_marks::{group_firsts, group_numbers};
 use grouping_same_rhythm::groups::fill_intervals;
 
@@ -39,13 +39,13 @@ pub fn number_notes(deltas: &[f64], margin: f64, work: &mut [u16], n: usize) -> 
     if notes == 0 {
         return 0;
     }
-    mark_intervals(deltas, margin, work, 2 * n);
+    mark_intervals(deltas, margin, &mut work[2 * n..2 * n + notes]);
     let (objects, rest) = work.split_at_mut(n);
     let (firsts, rest) = rest.split_at_mut(n);
     let numbers = &mut rest[..notes];
     group_firsts(numbers, &objects[..notes], firsts);
     group_numbers(numbers);
-    as_usize(numbers[notes - 1]) + 1
+    usize::from(numbers[notes - 1]) + 1
 }
 
 // Fills region 3, from the intervals, which are put in the scratch slice. The result is how many pattern groups there

@@ -5,6 +5,7 @@ ghost use Rattle.lent.specs.Over.{over};
 ghost use Rattle.grouping_same_rhythm.specs.SameRhythm.{starts_of, between, intervals_of};
 ghost use Rattle.grouping_same_rhythm.specs.passes.Groups.{IntervalsRoom};
 
+use lent::fill;
 use numeric::near::near;
 
 // From one start to the next, 0.0 where they are near.
@@ -38,7 +39,9 @@ pub fn fill_intervals(start: &[f64], firsts: &[u16], margin: f64, intervals: &mu
     ensures { intervals.new
         ≡ over (intervals_of margin (starts_of start.now firsts.now)) intervals.old }
 {
-    for k in 0..firsts.len() {
-        intervals[k] = interval_at(start, firsts, margin, k);
-    }
+    fill::by_place(
+        firsts.len(),
+        intervals,
+        |k| interval_at(start, firsts, margin, k),
+    );
 }

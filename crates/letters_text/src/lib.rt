@@ -13,6 +13,7 @@ ghost use Rattle.letters_text.specs.passes.Memory.{LinesFit};
 use arrayvec::ArrayString;
 pub use columns::{Columns, Object};
 use grouping_chart::object::Kind;
+use lent::fill;
 
 mod columns;
 
@@ -67,9 +68,7 @@ fn fill_kinds(t: &[u8], kinds: &mut [u8])
     requires { length t.now ≤ length kinds.old }
     ensures { kinds.new ≡ over (kinds_of t.now) kinds.old }
 {
-    for (i, b) in t.iter().enumerate() {
-        kinds[i] = u8::from(kind_of(*b));
-    }
+    fill::by_place(t.len(), kinds, |i| u8::from(kind_of(t[i])));
 }
 
 fn read_text(t: &[u8], kinds: &mut [u8]) -> Result<usize, TextError>

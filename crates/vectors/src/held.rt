@@ -1,19 +1,12 @@
 // Whether a slice that was lent full of a sentinel holds what a call must leave there:
 // its answers, and the sentinel in every other place.
-ghost use Rattle.std.specs.Prelude.{◌≡◌, ◌&&◌, List, ℕ, map, refl};
+ghost use Rattle.std.specs.Prelude.{◌≡◌, List, ℕ, map, refl};
 ghost use Rattle.std.specs.Float.Ieee as Ieee;
 ghost use Rattle.std.specs.Float.{binary64};
 ghost use Rattle.std.proofs.lemmas.List.{map-id};
 ghost use Rattle.vectors.specs.Held.{Tells, FrontHeld};
 
 use crate::column::Column;
-
-// Whether both hold, each of them worked out before.
-pub fn both(a: bool, b: bool) -> bool
-    ensures { result ≡ (a && b) }
-{
-    a & b
-}
 
 // What a place of a slice holds: the number that it is compared by, which of a float is its bits.
 pub trait Place: Copy {

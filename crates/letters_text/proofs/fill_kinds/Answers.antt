@@ -1,14 +1,14 @@
--- `fill_kinds` meets its contract: a turn stores one more kind.
-use Rattle.std.proofs.Common.{◌∙◌}
-use Rattle.lent.proofs.FillLaws.{fill_start_front, fill_turn_front, fill_end_front}
+-- Each place takes the kind of its letter.
+use Rattle.std.proofs.Common.{ap, ◌∙◌, length, rules}
+use lib.ListN.{get_or}
+use Rattle.lent.specs.Over.{over}
+use Rattle.lent.proofs.FillLaws.{tabulate_places}
+use Rattle.letters_text.specs.Letters.{kinds_of}
 use Rattle.letters_text.proofs.LetterLaws.{length-kinds, kind_at}
 use Rattle.letters_text.proofs.fill_kinds.Goals as goal
 
-pub loop-i-init : goal.loop-i-init
-loop-i-init c = fill_start_front _ _ _ (length-kinds _) c.requires
-
-pub loop-i-preserved : goal.loop-i-preserved
-loop-i-preserved c = fill_turn_front 0 c.loop-i.invariant c.loop-i-test.true (kind_at _ _ _ c.loop-i-test.true (c.from.ensures ∙ c.kind_of.ensures))
-
 pub returns : goal.returns
-returns c = fill_end_front c.loop-i.invariant c.loop-i-test.false
+returns c =
+    let t = c.args.t.now in
+    c.by_place.ensures (λ i. get_or (kinds_of t) i 0) (λ i given h e. kind_at t i given h (search rules))
+    ∙ ap (λ l. over l c.args.kinds.now) (tabulate_places (kinds_of t) 0 (length t) (length-kinds t))

@@ -3,10 +3,10 @@ use Rattle.grouping_interval.proofs.MarkLaws.{marking_none, marking_start, marki
 use Rattle.grouping_interval.proofs.marks.mark_intervals.Goals as goal
 
 pub returns-then-n-eq0 : goal.returns-then-n-eq0
-returns-then-n-eq0 c = marking_none _ _ _ _ c.if-n-eq0.true
+returns-then-n-eq0 c = marking_none _ _ _ c.if-n-eq0.true
 
 pub loop-i-init : goal.loop-i-init
-loop-i-init c = marking_start _ _ _ _ c.requires c.if-n-eq0.false
+loop-i-init c = marking_start _ _ _ c.requires c.if-n-eq0.false
 
 pub loop-i-preserved : goal.loop-i-preserved
 loop-i-preserved c =

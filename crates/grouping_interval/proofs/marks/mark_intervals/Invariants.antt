@@ -3,4 +3,4 @@ use Rattle.grouping_interval.proofs.MarkLaws.{Marking}
 use Rattle.grouping_interval.proofs.marks.mark_intervals.Given as goal
 
 abbrev pub invariant-loop-i : goal.invariant-loop-i
-invariant-loop-i l = Marking l.margin l.values l.to l.initial.w l.w l.opens l.i
+invariant-loop-i l = Marking l.margin l.values l.initial.marks l.marks l.opens l.i

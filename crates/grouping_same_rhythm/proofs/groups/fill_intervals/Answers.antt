@@ -1,18 +1,16 @@
--- A turn stores the next interval.
-use Rattle.std.proofs.Common.{◌∙◌}
+-- Each place takes the interval of its group.
+use Rattle.std.proofs.Common.{ap, ◌∙◌, length, rules}
+use lib.ListN.{get_or}
 use lib.Ieee.{nan}
-use Rattle.lent.proofs.FillLaws.{fill_start_front, fill_turn_front, fill_end_front}
+use Rattle.lent.specs.Over.{over}
+use Rattle.lent.proofs.FillLaws.{tabulate_places}
+use Rattle.grouping_same_rhythm.specs.SameRhythm.{starts_of, intervals_of}
 use Rattle.grouping_same_rhythm.proofs.GroupsLaws.{length-starts, length-intervals}
 use Rattle.grouping_same_rhythm.proofs.groups.fill_intervals.Goals as goal
 
-pub loop-k-init : goal.loop-k-init
-loop-k-init c = fill_start_front _ _ _ (length-intervals _ _ ∙ length-starts _ _) c.requires.room
-
-pub interval_at-requires : goal.interval_at-requires
-interval_at-requires c = record { there = c.loop-k-test.true; inside = c.requires.inside }
-
-pub loop-k-preserved : goal.loop-k-preserved
-loop-k-preserved c = fill_turn_front nan c.loop-k.invariant c.loop-k-test.true c.interval_at.ensures
-
 pub returns : goal.returns
-returns c = fill_end_front c.loop-k.invariant c.loop-k-test.false
+returns c =
+    let all = intervals_of c.args.margin (starts_of c.args.start.now c.args.firsts.now) in
+    let n = length c.args.firsts.now in
+    c.by_place.ensures (λ k. get_or all k nan) (λ k given h e. search rules)
+    ∙ ap (λ l. over l c.args.intervals.now) (tabulate_places all nan n (length-intervals _ _ ∙ length-starts _ _))
