@@ -2,9 +2,9 @@
 use mathlib.Core.Path.{◌≡◌, refl, sym, ◌∙◌}
 use mathlib.Core.Bool.{Bool}
 use mathlib.Core.List.{List}
-use Prim.Native.Nat.{ℕ, ◌≤◌}
+use Prim.Native.Nat.{ℕ}
 use native.Mathlib.Omega.{arith}
-use lib.ListN.{length, take, drop}
+use lib.ListN.{take, drop}
 use lib.Ieee.{Float}
 use Rattle.std.specs.Prelude.{Option, None, Ok}
 use Rattle.lent.specs.Over.{over}
@@ -43,12 +43,6 @@ module _ (rate : Float) (r : Raw) (m : Memory) {n : ℕ} (size : built_size r �
         delta = rw (← size) l.1.1.0;
         ratio = rw (← size) l.1.1.1.0;
       }
-
-  -- the deltas that the ratios are made of
-  pub deltas_left : {delta : List Float} → n ≤ length m.delta → delta ≡ over (built_deltas rate r.times n) m.delta → length (take n delta) ≡ n
-  deltas_left h e =
-      let deltas = length-tabulate (delta_at rate r.times) n in
-      rw (e, front (built_deltas rate r.times n) m.delta n deltas) deltas
 
   -- the four lists, as the passes leave them, are the built chart's
   pub chart-filled : {kind : List ℕ} {start delta ratio : List Float} → kind ≡ over (drop 2 r.kinds) m.kind

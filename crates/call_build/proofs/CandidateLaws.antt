@@ -9,17 +9,6 @@ use Rattle.call_build.specs.Ratio.{nearer_of}
 use Rattle.call_build.specs.passes.Candidate.{candidate_of}
 use Rattle.call_build.specs.declared.ratio.Candidate.{Candidate}
 
-module _ (q r : Float) (best : Candidate) {next : Candidate} where
-  pub candidate_taken : next ≡ candidate_of q r → lt next.gap best.gap ≡ true
-      → next ≡ cond (lt (gap_of r q) best.gap) (candidate_of q r) best
-  unfolding candidate_of
-  candidate_taken e t = rw (rw e at t) e
-
-  pub candidate_kept : next ≡ candidate_of q r → lt next.gap best.gap ≡ false
-      → best ≡ cond (lt (gap_of r q) best.gap) (candidate_of q r) best
-  unfolding candidate_of
-  candidate_kept e t = rw (rw e at t) refl
-
 either : {A B : Type 0} (f : A → B) (t : Bool) (x y : A) → cond t (f x) (f y) ≡ f (cond t x y)
 either f true x y = refl
 either f false x y = refl

@@ -25,6 +25,7 @@ fn measured(ratio: f64, q: f64) -> Candidate
 }
 
 // `ratio` where it is nearer, so that of equals the first stays.
+#[tactic(auto, unfolding(crate::specs::passes::Candidate::candidate_of))]
 fn nearer(best: Candidate, ratio: f64, q: f64) -> Candidate
     ensures { result ≡ cond (Ieee.lt (gap_of ratio q) best.gap) (candidate_of q ratio) best }
 {

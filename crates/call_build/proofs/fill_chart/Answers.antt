@@ -1,23 +1,13 @@
 -- The four lists that the passes leave are those of the built chart.
-use mathlib.Core.Path.{sym, ap, ◌∙◌}
+use mathlib.Core.Path.{ap, ◌∙◌}
 use mathlib.Core.List.{List}
 use Prim.Native.Nat.{ℕ}
 use Rattle.lent.specs.Over.{over}
 use Rattle.call_build.specs.Call.{memory}
 use Rattle.call_build.specs.Lent.{seen}
 use Rattle.call_build.proofs.ChartLaws.{lent-kinds}
-use Rattle.call_build.proofs.CallLaws.{deltas_left, chart-filled}
+use Rattle.call_build.proofs.CallLaws.{chart-filled}
 use Rattle.call_build.proofs.fill_chart.Goals as goal
-
-pub slice_bounds-fill_ratios-end-2 : goal.slice_bounds-fill_ratios-end-2
-slice_bounds-fill_ratios-end-2 c =
-    let m = memory c.args.built_kind.now c.args.start.now c.args.delta.now c.args.ratio.now in
-    sym (deltas_left _ (seen c.args.raw) m c.requires.raw.size c.requires.delta c.fill_deltas.ensures)
-
-pub fill_ratios-requires : goal.fill_ratios-requires
-fill_ratios-requires c =
-    let m = memory c.args.built_kind.now c.args.start.now c.args.delta.now c.args.ratio.now in
-    rw (deltas_left _ (seen c.args.raw) m c.requires.raw.size c.requires.delta c.fill_deltas.ensures) c.requires.ratio
 
 pub returns : goal.returns
 returns c =

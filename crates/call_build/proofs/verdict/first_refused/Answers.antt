@@ -1,13 +1,10 @@
 -- A turn is one step of the definition, on the object that was built of the raw one.
-use Rattle.std.proofs.Common.{refl, sym, ◌∙◌, arith}
+use Rattle.std.proofs.Common.{sym, ◌∙◌, arith}
 use lib.Ieee.{nan, of_bits}
 use Rattle.grouping_chart.proofs.RefusalLaws.{first_from, first_none}
 use Rattle.call_build.specs.Lent.{seen}
 use Rattle.call_build.proofs.ChartLaws.{built-size, built-lengths, reason_found}
 use Rattle.call_build.proofs.verdict.first_refused.Goals as goal
-
-pub loop-i-init : goal.loop-i-init
-loop-i-init c = refl
 
 pub loop-i-preserved : goal.loop-i-preserved
 unfolding of_bits
