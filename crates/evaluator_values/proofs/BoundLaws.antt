@@ -7,12 +7,12 @@ use lib.Dec.{T}
 use lib.ListN.{get_or}
 use lib.Ieee.{nan, binary64, is_nan, le, mul}
 use lib.Ieee.Fits.{mul-fits}
+use Rattle.std.specs.Prelude.{Option}
 use Rattle.numeric.specs.Range.{least_ratio, greatest_ratio}
 use Rattle.numeric.proofs.Values.{Number, number_no_nan}
 use Rattle.numeric.proofs.Bounded.{Bounded, bounded_number}
 use Rattle.grouping_chart.specs.Chart.{Chart, size}
 use Rattle.grouping_chart.specs.Refusal.{accepted, verdict}
-use Rattle.std.specs.Prelude.{Option}
 use Rattle.grouping_chart.specs.declared.refusal.Reason.{Reason}
 use Rattle.grouping_chart.specs.Settings.{Settings}
 use Rattle.grouping_chart.proofs.AcceptedLaws.{GoodChart, accepted_good}
@@ -40,9 +40,9 @@ ratio_at_lem {c} g i h = ratio_range (get_or c.ratios i nan) (g.objects i nan h)
 module _ (s : Settings) (c : Chart) (beside : Option Reason) (good : verdict c beside ≡ accepted) where
   pub value_bounded : (i : ℕ) → i < size c → Bounded (get_or (values_of s c) i nan) largest_colour
   value_bounded i h =
-      let known = accepted_good c beside good in
-      let r = ratio_at_lem known i h in
-      let p = ratio_at_lem known (i - 2) (omega arith) in
+      let objects = accepted_good c beside good in
+      let r = ratio_at_lem objects i h in
+      let p = ratio_at_lem objects (i - 2) (omega arith) in
       rw (value_is s c i h)
       (formulas.colour_bounded s.tolerance i (get_or c.ratios i nan) (get_or c.ratios (i - 2) nan) r.0 r.1 p.0 p.1
       (standing_at s.limit c.kinds i))

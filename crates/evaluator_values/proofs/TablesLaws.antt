@@ -1,26 +1,28 @@
 -- The encoder's tables, looked up for one object: each number is in range, and what stands there is the definition's.
 use mathlib.Core.Path.{◌≡◌, refl, sym, ap, ◌∙◌}
 use mathlib.Core.List.{List}
-use Prim.Native.Nat.{ℕ, ◌+◌, ◌*◌, ◌<◌}
+use Prim.Native.Nat.{ℕ, ◌-◌, ◌<◌}
 use native.Mathlib.Omega.{arith}
 use lib.ListN.{length, get_or}
-use Rattle.lent.specs.Over.{part}
-use Rattle.lent.specs.Scan.{gathered}
-use Rattle.lent.proofs.OverLaws.{get_or-part}
-use Rattle.lent.proofs.FillLaws.{get_or-gathered}
-use Rattle.grouping_colour.specs.MonoStreak.{streak_of}
-use Rattle.grouping_preprocessor.specs.Preprocessor.{hit_intervals, streak_place_of, alternating_of, pattern_place_of, hit_of, interval_of}
-use Rattle.grouping_preprocessor.proofs.BoundLaws.{streak_place_of_looked, alternating_of_looked, pattern_place_of_looked, hit_of_looked, interval_of_looked}
+use lib.Ieee.{Float, nan, binary64, mul}
+use Rattle.lent.proofs.FillLaws.{length-gathered, get_or-gathered}
+use Rattle.grouping_preprocessor.specs.Preprocessor.{hit_intervals}
 use Rattle.grouping_colour.proofs.StreakListLaws.{length-streak_of}
-use Rattle.grouping_preprocessor.proofs.BoundLaws.{length-alternating_of, length-hit_of, alternating_of-below, hit_of-below}
-use Rattle.grouping_colour.proofs.StreakListLaws.{streak-below}
-use Rattle.grouping_preprocessor.specs.passes.Steps.{Regions, Tables}
+use Rattle.grouping_preprocessor.specs.passes.Steps.{Regions}
+use Rattle.grouping_preprocessor.specs.passes.Steps as steps
+use Rattle.grouping_preprocessor.specs.passes.LookUps.{streaks, streak_places, patterns, pattern_places, hits, intervals, TablesOf}
 use Rattle.grouping_preprocessor.specs.declared.Levels.{Levels}
-use Rattle.evaluator_values.specs.passes.Tables.{Tabled, ObjectIn, NumbersAt}
+use Rattle.grouping_preprocessor.specs.declared.tables.Tables.{Tables}
+use Rattle.grouping_preprocessor.proofs.LookUpsLaws.{streak_places_are, patterns_are, pattern_places_are, hits_are, intervals_are, linked}
+use Rattle.evaluator_colour.specs.Formulas.{object_sum}
+use Rattle.evaluator_colour.specs.RatioPenalty.{ratio_penalty}
+use Rattle.evaluator_values.specs.Colour.{is_first, standing_at, colour_at}
+use Rattle.evaluator_values.specs.passes.Tables.{Tabled, ObjectIn, NumbersAt, looked_up, looked_colour}
 use Rattle.evaluator_values.specs.declared.Numbers.{Numbers}
+use Rattle.evaluator_values.proofs.StandingLaws.{same_standing}
 
 -- ---- the encoder's answer says where its tables lie
-pub tabled : {limit : ℕ} {kinds w₀ w : List ℕ} {k : Levels} → Regions (length kinds) w₀ → Tables limit kinds w₀ w k → Tabled kinds w k
+pub tabled : {limit : ℕ} {kinds w₀ w : List ℕ} {k : Levels} → Regions (length kinds) w₀ → steps.Tables limit kinds w₀ w k → Tabled kinds w k
 tabled {limit} {kinds} r t = record {
   regions = record { few = r.few; room = omega (arith, r.room, t.outside.same) };
   tables = record {
@@ -42,58 +44,64 @@ tabled {limit} {kinds} r t = record {
 }
 
 -- ---- what is looked up
--- entry s of a table of m places from place a on, where s is the object's number
-entry_is : (w : List ℕ) (a m : ℕ) (table idx answer : List ℕ) (i s : ℕ) → part a m w ≡ table → gathered table idx ≡ answer → i < length idx → s < m
-    → s ≡ get_or idx i 0
-    → get_or w (a + s) 0 ≡ get_or answer i 0
-entry_is w a m table idx answer i s t g h r e =
-    sym (get_or-part a m w s 0 r) ∙ (λ j. get_or (t j) (e j) 0) ∙ sym (get_or-gathered table idx i h) ∙ ap (λ (l : List ℕ). get_or l i 0) g
+module _ {t : Tables} {i : ℕ} (o : ObjectIn t i) where
+  in_patterns : i < length (patterns t)
+  in_patterns = omega (arith, length-gathered t.pattern.now (streaks t), o.within)
 
-module _ {kinds w : List ℕ} {k : Levels} {i : ℕ} (o : ObjectIn kinds w k i) where
-  streak_is : get_or w i 0 ≡ get_or (streak_of kinds) i 0
-  streak_is =
-      let z : 0 + i ≡ i = omega arith in
-      ap (λ (j : ℕ). get_or w j 0) (sym z) ∙ sym (get_or-part 0 (length kinds) w i 0 o.within) ∙ ap (λ (l : List ℕ). get_or l i 0) o.tabled.tables.streak
+  in_hits : i < length (hits t)
+  in_hits = omega (arith, length-gathered t.hit.now (patterns t), in_patterns)
 
-  pub streak_in : get_or w i 0 < k.streaks
-  streak_in = omega (arith, streak_is, streak-below kinds i o.within, o.tabled.tables.count_s)
+  pattern_at : get_or t.pattern.now (get_or (streaks t) i 0) 0 ≡ get_or (patterns t) i 0
+  pattern_at = sym (get_or-gathered t.pattern.now (streaks t) i o.within)
 
-  pattern_is : get_or w (3 * length kinds + get_or w i 0) 0 ≡ get_or (alternating_of kinds) i 0
-  pattern_is =
-      entry_is w (3 * length kinds) k.streaks _ (streak_of kinds) _ i (get_or w i 0) o.tabled.tables.pattern (alternating_of_looked kinds)
-      (omega (arith, length-streak_of kinds, o.within)) streak_in streak_is
+  pub pattern_in : get_or t.pattern.now (get_or (streaks t) i 0) 0 < length t.hit.now
+  pattern_in = rw pattern_at (o.linked.hit i in_patterns)
 
-  pub pattern_in : get_or w (3 * length kinds + get_or w i 0) 0 < k.patterns
-  pattern_in = omega (arith, pattern_is, alternating_of-below kinds i o.within, o.tabled.tables.count_p)
-
-  hit_is : get_or w (length kinds + get_or w (3 * length kinds + get_or w i 0) 0) 0 ≡ get_or (hit_of kinds) i 0
-  hit_is =
-      entry_is w (length kinds) k.patterns _ (alternating_of kinds) _ i (get_or w (3 * length kinds + get_or w i 0) 0)
-      o.tabled.tables.hit (hit_of_looked kinds) (omega (arith, length-alternating_of kinds, o.within)) pattern_in pattern_is
-
-  hit_in : get_or w (length kinds + get_or w (3 * length kinds + get_or w i 0) 0) 0 < k.hits
-  hit_in = omega (arith, hit_is, hit_of-below kinds i o.within, o.tabled.tables.count_h)
-
-  pub numbers_are : NumbersAt kinds k i
+  pub numbers_are : NumbersAt t i
       (record {
-        streak = get_or w i 0;
-        pattern = get_or w (3 * length kinds + get_or w i 0) 0;
-        hit = get_or w (length kinds + get_or w (3 * length kinds + get_or w i 0) 0) 0;
+        streak = get_or (streaks t) i 0;
+        pattern = get_or t.pattern.now (get_or (streaks t) i 0) 0;
+        hit = get_or t.hit.now (get_or t.pattern.now (get_or (streaks t) i 0) 0) 0;
       })
-  numbers_are = record { streaks = streak_is; patterns = pattern_is; hits = hit_is; in_streaks = streak_in; in_patterns = pattern_in; in_hits = hit_in }
+  numbers_are = record {
+    streaks = refl;
+    patterns = pattern_at;
+    hits = ap (λ (j : ℕ). get_or t.hit.now j 0) pattern_at ∙ sym (get_or-gathered t.hit.now (patterns t) i in_patterns);
+  }
 
-  module _ {r : Numbers} (a : NumbersAt kinds k i r) where
-    pub interval_is : get_or w (7 * length kinds + r.hit) 0 ≡ get_or (interval_of k.limit kinds) i 0
-    interval_is =
-        entry_is w (7 * length kinds) k.hits _ (hit_of kinds) _ i r.hit o.tabled.tables.interval (interval_of_looked kinds k.limit)
-        (omega (arith, length-hit_of kinds, o.within)) a.in_hits a.hits
+  module _ {r : Numbers} (a : NumbersAt t i r) where
+    pub hit_in : r.hit < length t.interval.now
+    hit_in = rw a.hits (o.linked.interval i in_hits)
 
-    pub pattern-place_is : get_or w (2 * length kinds + r.pattern) 0 ≡ get_or (pattern_place_of kinds) i 0
-    pattern-place_is =
-        entry_is w (2 * length kinds) k.patterns _ (alternating_of kinds) _ i r.pattern o.tabled.tables.pattern-place (pattern_place_of_looked kinds)
-        (omega (arith, length-alternating_of kinds, o.within)) a.in_patterns a.patterns
+    pub place_in : r.pattern < length t.pattern_place.now
+    place_in = rw a.patterns (o.linked.pattern_place i in_patterns)
 
-    pub streak-place_is : get_or w (4 * length kinds + r.streak) 0 ≡ get_or (streak_place_of kinds) i 0
-    streak-place_is =
-        entry_is w (4 * length kinds) k.streaks _ (streak_of kinds) _ i r.streak o.tabled.tables.streak-place (streak_place_of_looked kinds)
-        (omega (arith, length-streak_of kinds, o.within)) a.in_streaks a.streaks
+    pub interval_is : get_or t.interval.now r.hit 0 ≡ get_or (intervals t) i 0
+    interval_is = rw a.hits (sym (get_or-gathered t.interval.now (hits t) i in_hits))
+
+    pub pattern-place_is : get_or t.pattern_place.now r.pattern 0 ≡ get_or (pattern_places t) i 0
+    pattern-place_is = rw a.patterns (sym (get_or-gathered t.pattern_place.now (patterns t) i in_patterns))
+
+    pub streak-place_is : get_or t.streak_place.now r.streak 0 ≡ get_or (streak_places t) i 0
+    streak-place_is = rw a.streaks (sym (get_or-gathered t.streak_place.now (streaks t) i o.within))
+
+-- ---- by the definitions
+module _ {limit : ℕ} {kinds : List ℕ} {t : Tables} (e : TablesOf limit kinds t) where
+  pub object_in : (i : ℕ) → i < length kinds → ObjectIn t i
+  object_in i h = record { linked = linked e; within = omega (arith, ap length e.streak, length-streak_of kinds) }
+
+  standing_is : (i : ℕ) → looked_up t i ≡ standing_at limit kinds i
+  unfolding looked_up standing_at
+  standing_is i = same_standing (record {
+    interval = ap (λ l. get_or l i 0) (intervals_are e);
+    pattern_place = ap (λ l. get_or l i 0) (pattern_places_are e);
+    streak_place = ap (λ l. get_or l i 0) (streak_places_are e);
+    streak = ap (λ l. is_first l i) e.streak;
+    pattern = ap (λ l. is_first l i) (patterns_are e);
+    hit = ap (λ l. is_first l i) (hits_are e);
+  })
+
+  pub colour_is : (tolerance : Float) (ratios : List Float) (i : ℕ) → looked_colour tolerance ratios t i ≡ colour_at limit tolerance kinds ratios i
+  unfolding looked_colour colour_at
+  colour_is tolerance ratios i =
+      ap (λ s. mul binary64 (object_sum s) (ratio_penalty tolerance i (get_or ratios i nan) (get_or ratios (i - 2) nan))) (standing_is i)

@@ -4,12 +4,14 @@
 ghost use Rattle.std.specs.Prelude.{◌≡◌, ◌-◌, ◌<◌, ◌≤◌, length, get_or};
 ghost use Rattle.std.specs.Float.{nan};
 ghost use Rattle.lent.specs.Over.{over};
-ghost use Rattle.evaluator_values.specs.Colour.{standing_at, colour_at, colour_values};
-ghost use Rattle.evaluator_values.specs.passes.Tables.{ObjectIn, NumbersAt, Sources};
+ghost use Rattle.evaluator_values.specs.Colour.{colour_values};
+ghost use Rattle.evaluator_values.specs.passes.Tables.{ObjectIn, NumbersAt, looked_up, looked_colour, Sources};
 
 use evaluator_colour::Standing;
+use grouping_chart::chart::Chart;
 use grouping_chart::object::ObjectIndex;
 use grouping_preprocessor::Levels;
+use grouping_preprocessor::tables::Tables;
 use lent::fill;
 use numeric::logistic::LogisticTable;
 
@@ -21,15 +23,14 @@ pub struct Numbers {
     pub hit: usize,
 }
 
-fn numbers_at(kind: &[u8], w: &[u16], k: Levels, idx: ObjectIndex) -> Numbers
-    requires { ObjectIn kind.now w.now k idx.0 }
-    ensures { NumbersAt kind.now k idx.0 result }
+fn numbers_at(tables: Tables, idx: ObjectIndex) -> Numbers
+    requires { ObjectIn tables idx.0 }
+    ensures { NumbersAt tables.entry idx.0 result }
 {
-    let n = kind.len();
     let i = idx.0;
-    let streak = w[i] as usize;
-    let pattern = w[3 * n + streak] as usize;
-    let hit = w[n + pattern] as usize;
+    let streak = tables.streak[i] as usize;
+    let pattern = tables.pattern[streak] as usize;
+    let hit = tables.hit[pattern] as usize;
     Numbers {
         streak,
         pattern,
@@ -37,19 +38,15 @@ fn numbers_at(kind: &[u8], w: &[u16], k: Levels, idx: ObjectIndex) -> Numbers
     }
 }
 
-fn standing_at(kind: &[u8], w: &[u16], k: Levels, idx: ObjectIndex) -> Standing
-    requires { ObjectIn kind.now w.now k idx.0 }
-    ensures { result ≡ standing_at k.limit kind.now idx.0 }
+fn standing_at(tables: Tables, idx: ObjectIndex) -> Standing
+    requires { ObjectIn tables idx.0 }
+    ensures { result ≡ looked_up tables.entry idx.0 }
 {
-    let n = kind.len();
     let i = idx.0;
-    let at = numbers_at(kind, w, k, idx);
-    let streak = at.streak;
-    let pattern = at.pattern;
-    let hit = at.hit;
-    let interval = w[7 * n + hit] as usize;
-    let pattern_place = w[2 * n + pattern] as usize;
-    let streak_place = w[4 * n + streak] as usize;
+    let at = numbers_at(tables, idx);
+    let interval = tables.interval[at.hit] as usize;
+    let pattern_place = tables.pattern_place[at.pattern] as usize;
+    let streak_place = tables.streak_place[at.streak] as usize;
     if i == 0 {
         return Standing {
             interval,
@@ -60,14 +57,14 @@ fn standing_at(kind: &[u8], w: &[u16], k: Levels, idx: ObjectIndex) -> Standing
             hit: true,
         };
     }
-    let before = numbers_at(kind, w, k, ObjectIndex(i - 1));
+    let before = numbers_at(tables, ObjectIndex(i - 1));
     Standing {
         interval,
         pattern_place,
         streak_place,
-        streak: streak != before.streak,
-        pattern: pattern != before.pattern,
-        hit: hit != before.hit,
+        streak: at.streak != before.streak,
+        pattern: at.pattern != before.pattern,
+        hit: at.hit != before.hit,
     }
 }
 
@@ -85,40 +82,39 @@ fn earlier_ratio(ratio: &[f64], idx: ObjectIndex) -> f64
 
 fn value_at(
     table: &LogisticTable,
-    kind: &[u8],
     ratio: &[f64],
-    w: &[u16],
-    k: Levels,
+    tables: Tables,
     tolerance: f64,
     idx: ObjectIndex,
 ) -> f64
-    requires sources { Sources kind.now ratio.now w.now k }
-    requires inside { idx.0 < length kind.now }
-    ensures { result ≡ colour_at k.limit tolerance kind.now ratio.now idx.0 }
+    requires object { ObjectIn tables idx.0 }
+    requires ratio { idx.0 < length ratio.now }
+    ensures { result ≡ looked_colour tolerance ratio.now tables.entry idx.0 }
 {
-    let sum = evaluator_colour::object_sum(table, standing_at(kind, w, k, idx));
+    let sum = evaluator_colour::object_sum(table, standing_at(tables, idx));
     let i = idx.0;
     let c = ratio[i];
     let p = earlier_ratio(ratio, idx);
     sum * evaluator_colour::ratio_penalty(idx, c, p, tolerance)
 }
 
-// Fills the colour value of each object.
+// Fills the colour value of each object, by the encoder's tables in the work slice.
 pub fn fill_values(
     table: &LogisticTable,
-    kind: &[u8],
-    ratio: &[f64],
-    w: &[u16],
-    k: Levels,
+    chart: Chart,
+    work: &[u16],
+    levels: Levels,
     tolerance: f64,
     value: &mut [f64],
 )
-    requires sources { Sources kind.now ratio.now w.now k }
-    requires room { length kind.now ≤ length value.old }
+    requires sources { Sources chart.kind.now chart.ratio.now work.now levels }
+    requires room { length chart.kind.now ≤ length value.old }
     ensures { value.new
-        ≡ over (colour_values k.limit tolerance kind.now ratio.now) value.old }
+        ≡ over (colour_values levels.limit tolerance chart.entry.kind.now chart.entry.ratio.now) value.old }
 {
-    fill::by_place(kind.len(), value, |i| {
-        value_at(table, kind, ratio, w, k, tolerance, ObjectIndex(i))
+    let n = chart.kind.len();
+    let tables = Tables::of(work, n, levels);
+    fill::by_place(n, value, |i| {
+        value_at(table, chart.ratio, tables, tolerance, ObjectIndex(i))
     });
 }
