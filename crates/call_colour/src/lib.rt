@@ -27,25 +27,18 @@ pub struct StretchMean {
 }
 
 // What both calls do with an accepted chart: encode, fill the values, and clear the work slices.
-fn fill_chart(
-    kind: &[u8],
-    ratio: &[f64],
-    s: Settings,
-    value: &mut [f64],
-    work: &mut [u16],
-    scratch: &mut [f64],
-)
-    requires { ChartRoom s kind.now ratio.now (memory value.old work.old scratch.old) }
-    ensures { memory value.new work.new scratch.new ≡ filled s kind.now ratio.now
+fn fill_chart(chart: Chart, s: Settings, value: &mut [f64], work: &mut [u16], scratch: &mut [f64])
+    requires { ChartRoom s chart.kind.now chart.ratio.now (memory value.old work.old scratch.old) }
+    ensures { memory value.new work.new scratch.new ≡ filled s chart.entry.kind.now chart.entry.ratio.now
         (memory value.old work.old scratch.old) }
 {
-    let n = kind.len();
+    let n = chart.kind.len();
     let limit = SearchLimit {
         value: s.limit as u16,
     };
-    let k = grouping_preprocessor::encode_levels(kind, work, limit);
+    let k = grouping_preprocessor::encode_levels(chart.kind, work, limit);
     let table = LogisticTable::new();
-    evaluator_values::fill_values(&table, kind, ratio, work, k, s.tolerance, value);
+    evaluator_values::fill_values(&table, chart, work, k, s.tolerance, value);
     fill::front(work, 8 * n, 0);
     fill::front(scratch, n, 0.0);
 }
@@ -62,14 +55,7 @@ pub fn colour(
 {
     let short = value.len() < chart.kind.len();
     judge(chart, short, work.len(), scratch.len())?;
-    fill_chart(
-        chart.kind,
-        chart.ratio,
-        settings::base(),
-        value,
-        work,
-        scratch,
-    );
+    fill_chart(chart, settings::base(), value, work, scratch);
     Ok(())
 }
 
@@ -90,14 +76,7 @@ pub fn stretch(
     if let Some(reason) = stretches::stretch_refusal(chart.kind, a, b) {
         return Err(Refusal::from(reason));
     }
-    fill_chart(
-        chart.kind,
-        chart.ratio,
-        settings::base(),
-        value,
-        work,
-        scratch,
-    );
+    fill_chart(chart, settings::base(), value, work, scratch);
     let mean = stretches::mean(chart.kind, value, a, b);
     Ok(StretchMean {
         mean,
