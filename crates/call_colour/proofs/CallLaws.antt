@@ -6,8 +6,8 @@ use lib.IntN.{ℤ}
 use lib.Ieee.{Float}
 use Rattle.grouping_chart.specs.Chart.{Chart}
 use Rattle.grouping_chart.specs.Outcome.{outcome}
-use Rattle.std.specs.Prelude.{None, Ok}
-use Rattle.grouping_chart.specs.Refusal.{Verdict, accepted}
+use Rattle.std.specs.Prelude.{Ok}
+use Rattle.grouping_chart.specs.Refusal.{passed, Verdict, accepted}
 use Rattle.grouping_chart.proofs.OutcomeLaws.{accommodated, BothAccepted, answered-done}
 use Rattle.grouping_chart.specs.Settings.{Settings, Permitted}
 use Rattle.call_colour.specs.Stretch.{stretch_refusal, stretch_verdict, chart_mean, chart_tenths}
@@ -18,7 +18,7 @@ use Rattle.call_colour.specs.passes.Rooms.{ChartRoom}
 abbrev pub StretchAccepted : Verdict → List ℕ → ℕ → ℕ → Type 0
 StretchAccepted v kinds a b = BothAccepted v (stretch_refusal kinds a b)
 
-pub both_accepted : (c : Chart) (m : Memory) (a b : ℕ) → judged c m ≡ accepted → stretch_refusal c.kinds a b ≡ None → StretchAccepted (judged c m) c.kinds a b
+pub both_accepted : (c : Chart) (m : Memory) (a b : ℕ) → judged c m ≡ accepted → stretch_refusal c.kinds a b ≡ passed → StretchAccepted (judged c m) c.kinds a b
 both_accepted c m a b h e = record { chart = h; none = e }
 
 -- ---- each case leaves its outcome

@@ -6,9 +6,10 @@ use Prim.Native.Nat.{ℕ, ◌*◌, ◌/◌, ◌≤◌, ◌<◌}
 use native.Mathlib.Omega.{arith}
 use borrow.Author.Tests.{lt-ltb, le-ltb, ltb-false}
 use lib.Dec.{ltb}
-use Rattle.std.specs.Prelude.{Some, None}
+use Rattle.std.specs.Prelude.{Err}
 use Rattle.lent.proofs.NeverLaws.{never}
 use Rattle.grouping_chart.specs.declared.refusal.Reason.TheVariants.{ShortSlice}
+use Rattle.grouping_chart.specs.Refusal.{passed}
 use Rattle.grouping_chart.specs.Room.{any_short, short_refusal}
 
 -- no slice is too short for n objects, by how many places the work slices have
@@ -21,11 +22,11 @@ pub either_false : (a b : Bool) → (a || b) ≡ false → (a ≡ false) × (b �
 either_false true b e = absurd (true≢false e)
 either_false false b e = (refl, e)
 
-not_refused : (b : Bool) → cond b (Some ShortSlice) None ≡ None → b ≡ false
+not_refused : (b : Bool) → cond b (Err ShortSlice) passed ≡ passed → b ≡ false
 not_refused true e = never (cc)
 not_refused false e = refl
 
-pub roomy : (answers : Bool) (n work scratch : ℕ) → short_refusal answers n work scratch ≡ None → Roomy answers n work scratch
+pub roomy : (answers : Bool) (n work scratch : ℕ) → short_refusal answers n work scratch ≡ passed → Roomy answers n work scratch
 unfolding short_refusal
 roomy answers n work scratch e =
     let a = either_false _ _ (not_refused (answers || (ltb work (8 * n) || ltb scratch n)) e) in
@@ -68,19 +69,19 @@ none_asked n = refl
 -- ---- the cases
 
 module _ (answers : Bool) (n work scratch : ℕ) where
-  pub answers_short : answers ≡ true → Some ShortSlice ≡ short_refusal answers n work scratch
+  pub answers_short : answers ≡ true → Err ShortSlice ≡ short_refusal answers n work scratch
   unfolding short_refusal
   answers_short a = rw a
 
   -- by eighths, as the code tests it
-  pub regions_short : answers ≡ false → work / 8 < n → Some ShortSlice ≡ short_refusal answers n work scratch
+  pub regions_short : answers ≡ false → work / 8 < n → Err ShortSlice ≡ short_refusal answers n work scratch
   unfolding short_refusal
   regions_short a w = rw (a, lt-ltb work (8 * n) (omega arith))
 
-  pub floats_short : answers ≡ false → n ≤ work / 8 → scratch < n → Some ShortSlice ≡ short_refusal answers n work scratch
+  pub floats_short : answers ≡ false → n ≤ work / 8 → scratch < n → Err ShortSlice ≡ short_refusal answers n work scratch
   unfolding short_refusal
   floats_short a w s = rw (a, le-ltb work (8 * n) (omega arith), lt-ltb scratch n s)
 
-  pub none_short : answers ≡ false → n ≤ work / 8 → n ≤ scratch → None ≡ short_refusal answers n work scratch
+  pub none_short : answers ≡ false → n ≤ work / 8 → n ≤ scratch → passed ≡ short_refusal answers n work scratch
   unfolding short_refusal
   none_short a w s = rw (a, le-ltb work (8 * n) (omega arith), le-ltb scratch n s)
