@@ -17,8 +17,7 @@ use Rattle.numeric.proofs.Bounded as bounds
 use Rattle.numeric.proofs.Bounded.{Bounded, bounded_more, bounded_number, bounded_tenths, add_bounded}
 use Rattle.numeric.proofs.tenths.Nearest.{tenths_nearest}
 use Rattle.grouping_chart.specs.Chart.{Chart}
-use Rattle.grouping_chart.specs.Refusal.{Check, passed, accepted, verdict}
-use Rattle.grouping_chart.specs.declared.refusal.Reason.{Reason}
+use Rattle.grouping_chart.specs.Refusal.{Check, accepted, verdict}
 use Rattle.grouping_chart.specs.Settings.{Settings}
 use Rattle.grouping_chart.proofs.AcceptedLaws.{accepted_good}
 use Rattle.evaluator_values.proofs.BoundLaws.{largest_colour, value_bounded}

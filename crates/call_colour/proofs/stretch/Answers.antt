@@ -35,7 +35,7 @@ returns-in_err-stretch_refusal c =
     let ch = seen a.chart in
     let m = memory a.value.now a.work.now a.scratch.now in
     let judged = verdict-judged ch (answer_lengths m) _ _ (short_joined (size ch) _ _) c.judge.ensures c.in_ok-judge.was in
-    let first : c.from_residual.result ≡ Err (at_0 c.in_err-stretch_refusal.field-0.0) = search rules in
+    let first : c.from_residual-in_err-stretch_refusal.result ≡ Err (at_0 c.in_err-stretch_refusal.field-0.0) = search rules in
     ap (λ r. outcome r m) first
     ∙ answered-refused _ _ m (then-refused _ judged (sym c.stretch_refusal.ensures ∙ c.in_err-stretch_refusal.was))
 
