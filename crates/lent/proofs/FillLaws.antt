@@ -1,6 +1,6 @@
 -- A loop that stores a goal list g of n elements from place `to` on, one element a turn: its invariant, with the laws of the start, of a turn and of the end.
 use mathlib.Core.Path.{◌≡◌, refl, sym, ap, ◌∙◌}
-use mathlib.Core.Logic.{◌⊎◌, inl, inr, ⊎_elim}
+use mathlib.Core.Logic.{◌⊎◌, ⊎_elim}
 use mathlib.Core.List.{List, [], ◌∷◌, ◌++◌, map}
 use Prim.Native.Nat.{ℕ, zero, suc, ◌+◌, ◌≤◌, ◌<◌}
 use native.Mathlib.Nat.{le_of_suc-le-suc, not-suc-le-zero, eq-or-lt_of_le, zero-add}
@@ -9,9 +9,9 @@ use Rattle.std.proofs.lemmas.List.{map-id}
 use native.Mathlib.Omega.{arith}
 use lib.ListN.{length, take, drop, get_or, length-drop, set, length-set, length-append, get_or-append, length-map}
 use lib.Seq.{get_or_at, drop-cons, ext_get_or}
-use Rattle.lent.specs.Over.{over, put, part}
+use Rattle.lent.specs.Over.{over, put}
 use Rattle.lent.specs.Scan.{tabulate, gathered}
-use Rattle.lent.proofs.OverLaws.{put_front, put_nothing, put-kept, put_all, store, unread, get_or-part}
+use Rattle.lent.proofs.OverLaws.{put_front, put_nothing, put-kept, put_all, store, unread}
 
 -- i elements are stored in what was w₀ and is now w
 pub record Fill {A : Type 0} (g : List A) (n to : ℕ) (w₀ w : List A) (i : ℕ) : Type 0 where
@@ -61,12 +61,6 @@ module _ {A : Type 0} where
   pub fill_unread : {g : List A} {n to : ℕ} {w₀ w : List A} {i : ℕ} (j : ℕ) (d : A) → Fill g n to w₀ w i → (j < to) ⊎ (to + i ≤ j)
       → get_or w j d ≡ get_or w₀ j d
   fill_unread {g} {n} {to} {w₀} {w} {i} j d x h = rw x.written (unread to g w₀ i j d (omega arith) (omega arith) h)
-
-  -- a loop that has stored j elements and reads element i of m places of the same slice, as `Room` allows
-  pub fill_read : {g : List A} {n to : ℕ} {w₀ w : List A} {j : ℕ} (from m i : ℕ) (d : A) → Fill g n to w₀ w j → (from + m ≤ to) ⊎ (to ≤ from) → j ≤ i → i < m
-      → get_or w (from + i) d ≡ get_or (part from m w₀) i d
-  fill_read {w₀} from m i d x c b h =
-      fill_unread (from + i) d x (⊎_elim (λ a. inl (omega arith)) (λ a. inr (omega arith)) c) ∙ sym (get_or-part from m w₀ i d h)
 
   -- ---- a loop that fills the front
 
