@@ -1,5 +1,5 @@
 -- A loop that stores a goal list g of n elements from place `to` on, one element a turn: its invariant, with the laws of the start, of a turn and of the end.
-use mathlib.Core.Path.{◌≡◌, refl, sym, ap, ◌∙◌}
+use mathlib.Core.Path.{◌≡◌, refl, sym, ap, ◌∙◌, subst}
 use mathlib.Core.Logic.{◌⊎◌, ⊎_elim}
 use mathlib.Core.List.{List, [], ◌∷◌, ◌++◌, map}
 use Prim.Native.Nat.{ℕ, zero, suc, ◌+◌, ◌≤◌, ◌<◌}
@@ -7,8 +7,9 @@ use native.Mathlib.Nat.{le_of_suc-le-suc, not-suc-le-zero, eq-or-lt_of_le, zero-
 use native.Mathlib.Numerals.{add-one}
 use Rattle.std.proofs.lemmas.List.{map-id}
 use native.Mathlib.Omega.{arith}
-use lib.ListN.{length, take, drop, get_or, length-drop, set, length-set, length-append, get_or-append, length-map}
+use lib.ListN.{length, take, drop, replicate, get_or, length-drop, set, length-set, length-append, get_or-append, length-map}
 use lib.Seq.{get_or_at, drop-cons, ext_get_or}
+use Rattle.std.specs.List.{FoldsTo}
 use Rattle.lent.specs.Over.{over, put}
 use Rattle.lent.specs.Scan.{tabulate, gathered}
 use Rattle.lent.proofs.OverLaws.{put_front, put_nothing, put-kept, put_all, store, unread}
@@ -73,6 +74,15 @@ module _ {A : Type 0} where
 
   pub fill_end_front : {g : List A} {n : ℕ} {w₀ w : List A} {i : ℕ} → Fill g n 0 w₀ w i → n ≤ i → w ≡ over g w₀
   fill_end_front {g} {w₀} x h = fill_end x h ∙ put_front g w₀
+
+-- what a closure gave in turn that gives one value and stays as it is
+pub replicate-from_calls : {F A : Type 0} (R : F → A → F → Type 0) (v : A) (f : F) → ((x : A) (f' : F) → R f x f' → (x ≡ v) × (f' ≡ f))
+    → (xs : List A) (last : F) → FoldsTo R f xs last → xs ≡ replicate (length xs) v
+replicate-from_calls R v f gives [] last ran = refl
+replicate-from_calls R v f gives (x ∷ xs) last (j, k, ran) =
+    let one = gives x j k in
+    let rest : xs ≡ replicate (length xs) v = replicate-from_calls R v f gives xs last (subst (λ q. FoldsTo R q xs last) one.1 ran) in
+    λ i. one.0 i ∷ rest i
 
 -- ---- goals whose elements are known by their place
 
