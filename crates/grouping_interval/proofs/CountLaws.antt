@@ -6,10 +6,9 @@ use mathlib.Core.List.{List, [], ◌∷◌}
 use Prim.Native.Nat.{ℕ, suc, ◌+◌, ◌≤◌, ◌<◌}
 use native.Mathlib.Nat.{add-zero}
 use native.Mathlib.Omega.{arith}
-use lib.Dec.{eqb, ltb}
+use lib.Dec.{ltb}
 use lib.ListN.{length, drop, get_or}
 use lib.Ieee.{Float, nan}
-use borrow.Author.Tests.{eq-eqb, ne_eqb}
 use Rattle.numeric.specs.Near.{is_near}
 use Rattle.lent.specs.Scan.{end_state}
 use Rattle.grouping_marks.specs.Marks.{group_count}
@@ -23,24 +22,20 @@ use Rattle.grouping_interval.specs.IntervalGrouping.{is_rise, last_taken, marks_
 use Rattle.grouping_interval.proofs.IntervalLaws.{marks_near, marks_rise, marks_neither, marks_one, marks_none, marks_first, length_marks}
 use Rattle.grouping_interval.proofs.GroupLaws.{marks_all}
 use Rattle.grouping_interval.specs.declared.notes.Counting.{Counting}
-use Rattle.grouping_interval.specs.passes.Counting.{counting₀, counted_behind, counted_next, counted, counted_with, groups_counted}
+use Rattle.grouping_interval.specs.passes.Counting.{counted_first, counted_behind, counted_next, counted_further, counted}
+use Rattle.grouping_interval.specs.passes.Counting.{counted_with, groups_counted, groups_in_all}
 use Rattle.std.specs.Prelude.{Option, Some, None}
 
 -- ---- the cases of a further note
 
 module _ (margin : Float) (c : Counting) (d : Float) where
-  pub counted_first : c.notes ≡ 0 → record { notes = 1; groups = 1; last = d; pending = None } ≡ counted margin c d
-  unfolding counted
-  counted_first e = rw (eq-eqb _ _ e)
+  pub counted-open : c.pending ≡ None → record { notes = c.notes + 1; groups = c.groups; last = c.last; pending = Some d } ≡ counted_further margin c d
+  unfolding counted_further
+  counted-open p = rw p
 
-  module _ (n : c.notes ≡ 0 → ⊥) where
-    pub counted-open : c.pending ≡ None → record { notes = c.notes + 1; groups = c.groups; last = c.last; pending = Some d } ≡ counted margin c d
-    unfolding counted counted_next
-    counted-open p = rw (ne_eqb _ _ n, p)
-
-    pub counted-pending : {next : Float} → c.pending ≡ Some next → counted_behind margin c next d ≡ counted margin c d
-    unfolding counted counted_next
-    counted-pending p = rw (ne_eqb _ _ n, p)
+  pub counted-pending : {next : Float} → c.pending ≡ Some next → counted_behind margin c next d ≡ counted_further margin c d
+  unfolding counted_further
+  counted-pending p = rw p
 
 module _ (margin : Float) (c : Counting) (next d : Float) where
   pub behind-near : is_near margin next d ≡ true
@@ -58,24 +53,30 @@ module _ (margin : Float) (c : Counting) (next d : Float) where
   unfolding counted_behind
   behind_neither e r = rw (e, r)
 
--- ---- the cases of the end
+-- ---- the cases of what is counted so far
 
-module _ (margin : Float) (c : Counting) where
-  pub ended_open : c.pending ≡ None → c.groups ≡ groups_counted margin c
-  unfolding groups_counted counted_with
-  ended_open p = rw p
+module _ (margin : Float) {s : Option Counting} where
+  pub note_first : {r : Counting} (d : Float) → s ≡ None → r ≡ counted_first d → Some r ≡ counted margin s d
+  unfolding counted
+  note_first d e h = rw (e, h)
 
-  pub ended_pending : (next : Float) (b : Bool) → c.pending ≡ Some next → last_taken margin (ltb 2 c.notes) c.last next ≡ b
-      → cond b c.groups (c.groups + 1) ≡ groups_counted margin c
-  unfolding groups_counted counted_with
-  ended_pending next b p e = rw (p, e)
+  pub note_further : {r c : Counting} (d : Float) → s ≡ Some c → r ≡ counted_further margin c d → Some r ≡ counted margin s d
+  unfolding counted
+  note_further d e h = rw (e, h)
+
+  pub none_in_all : s ≡ None → 0 ≡ groups_in_all margin s
+  unfolding groups_in_all
+  none_in_all e = rw e
+
+  pub some_in_all : {c : Counting} → s ≡ Some c → groups_counted margin c ≡ groups_in_all margin s
+  unfolding groups_in_all
+  some_in_all e = rw e
 
 -- ---- the marks of what is pending and left
 
 -- some note is counted, so some group
-record Begun (c : Counting) : Type 0 where
-  some-notes : c.notes ≡ 0 → ⊥
-  some-groups : 1 ≤ c.groups
+abbrev Begun : Counting → Type 0
+Begun c = 1 ≤ c.groups
 
 -- what is pending stands before the deltas left
 abbrev behind : Option Float → List Float → List Float
@@ -85,15 +86,15 @@ behind (Some next) ds = next ∷ ds
 -- counting on over the deltas left gives what their marks give
 abbrev Meets : Float → Counting → List Float → Type 0
 Meets margin c ds =
-    groups_counted margin (end_state (counted margin) c ds)
+    groups_in_all margin (end_state (counted margin) (Some c) ds)
     ≡ count_from c.groups (marks_after margin (ltb 2 (c.notes + length ds)) c.last (behind c.pending ds))
 
 meets_none : (margin : Float) (c : Counting) → Begun c → Meets margin c []
-unfolding groups_counted counted_with
-meets_none margin c h = rw (after_none (counted margin) c, add-zero c.notes) (by c.pending)
+unfolding groups_in_all groups_counted
+meets_none margin c h = rw (after_none (counted margin) (Some c), add-zero c.notes) (by c.pending)
   where
     last_by : (b : Bool) → cond b c.groups (c.groups + 1) ≡ count_from c.groups (cond b 0 1 ∷ [])
-    last_by true = sym (count_same c.groups [] h.some-groups ∙ count-over c.groups)
+    last_by true = sym (count_same c.groups [] h ∙ count-over c.groups)
     last_by false = sym (count_new c.groups [] ∙ count-over (c.groups + 1))
 
     by : (p : Option Float) → counted_with margin c p ≡ count_from c.groups (marks_after margin (ltb 2 c.notes) c.last (behind p []))
@@ -107,39 +108,39 @@ module _ (margin : Float) (c : Counting) (d : Float) (ds : List Float) (h : Begu
   many = ltb 2 (c.notes + 1 + length ds)
 
   -- one note more
-  meets_on : (c' : Counting) → c' ≡ counted margin c d → Begun c'
+  meets_on : (c' : Counting) → c' ≡ counted_further margin c d → Begun c'
       → count_from c.groups (marks_after margin many c.last (behind c.pending (d ∷ ds)))
       ≡ count_from c'.groups (marks_after margin (ltb 2 (c'.notes + length ds)) c'.last (behind c'.pending ds))
       → Meets margin c (d ∷ ds)
-  unfolding many
+  unfolding many counted
   meets_on c' e b k =
       let n : c.notes + 1 + length ds ≡ c.notes + suc (length ds) = omega arith in
-      ap (groups_counted margin) (after_first (counted margin) c d ds)
-      ∙ ap (λ (x : Counting). groups_counted margin (end_state (counted margin) x ds)) (sym e)
+      ap (groups_in_all margin) (after_first (counted margin) (Some c) d ds)
+      ∙ ap (λ (x : Counting). groups_in_all margin (end_state (counted margin) (Some x) ds)) (sym e)
       ∙ u c' b
       ∙ sym k
       ∙ ap (λ (n : ℕ). count_from c.groups (marks_after margin (ltb 2 n) c.last (behind c.pending (d ∷ ds)))) n
 
   meets_open : c.pending ≡ None → Meets margin c (d ∷ ds)
   unfolding many
-  meets_open p = meets_on _ (counted-open margin c d h.some-notes p) (record { some-notes = λ z. omega arith; some-groups = h.some-groups }) (rw p)
+  meets_open p = meets_on _ (counted-open margin c d p) h (rw p)
 
   meets_behind : (next : Float) → c.pending ≡ Some next → (n r : Bool) → is_near margin next d ≡ n → is_rise margin next d ≡ r → Meets margin c (d ∷ ds)
   unfolding many
   meets_behind next p true r e f =
-      meets_on _ (behind-near margin c next d e ∙ counted-pending margin c d h.some-notes p)
-      (record { some-notes = λ z. omega arith; some-groups = h.some-groups })
-      (rw p (ap (count_from c.groups) (marks_near margin many c.last next d ds e) ∙ count_same c.groups _ h.some-groups))
+      meets_on _ (behind-near margin c next d e ∙ counted-pending margin c d p)
+      h
+      (rw p (ap (count_from c.groups) (marks_near margin many c.last next d ds e) ∙ count_same c.groups _ h))
   meets_behind next p false true e f =
-      meets_on _ (behind_rise margin c next d e f ∙ counted-pending margin c d h.some-notes p)
-      (record { some-notes = λ z. omega arith; some-groups = omega arith })
+      meets_on _ (behind_rise margin c next d e f ∙ counted-pending margin c d p)
+      (omega arith)
       (rw p
       (ap (count_from c.groups) (marks_rise margin many c.last next d ds e f)
-      ∙ count_same c.groups _ h.some-groups
+      ∙ count_same c.groups _ h
       ∙ count_new c.groups _))
   meets_behind next p false false e f =
-      meets_on _ (behind_neither margin c next d e f ∙ counted-pending margin c d h.some-notes p)
-      (record { some-notes = λ z. omega arith; some-groups = omega arith })
+      meets_on _ (behind_neither margin c next d e f ∙ counted-pending margin c d p)
+      (omega arith)
       (rw p (ap (count_from c.groups) (marks_neither margin many c.last next d ds e f) ∙ count_new c.groups _))
 
   meets_more : (p : Option Float) → c.pending ≡ p → Meets margin c (d ∷ ds)
@@ -151,15 +152,14 @@ meets margin c [] h = meets_none margin c h
 meets margin c (d ∷ ds) h = meets_more margin c d ds h (λ c' b. meets margin c' ds b) c.pending refl
 
 -- all the notes, counted from none
-pub counted_all : (margin : Float) (ds : List Float) → groups_counted margin (end_state (counted margin) counting₀ ds) ≡ group_count (interval_marks margin ds)
-unfolding counted groups_counted counted_with counting₀
+pub counted_all : (margin : Float) (ds : List Float) → groups_in_all margin (end_state (counted margin) None ds) ≡ group_count (interval_marks margin ds)
+unfolding groups_in_all counted counted_first
 counted_all margin [] =
-    ap (groups_counted margin) (after_none (counted margin) counting₀) ∙ sym (count_none (interval_marks margin []) (length_marks margin []))
+    ap (groups_in_all margin) (after_none (counted margin) None) ∙ sym (count_none (interval_marks margin []) (length_marks margin []))
 counted_all margin (d ∷ ds) =
     let one : 1 + length ds ≡ suc (length ds) = omega arith in
-    ap (groups_counted margin) (after_first (counted margin) counting₀ d ds)
-    ∙ meets margin (record { notes = 1; groups = 1; last = d; pending = None }) ds
-    (record { some-notes = λ z. omega arith; some-groups = omega arith })
+    ap (groups_in_all margin) (after_first (counted margin) None d ds)
+    ∙ meets margin (counted_first d) ds (omega arith)
     ∙ ap (λ (n : ℕ). count_from 1 (marks_after margin (ltb 2 n) d ds)) one
     ∙ sym (count_new 0 (marks_after margin (ltb 2 (suc (length ds))) d ds))
     ∙ ap (count_from 0) (sym (marks_all margin (d ∷ ds) ∙ marks_first margin (ltb 2 (suc (length ds))) d ds))
@@ -172,61 +172,74 @@ record Grown (c c' : Counting) : Type 0 where
   notes : c'.notes ≤ c.notes + 1
   groups : c'.groups ≤ c'.notes
 
-counted_grows : (margin : Float) (c : Counting) (d : Float) → c.groups ≤ c.notes → Grown c (counted margin c d)
-unfolding counted counted_next
-counted_grows margin c d h = by (eqb c.notes 0)
+further_grows : (margin : Float) (c : Counting) (d : Float) → c.groups ≤ c.notes → Grown c (counted_further margin c d)
+unfolding counted_further
+further_grows margin c d h = by c.pending
   where
     behind_grows : (next : Float) (n r : Bool) → is_near margin next d ≡ n → is_rise margin next d ≡ r → Grown c (counted_behind margin c next d)
     behind_grows next true r e f = rw (← behind-near margin c next d e) (record { notes = omega arith; groups = omega arith })
     behind_grows next false true e f = rw (← behind_rise margin c next d e f) (record { notes = omega arith; groups = omega arith })
     behind_grows next false false e f = rw (← behind_neither margin c next d e f) (record { notes = omega arith; groups = omega arith })
 
-    next_grows : (p : Option Float) → Grown c (counted_next margin c p d)
-    next_grows None = record { notes = omega arith; groups = omega arith }
-    next_grows (Some next) = behind_grows next (is_near margin next d) (is_rise margin next d) refl refl
+    by : (p : Option Float) → Grown c (counted_next margin c p d)
+    by None = record { notes = omega arith; groups = omega arith }
+    by (Some next) = behind_grows next (is_near margin next d) (is_rise margin next d) refl refl
 
-    by : (z : Bool) → Grown c (cond z (record { notes = 1; groups = 1; last = d; pending = None }) (counted_next margin c c.pending d))
-    by true = record { notes = omega arith; groups = omega arith }
-    by false = next_grows c.pending
-
--- the notes left, counted on from c, give what all of them give
-pub record Counts (margin : Float) (ks : List ℕ) (ds : List Float) (c : Counting) (i : ℕ) : Type 0 where
-  pub whole : length ds ≡ length ks
-  pub left : end_state (counted margin) c (of_notes (drop i ks) (drop i ds)) ≡ end_state (counted margin) counting₀ (of_notes ks ds)
+-- of the first i objects at most i are notes
+pub record Few (c : Counting) (i : ℕ) : Type 0 where
   pub groups_le : c.groups ≤ c.notes
   pub notes_le : c.notes ≤ i
+
+abbrev pub FewOf : Option Counting → ℕ → Type 0
+FewOf None i = Unit {0}
+FewOf (Some c) i = Few c i
+
+-- the notes left, counted on from s, give what all of them give
+pub record Counts (margin : Float) (ks : List ℕ) (ds : List Float) (s : Option Counting) (i : ℕ) : Type 0 where
+  pub whole : length ds ≡ length ks
+  pub left : end_state (counted margin) s (of_notes (drop i ks) (drop i ds)) ≡ end_state (counted margin) None (of_notes ks ds)
+  pub few : FewOf s i
   pub upto : i ≤ length ks
 
-pub counts-start : (margin : Float) (ks : List ℕ) (ds : List Float) → length ds ≡ length ks → Counts margin ks ds counting₀ 0
-unfolding counting₀
-counts-start margin ks ds e = record { whole = e; left = refl; groups_le = omega arith; notes_le = omega arith; upto = omega arith }
+pub counts-start : (margin : Float) (ks : List ℕ) (ds : List Float) → length ds ≡ length ks → Counts margin ks ds None 0
+counts-start margin ks ds e = record { whole = e; left = refl; few = _; upto = omega arith }
 
-module _ {margin : Float} {ks : List ℕ} {ds : List Float} {c : Counting} {i : ℕ} (x : Counts margin ks ds c i) where
-  pub counts_note : (r : Counting) → i < length ks → is_note (get_or ks i 0) ≡ true → r ≡ counted margin c (get_or ds i nan) → Counts margin ks ds r (i + 1)
-  counts_note r h n e =
-      let g : Grown c r = rw e (counted_grows margin c (get_or ds i nan) x.groups_le) in
-      record {
-        whole = x.whole;
-        left =
-            rw e
-            (sym (ap (end_state (counted margin) c) (of_notes-step ks i true ds h x.whole n) ∙ after_first (counted margin) c (get_or ds i nan) _)
-            ∙ x.left);
-        groups_le = omega (arith, g);
-        notes_le = omega (arith, g, x.notes_le);
-        upto = omega arith;
-      }
+more_few : (margin : Float) (s : Option Counting) (d : Float) (i : ℕ) → FewOf s i → FewOf (counted margin s d) (i + 1)
+unfolding counted counted_first
+more_few margin None d i f = record { groups_le = omega arith; notes_le = omega arith }
+more_few margin (Some c) d i f =
+    let g : Grown c (counted_further margin c d) = further_grows margin c d f.groups_le in
+    record { groups_le = omega (arith, g); notes_le = omega (arith, g, f) }
 
-  pub counts_pass : i < length ks → is_note (get_or ks i 0) ≡ false → Counts margin ks ds c (i + 1)
-  counts_pass h n = record {
-    whole = x.whole;
-    left = sym (ap (end_state (counted margin) c) (of_notes-step ks i false ds h x.whole n)) ∙ x.left;
-    groups_le = x.groups_le;
-    notes_le = omega (arith, x.notes_le);
-    upto = omega arith;
-  }
+later_few : (s : Option Counting) (i : ℕ) → FewOf s i → FewOf s (i + 1)
+later_few None i f = _
+later_few (Some c) i f = record { groups_le = f.groups_le; notes_le = omega (arith, f) }
 
-  pub counts-end : length ks ≤ i → groups_counted margin c ≡ group_count (interval_marks margin (of_notes ks ds))
+module _ {margin : Float} {ks : List ℕ} {ds : List Float} {s : Option Counting} {i : ℕ} (x : Counts margin ks ds s i) where
+  module _ {k : ℕ} {d : Float} (h : i < length ks) (kind : k ≡ get_or ks i 0) (delta : d ≡ get_or ds i nan) where
+    pub counts_note : (r : Option Counting) → is_note k ≡ true → r ≡ counted margin s d → Counts margin ks ds r (i + 1)
+    counts_note r n e = record {
+      whole = x.whole;
+      left =
+          rw e
+          (sym (ap (end_state (counted margin) s) (of_notes-step ks i true ds h x.whole (ap is_note (sym kind) ∙ n))
+          ∙ ap (λ (d : Float). end_state (counted margin) s (d ∷ of_notes (drop (i + 1) ks) (drop (i + 1) ds))) (sym delta)
+          ∙ after_first (counted margin) s d _)
+          ∙ x.left);
+      few = rw e (more_few margin s d i x.few);
+      upto = omega arith;
+    }
+
+    pub counts_pass : is_note k ≡ false → Counts margin ks ds s (i + 1)
+    counts_pass n = record {
+      whole = x.whole;
+      left = sym (ap (end_state (counted margin) s) (of_notes-step ks i false ds h x.whole (ap is_note (sym kind) ∙ n))) ∙ x.left;
+      few = later_few s i x.few;
+      upto = omega arith;
+    }
+
+  pub counts-end : length ks ≤ i → groups_in_all margin s ≡ group_count (interval_marks margin (of_notes ks ds))
   counts-end h =
-      let e : c ≡ end_state (counted margin) counting₀ (of_notes ks ds) =
-      sym (ap (end_state (counted margin) c) (of_notes-over ks i ds h) ∙ after_none (counted margin) c) ∙ x.left in
-      ap (groups_counted margin) e ∙ counted_all margin (of_notes ks ds)
+      let e : s ≡ end_state (counted margin) None (of_notes ks ds) =
+      sym (ap (end_state (counted margin) s) (of_notes-over ks i ds h) ∙ after_none (counted margin) s) ∙ x.left in
+      ap (groups_in_all margin) e ∙ counted_all margin (of_notes ks ds)

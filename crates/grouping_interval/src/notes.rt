@@ -4,13 +4,15 @@ ghost use Rattle.grouping_marks.specs.Marks.{group_count};
 ghost use Rattle.grouping_interval.specs.Notes.{of_notes};
 ghost use Rattle.grouping_interval.specs.IntervalGrouping.{interval_marks};
 ghost use Rattle.grouping_interval.specs.passes.Rooms.{NotesRoom, NotesListed};
-ghost use Rattle.grouping_interval.specs.passes.Counting.{SumsFit, counted_behind, counted, groups_counted};
+ghost use Rattle.grouping_interval.specs.passes.Counting.{SumsFit, counted_first, counted_behind};
+ghost use Rattle.grouping_interval.specs.passes.Counting.{counted_further, groups_counted};
 
 use crate::{last_taken, rise};
 use grouping_chart::object::{NoteIndex, is_note};
 use numeric::near::near;
 
-// Puts each note's object number and delta in front. The result is how many notes there are.
+// Puts each note's object number and delta in front. The result is how many notes there are. The loop goes by the
+// place: it is what is written, and written at `note`, which an iterator over the slices doesn't follow.
 pub fn list_notes(kind: &[u8], delta: &[f64], objects: &mut [u16], values: &mut [f64]) -> usize
     requires { NotesRoom kind.now delta.now objects.old values.old }
     ensures { NotesListed kind.now delta.now
@@ -27,8 +29,8 @@ pub fn list_notes(kind: &[u8], delta: &[f64], objects: &mut [u16], values: &mut 
     note.0
 }
 
-// The groups of the notes seen so far, of which `last` is the last that a group took. It is not known yet whether that
-// group takes a note that is pending too, of which this is the delta.
+// The groups of the notes seen so far, one at least, of which `last` is the last that a group took. It is not known yet
+// whether that group takes a note that is pending too, of which this is the delta.
 #[derive(Clone, Copy)]
 pub struct Counting {
     pub notes: usize,
@@ -37,73 +39,84 @@ pub struct Counting {
     pub pending: Option<f64>,
 }
 
-// After a pending note of delta `next`, one of delta d.
-fn count_behind(c: Counting, next: f64, d: f64, margin: f64) -> Counting
-    requires { SumsFit c }
-    ensures { result ≡ counted_behind margin c next d }
-{
-    let notes = c.notes + 1;
-    let groups = c.groups + 1;
-    if near(next, d, margin) {
+// That its sums fit is no invariant of the type, since each further note uses one of them up.
+impl Counting {
+    // The first note, of delta d.
+    #[tactic(auto, unfolding(crate::specs::passes::Counting::counted_first))]
+    fn first(d: f64) -> Counting
+        ensures { result ≡ counted_first d }
+    {
         Counting {
-            notes,
-            groups: c.groups,
-            last: next,
-            pending: Some(d),
-        }
-    } else if rise(next, d, margin) {
-        Counting {
-            notes,
-            groups,
-            last: d,
-            pending: None,
-        }
-    } else {
-        Counting {
-            notes,
-            groups,
-            last: next,
-            pending: Some(d),
-        }
-    }
-}
-
-// A further note, of delta d.
-fn count_note(c: Counting, d: f64, margin: f64) -> Counting
-    requires { SumsFit c }
-    ensures { result ≡ counted margin c d }
-{
-    if c.notes == 0 {
-        return Counting {
             notes: 1,
             groups: 1,
             last: d,
             pending: None,
-        };
+        }
     }
-    match c.pending {
-        Some(next) => count_behind(c, next, d, margin),
-        None => Counting {
-            notes: c.notes + 1,
-            groups: c.groups,
-            last: c.last,
-            pending: Some(d),
-        },
-    }
-}
 
-// How many groups there are when no note follows.
-fn groups_counted(c: Counting, margin: f64) -> usize
-    requires { SumsFit c }
-    ensures { result ≡ groups_counted margin c }
-{
-    match c.pending {
-        None => c.groups,
-        Some(next) => {
-            if last_taken(c.notes, c.last, next, margin) {
-                c.groups
-            } else {
-                c.groups + 1
+    // After a pending note of delta `next`, one of delta d.
+    #[tactic(auto, unfolding(crate::specs::passes::Counting::counted_behind))]
+    fn behind(self, next: f64, d: f64, margin: f64) -> Counting
+        requires { SumsFit self }
+        ensures { result ≡ counted_behind margin self next d }
+    {
+        let notes = self.notes + 1;
+        let groups = self.groups + 1;
+        if near(next, d, margin) {
+            Counting {
+                notes,
+                groups: self.groups,
+                last: next,
+                pending: Some(d),
+            }
+        } else if rise(next, d, margin) {
+            Counting {
+                notes,
+                groups,
+                last: d,
+                pending: None,
+            }
+        } else {
+            Counting {
+                notes,
+                groups,
+                last: next,
+                pending: Some(d),
+            }
+        }
+    }
+
+    // A further note, of delta d.
+    #[tactic(auto, unfolding(crate::specs::passes::Counting::counted_further))]
+    fn further(self, d: f64, margin: f64) -> Counting
+        requires { SumsFit self }
+        ensures { result ≡ counted_further margin self d }
+    {
+        match self.pending {
+            Some(next) => self.behind(next, d, margin),
+            None => Counting {
+                notes: self.notes + 1,
+                groups: self.groups,
+                last: self.last,
+                pending: Some(d),
+            },
+        }
+    }
+
+    // How many groups there are when no note follows.
+    #[tactic(auto, unfolding(crate::specs::passes::Counting::groups_counted))]
+    fn total(self, margin: f64) -> usize
+        requires { SumsFit self }
+        ensures { result ≡ groups_counted margin self }
+    {
+        match self.pending {
+            None => self.groups,
+            Some(next) => {
+                if last_taken(self.notes, self.last, next, margin) {
+                    self.groups
+                } else {
+                    self.groups + 1
+                }
             }
         }
     }
@@ -114,16 +127,17 @@ pub fn count_groups(kind: &[u8], delta: &[f64], margin: f64) -> usize
     requires { length delta.now ≡ length kind.now }
     ensures { result ≡ group_count (interval_marks margin (of_notes kind.now delta.now)) }
 {
-    let mut c = Counting {
-        notes: 0,
-        groups: 0,
-        last: 0.0,
-        pending: None,
-    };
-    for (i, k) in kind.iter().enumerate() {
+    let mut counting: Option<Counting> = None;
+    for (k, d) in kind.iter().zip(delta) {
         if is_note(*k) {
-            c = count_note(c, delta[i], margin);
+            counting = Some(match counting {
+                None => Counting::first(*d),
+                Some(c) => c.further(*d, margin),
+            });
         }
     }
-    groups_counted(c, margin)
+    match counting {
+        None => 0,
+        Some(c) => c.total(margin),
+    }
 }

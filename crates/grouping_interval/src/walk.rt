@@ -30,10 +30,3 @@ impl<'a> IntervalWalk<'a> {
         }
     }
 }
-
-// One step of a walk that stands at a position: where the next group ends. Whoever calls it needs no walk.
-pub fn next_end(values: &[f64], margin: f64, at: usize) -> usize
-    ensures { result ≡ group_end margin values.now at }
-{
-    IntervalWalk { values, at }.step(margin).at
-}

@@ -28,8 +28,8 @@ fn interval_at(start: &[f64], firsts: &[u16], margin: f64, k: usize) -> f64
     if k == 0 {
         return f64::INFINITY;
     }
-    let previous = firsts[k - 1] as usize;
-    let at = firsts[k] as usize;
+    let previous = usize::from(firsts[k - 1]);
+    let at = usize::from(firsts[k]);
     start_between(start[previous], start[at], margin)
 }
 

@@ -2,7 +2,7 @@
 ghost use Rattle.std.specs.Prelude.{◌≡◌, ◌<◌, length};
 ghost use Rattle.grouping_same_rhythm.specs.SamePatterns.{pattern_interval, pattern_of};
 
-use grouping_interval::walk::next_end;
+use grouping_interval::group_end;
 
 // A group's pattern: its number, and its interval set against that of the pattern before.
 #[derive(Clone, Copy)]
@@ -22,7 +22,8 @@ fn pattern_interval(intervals: &[f64]) -> f64
     intervals[1]
 }
 
-// The pattern of group g.
+// The pattern of group g. The loop goes from end to end: an iterator over the patterns would give only the last of the
+// number, the pattern before and this one, which are all wanted.
 pub fn pattern_at(intervals: &[f64], margin: f64, g: usize) -> Pattern
     requires { g < length intervals.now }
     ensures { result ≡ pattern_of margin intervals.now g }
@@ -30,11 +31,11 @@ pub fn pattern_at(intervals: &[f64], margin: f64, g: usize) -> Pattern
     let mut number = 0;
     let mut before = 0;
     let mut at = 0;
-    let mut end = next_end(intervals, margin, 0);
+    let mut end = group_end(intervals, margin, 0);
     while end <= g {
         before = at;
         at = end;
-        end = next_end(intervals, margin, at);
+        end = group_end(intervals, margin, at);
         number += 1;
     }
     if number == 0 {

@@ -9,4 +9,4 @@ unfolding of_bits
 returns-then-k-eq0 c = rw c.if-k-eq0.true (sym (interval_first _ _ _ (omega arith)))
 
 pub returns : goal.returns
-returns c = c.start_between.ensures ∙ sym (interval-later _ _ _ c.args.k c.requires.there c.if-k-eq0.false)
+returns c = (rw (c.from-previous.ensures, c.from-at.ensures) at c.start_between.ensures) ∙ sym (interval-later _ _ _ c.args.k c.requires.there c.if-k-eq0.false)
