@@ -5,7 +5,7 @@ use mathlib.Core.Bool.{Bool, true, false, cond}
 use Prim.Native.Nat.{ℕ, ◌+◌, ◌≤◌, ◌<◌}
 use native.Mathlib.Numerals.{add-one}
 use native.Mathlib.Omega.{arith}
-use borrow.Author.Tests.{lt-ltb, le-ltb, eq-eqb, ne_eqb}
+use borrow.Author.Tests.{lt-ltb, le-ltb, eq-eqb}
 use lib.ListN.{length, drop, get_or, drop_of_length-le}
 use lib.Seq.{drop-cons}
 use lib.Ieee.{Float}
@@ -19,27 +19,6 @@ use Rattle.grouping_chart.specs.passes.Good.{SameLengths, all}
 use Rattle.grouping_chart.proofs.AllLaws.{both_true}
 
 -- ---- an object's refusal
-
-module _ (k : ℕ) (s d r : Float) where
-  pub kind_refused : kind_good k ≡ false → Some UnknownKind ≡ object_refusal k s d r
-  unfolding object_refusal
-  kind_refused a = rw a
-
-  pub start_refused : kind_good k ≡ true → time_good s ≡ false → Some BadStart ≡ object_refusal k s d r
-  unfolding object_refusal
-  start_refused a b = rw (a, b)
-
-  pub delta_refused : kind_good k ≡ true → time_good s ≡ true → time_good d ≡ false → Some BadDelta ≡ object_refusal k s d r
-  unfolding object_refusal
-  delta_refused a b c = rw (a, b, c)
-
-  pub ratio_refused : kind_good k ≡ true → time_good s ≡ true → time_good d ≡ true → ratio_good r ≡ false → Some BadRatio ≡ object_refusal k s d r
-  unfolding object_refusal
-  ratio_refused a b c e = rw (a, b, c, e)
-
-  pub not_refused : kind_good k ≡ true → time_good s ≡ true → time_good d ≡ true → ratio_good r ≡ true → None ≡ object_refusal k s d r
-  unfolding object_refusal
-  not_refused a b c e = rw (a, b, c, e)
 
 -- a good ratio may stand for another
 pub refusal_ratio : (k : ℕ) (s d r r' : Float) → ratio_good r ≡ true → ratio_good r' ≡ true → object_refusal k s d r ≡ object_refusal k s d r'
@@ -99,19 +78,6 @@ objects_not_ratio i (k ∷ ks) (s ∷ ss) (d ∷ ds) (r ∷ rs) g =
 -- ---- the chart's lengths
 
 module _ (c : Chart) where
-  pub starts_differ : (length c.starts ≡ length c.kinds → ⊥) → false ≡ equally_long c
-  unfolding equally_long
-  starts_differ a = rw (ne_eqb _ _ a)
-
-  pub deltas_differ : length c.starts ≡ length c.kinds → (length c.deltas ≡ length c.kinds → ⊥) → false ≡ equally_long c
-  unfolding equally_long
-  deltas_differ a b = rw (eq-eqb _ _ a, ne_eqb _ _ b)
-
-  pub ratios_differ : length c.starts ≡ length c.kinds → length c.deltas ≡ length c.kinds
-      → (length c.ratios ≡ length c.kinds → ⊥) → false ≡ equally_long c
-  unfolding equally_long
-  ratios_differ a b d = rw (eq-eqb _ _ a, eq-eqb _ _ b, ne_eqb _ _ d)
-
   pub all_equal : SameLengths (length c.kinds) c.starts c.deltas c.ratios → true ≡ equally_long c
   unfolding equally_long
   all_equal s = rw (eq-eqb _ _ s.start, eq-eqb _ _ s.delta, eq-eqb _ _ s.ratio)
