@@ -8,6 +8,7 @@ use native.Mathlib.Omega.{arith}
 use lib.ListN.{length, take, drop, get_or, length-drop}
 use lib.Seq.{get_or-drop, drop-nil, take_all}
 use lib.Ieee.{Float, nan, le}
+use Rattle.std.proofs.lemmas.Bool.{and_parts}
 use Rattle.lent.proofs.FillLaws.{length-tabulate, get_or-tabulate}
 use Rattle.numeric.specs.Constants.{one64}
 use Rattle.grouping_chart.specs.Chart.{size}
@@ -15,7 +16,7 @@ use Rattle.grouping_chart.specs.Refusal.{Check, kind_good, time_good, ratio_good
 use Rattle.grouping_chart.specs.passes.Good.{SameLengths, all, all_good}
 use Rattle.grouping_chart.proofs.RangeLaws.{good_ratio}
 use Rattle.grouping_chart.proofs.RefusalLaws.{refusal_ratio}
-use Rattle.grouping_chart.proofs.AllLaws.{both_true, each_all}
+use Rattle.grouping_chart.proofs.AllLaws.{each_all}
 use Rattle.grouping_chart.proofs.AcceptedLaws.{lists_good, all_good_accepted}
 use Rattle.call_build.specs.Build.{Raw, start_at, delta_at, ratio_at, built_size, built_starts, built_deltas, built_chart}
 use Rattle.call_build.proofs.RatioLaws.{nearest_common, common_good}
@@ -73,8 +74,8 @@ module _ (rate : Float) (r : Raw) where
   pub good_built : {n : ℕ} {k s d : Bool} → built_size r ≡ n → k ≡ all kind_good (drop 2 r.kinds) → s ≡ all time_good (built_starts rate r.times n)
       → d ≡ all time_good (built_deltas rate r.times n) → (k && (s && d)) ≡ true → accepted ≡ objects_verdict (built_chart rate r)
   good_built size e f g t =
-      let k = both_true _ _ t in
-      let s = both_true _ _ k.1 in
+      let k = and_parts _ _ t in
+      let s = and_parts _ _ k.1 in
       all_good_accepted _ built-lengths
       (good_lists (sym e ∙ k.0) (rw size (sym f ∙ s.0)) (rw size (sym g ∙ s.1)) all_ratios_good)
 

@@ -10,7 +10,7 @@ use Rattle.std.specs.Prelude.{Err}
 use Rattle.grouping_chart.specs.Refusal.{passed}
 use Rattle.lent.proofs.NeverLaws.{never}
 use Rattle.grouping_chart.specs.declared.refusal.Reason.TheVariants.{OutOfRange, NoNotes}
-use Rattle.grouping_chart.proofs.RoomLaws.{either_false}
+use Rattle.std.proofs.lemmas.Bool.{or_parts}
 use Rattle.call_colour.specs.Stretch.{from_to, has_note, stretch_refusal, GoodStretch}
 
 -- a stretch has an object, all of them are the chart's, and one is a note
@@ -49,7 +49,7 @@ module _ (kinds : List ℕ) (a b : ℕ) where
   unfolding stretch_refusal
   good_lies e =
       let z = none_of (leb b a || ltb (length kinds) b) (has_note (from_to a b kinds)) e in
-      let t = either_false _ _ z.0 in
+      let t = or_parts _ _ z.0 in
       record { some = leb-false _ _ t.0; inside = ltb-false _ _ t.1; noted = z.1 }
 
   pub lies_good : StretchLies kinds a b → GoodStretch kinds a b

@@ -9,13 +9,14 @@ use lib.Dec.{T, leb}
 use denote.Floats.{passes, is_true}
 use lib.ListN.{length, get_or}
 use lib.Ieee.{Float, nan}
+use Rattle.std.proofs.lemmas.Bool.{and_parts}
 use Rattle.lent.proofs.NeverLaws.{never}
 use Rattle.std.specs.Prelude.{Ok, Err}
 use Rattle.grouping_chart.specs.declared.refusal.Reason.{Reason}
 use Rattle.grouping_chart.specs.Chart.{Chart, equally_long}
 use Rattle.grouping_chart.specs.Refusal.{Check, passed, kind_good, time_good, ratio_good, Verdict, accepted, refused, refused_or, object_refusal, first_refused, in_order, objects_verdict, verdict}
 use Rattle.grouping_chart.specs.passes.Good.{SameLengths, all, all_good}
-use Rattle.grouping_chart.proofs.AllLaws.{both_true, all_each}
+use Rattle.grouping_chart.proofs.AllLaws.{all_each}
 use Rattle.grouping_chart.proofs.RefusalLaws.{all_equal, verdict-objects}
 
 -- an object that is not refused
@@ -104,9 +105,9 @@ lists_good c a b d e = rw (a, b, d, e)
 pub all_good_accepted : (c : Chart) → SameLengths (length c.kinds) c.starts c.deltas c.ratios → all_good c ≡ true → accepted ≡ objects_verdict c
 unfolding all_good
 all_good_accepted c same e =
-    let k = both_true _ _ e in
-    let s = both_true _ _ k.1 in
-    let d = both_true _ _ s.1 in
+    let k = and_parts _ _ e in
+    let s = and_parts _ _ k.1 in
+    let d = and_parts _ _ s.1 in
     sym (good_objects 0 c.kinds c.starts c.deltas c.ratios (λ i z h. record {
       kind = leb-true _ 2 (all_each kind_good c.kinds k.0 i 0 h);
       start = passes _ (all_each time_good c.starts s.0 i z (omega (arith, same.start)));

@@ -13,12 +13,12 @@ use lib.Seq.{drop-cons}
 use lib.Ieee.{Float}
 use Rattle.lent.proofs.NeverLaws.{never}
 use Rattle.std.specs.Prelude.{Ok, Err}
+use Rattle.std.proofs.lemmas.Bool.{and_parts}
 use Rattle.grouping_chart.specs.declared.refusal.Reason.{Reason}
 use Rattle.grouping_chart.specs.declared.refusal.Reason.TheVariants.{TooManyObjects, UnequalLengths, UnknownKind, BadStart, BadDelta, BadRatio}
 use Rattle.grouping_chart.specs.Chart.{Chart, equally_long}
 use Rattle.grouping_chart.specs.Refusal.{Check, passed, kind_good, time_good, ratio_good, Verdict, accepted, refusal, refused, refused_or, object_refusal, first_refused, objects_verdict, verdict}
 use Rattle.grouping_chart.specs.passes.Good.{SameLengths, all, or_later, first_at}
-use Rattle.grouping_chart.proofs.AllLaws.{both_true}
 
 -- a good ratio may stand for another
 pub refusal_ratio : (k : ℕ) (s d r r' : Float) → ratio_good r ≡ true → ratio_good r' ≡ true → object_refusal k s d r ≡ object_refusal k s d r'
@@ -118,7 +118,7 @@ objects_not_ratio i (k ∷ ks) [] ds rs g = tt
 objects_not_ratio i (k ∷ ks) (s ∷ ss) [] rs g = tt
 objects_not_ratio i (k ∷ ks) (s ∷ ss) (d ∷ ds) [] g = tt
 objects_not_ratio i (k ∷ ks) (s ∷ ss) (d ∷ ds) (r ∷ rs) g =
-    let t = both_true _ _ g in
+    let t = and_parts _ _ g in
     object_not_ratio k s d r t.0 i _ (objects_not_ratio (i + 1) ks ss ds rs t.1)
 
 -- ---- the chart's lengths

@@ -5,7 +5,7 @@ use mathlib.Core.List.{List, [], ◌∷◌, ◌++◌, map}
 use Prim.Native.Nat.{ℕ, zero, suc, ◌+◌, ◌≤◌, ◌<◌}
 use native.Mathlib.Nat.{le_of_suc-le-suc, not-suc-le-zero, eq-or-lt_of_le, zero-add}
 use native.Mathlib.Numerals.{add-one}
-use Rattle.std.proofs.lemmas.List.{map-id}
+use Rattle.std.proofs.lemmas.List.{map-id, get_or-map}
 use native.Mathlib.Omega.{arith}
 use lib.ListN.{length, take, drop, replicate, get_or, length-drop, set, length-set, length-append, get_or-append, length-map}
 use lib.Seq.{get_or_at, drop-cons, ext_get_or}
@@ -115,11 +115,6 @@ tabulate-agree f g (suc n) e =
     let before : tabulate f n ≡ tabulate g n = tabulate-agree f g n (λ i h. e i (omega arith)) in
     let here : f n ≡ g n = e n (omega arith) in
     λ t. before t ++ (here t ∷ [])
-
-pub get_or-map : {A B : Type 0} (f : A → B) (xs : List A) (i : ℕ) (a : A) (b : B) → i < length xs → get_or (map f xs) i b ≡ f (get_or xs i a)
-get_or-map f [] i a b h = absurd (not-suc-le-zero h)
-get_or-map f (x ∷ xs) zero a b h = refl
-get_or-map f (x ∷ xs) (suc i) a b h = get_or-map f xs i a b (le_of_suc-le-suc h)
 
 pub length-gathered : (table idx : List ℕ) → length (gathered table idx) ≡ length idx
 unfolding gathered

@@ -9,3 +9,4 @@ pub mod JoinLaws
 pub mod WrittenLaws
 pub mod NeverLaws
 pub mod TableLaws
+pub mod SuffixLaws
