@@ -26,7 +26,7 @@ fn number_of(kind: u8, numbers: &[u16], next: NoteIndex) -> u16
 }
 
 // Gives each object the number of its note. The loop goes by the place: what a write through `out.iter_mut()` in a zip
-// leaves is unknown to a proof.
+// leaves is unknown to a proof. It is no `fill::by_place`, since it carries the number of the next note.
 pub fn spread(kind: &[u8], numbers: &[u16], out: &mut [u16])
     requires { SpreadRoom kind.now numbers.now out.old }
     ensures { out.new ≡ over (by_object numbers.now kind.now) out.old }
@@ -48,7 +48,8 @@ pub fn look_up(numbers: &mut [u16], table: &[u16])
     }
 }
 
-// Gives each object its group and its pattern group, from the tables. Each note's pattern is put in its group's place.
+// Gives each object its group and its pattern group, from the tables, which lie in the work slice as tables.rt says. Each
+// note's pattern is put in its group's place.
 pub fn fill_answers(
     kind: &[u8],
     k: GroupCounts,
