@@ -33,8 +33,8 @@ pub struct FoundGroup {
     pub pattern: Pattern,
 }
 
-// The notes of group g. The work slice takes the regions of `number_notes`, and `scratch` the notes' deltas. The two are
-// no struct: a clause on a struct that holds a `&mut` also has to say which borrow it is.
+// The notes of group g. The work slice takes the regions of `number_notes`, and `scratch` the notes' deltas. The two
+// are no struct: a clause on a struct that holds a `&mut` also has to say which borrow it is.
 fn locate(
     chart: Chart,
     margin: f64,

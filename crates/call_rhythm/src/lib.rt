@@ -61,7 +61,8 @@ fn fill_groups(
     k
 }
 
-// The answer and work slices are no struct: a clause on a struct that holds a `&mut` also has to say which borrow it is.
+// The answer and work slices are no struct: a clause on a struct that holds a `&mut` also has to say which borrow it
+// is.
 pub fn rhythm(
     chart: Chart,
     group: &mut [u16],

@@ -48,8 +48,8 @@ pub fn look_up(numbers: &mut [u16], table: &[u16])
     }
 }
 
-// Gives each object its group and its pattern group, from the tables, which lie in the work slice as tables.rt says. Each
-// note's pattern is put in its group's place.
+// Gives each object its group and its pattern group, from the tables, which lie in the work slice as tables.rt says.
+// Each note's pattern is put in its group's place.
 pub fn fill_answers(
     kind: &[u8],
     k: GroupCounts,

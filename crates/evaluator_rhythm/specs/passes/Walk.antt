@@ -1,5 +1,5 @@
--- The walk over own intervals in its two steps: the own intervals that it takes, and the penalty among them. The law that
--- ties them to `walk_penalty` is `walked`, in proofs/WalkLaws.antt.
+-- The walk over own intervals in its two steps: the own intervals that it takes, and the penalty among them. The law
+-- that ties them to `walk_penalty` is `walked`, in proofs/WalkLaws.antt.
 use Rattle.std.specs.Prelude.{ℕ, cond, List, ltb, length, take, Float, Option, Some, None}
 use Rattle.numeric.specs.Constants.{one64, eight_tenths}
 use Rattle.evaluator_rhythm.specs.RepeatedInterval.{present, some_pair}
