@@ -33,7 +33,8 @@ pub struct FoundGroup {
     pub pattern: Pattern,
 }
 
-// The notes of group g. The work slice takes the regions of `number_notes`, and `scratch` the notes' deltas.
+// The notes of group g. The work slice takes the regions of `number_notes`, and `scratch` the notes' deltas. The two
+// are no struct: a clause on a struct that holds a `&mut` also has to say which borrow it is.
 fn locate(
     chart: Chart,
     margin: f64,
@@ -55,8 +56,8 @@ fn locate(
     let reached = reach(&mut scratch[..m], margin, g);
     let objects = &work[reached.at..reached.end];
     let notes = objects.len();
-    let first = objects[0] as usize;
-    let last = objects[notes - 1] as usize;
+    let first = usize::from(objects[0]);
+    let last = usize::from(objects[notes - 1]);
     let start = chart.start;
     LocatedGroup {
         first: ObjectIndex(first),

@@ -110,6 +110,7 @@ fn make_record(
     }
 }
 
+// The work slices are no struct: a clause on a struct that holds a `&mut` also has to say which borrow it is.
 pub fn record(
     chart: Chart,
     group: usize,

@@ -6,7 +6,7 @@ ghost use Rattle.grouping_chart.specs.Settings.{base_settings};
 ghost use Rattle.grouping_chart.specs.Outcome.{outcome};
 ghost use Rattle.grouping_chart.specs.Lent.{seen};
 ghost use Rattle.call_rhythm.specs.Rhythm.{counts_of};
-ghost use Rattle.call_rhythm.specs.Call.{memory, filled, rhythm_outcome};
+ghost use Rattle.call_rhythm.specs.Call.{memory, filled, totals, rhythm_outcome};
 ghost use Rattle.call_rhythm.specs.passes.Tables.{GroupsRoom};
 
 use crate::tables::GroupCounts;
@@ -25,6 +25,17 @@ pub mod tables;
 pub struct GroupTotals {
     pub groups: usize,
     pub patterns: usize,
+}
+
+impl From<GroupCounts> for GroupTotals {
+    ghost from_gives = { λ counts t. t ≡ totals counts };
+
+    fn from(counts: GroupCounts) -> GroupTotals {
+        GroupTotals {
+            groups: counts.groups,
+            patterns: counts.patterns,
+        }
+    }
 }
 
 // What the call does with an accepted chart: group, fill the answers, and clear the work slices.
@@ -50,6 +61,8 @@ fn fill_groups(
     k
 }
 
+// The answer and work slices are no struct: a clause on a struct that holds a `&mut` also has to say which borrow it
+// is.
 pub fn rhythm(
     chart: Chart,
     group: &mut [u16],
@@ -64,9 +77,6 @@ pub fn rhythm(
     let n = chart.kind.len();
     let short = (group.len() < n) | (pattern.len() < n);
     judge(chart, short, work.len(), scratch.len())?;
-    let k = fill_groups(chart, settings::base(), group, pattern, work, scratch);
-    Ok(GroupTotals {
-        groups: k.groups,
-        patterns: k.patterns,
-    })
+    let counts = fill_groups(chart, settings::base(), group, pattern, work, scratch);
+    Ok(GroupTotals::from(counts))
 }

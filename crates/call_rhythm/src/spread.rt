@@ -10,7 +10,10 @@ ghost use Rattle.call_rhythm.specs.passes.Tables.{by_object, note_groups, note_p
 use crate::tables::GroupCounts;
 use grouping_chart::object::{NoteIndex, is_note, note_after};
 
-// The number of an object's note, which is `next` where it is one; 65535 for a NonHit.
+// What a NonHit has in place of a number: C lends u16, which has no None.
+const NO_GROUP: u16 = u16::MAX;
+
+// The number of an object's note, which is `next` where it is one.
 fn number_of(kind: u8, numbers: &[u16], next: NoteIndex) -> u16
     requires { is_note kind ≡ true → next.0 < length numbers.now }
     ensures { result ≡ cond (is_note kind) (get_or numbers.now next.0 0) 65535 }
@@ -18,11 +21,12 @@ fn number_of(kind: u8, numbers: &[u16], next: NoteIndex) -> u16
     if is_note(kind) {
         numbers[next.0]
     } else {
-        65535
+        NO_GROUP
     }
 }
 
-// Gives each object the number of its note.
+// Gives each object the number of its note. The loop goes by the place: what a write through `out.iter_mut()` in a zip
+// leaves is unknown to a proof. It is no `fill::by_place`, since it carries the number of the next note.
 pub fn spread(kind: &[u8], numbers: &[u16], out: &mut [u16])
     requires { SpreadRoom kind.now numbers.now out.old }
     ensures { out.new ≡ over (by_object numbers.now kind.now) out.old }
@@ -40,11 +44,12 @@ pub fn look_up(numbers: &mut [u16], table: &[u16])
     ensures { numbers.new ≡ gathered table.now numbers.old }
 {
     for number in numbers.iter_mut() {
-        *number = table[*number as usize];
+        *number = table[usize::from(*number)];
     }
 }
 
-// Gives each object its group and its pattern group, from the tables. Each note's pattern is put in its group's place.
+// Gives each object its group and its pattern group, from the tables, which lie in the work slice as tables.rt says.
+// Each note's pattern is put in its group's place.
 pub fn fill_answers(
     kind: &[u8],
     k: GroupCounts,

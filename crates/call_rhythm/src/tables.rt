@@ -24,7 +24,8 @@ pub struct GroupCounts {
 }
 
 // Regions of the work slice, n places each: 0 the notes' objects, 1 the groups' first objects, 2 the notes' groups,
-// 3 the groups' patterns.
+// 3 the groups' patterns. C lends them as one slice. They are no struct: a clause on a struct that holds a `&mut` also
+// has to say which borrow it is.
 
 // Fills regions 1 and 2, from the notes' deltas: region 2 has the notes' marks until the firsts are listed, then the
 // numbers in their places. The result is how many groups there are, which is the last number and one more.

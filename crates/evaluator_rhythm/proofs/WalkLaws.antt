@@ -1,17 +1,19 @@
 -- The walk over k own intervals, by what it meets: one that is absent, or k that exist.
-use mathlib.Core.Path.{◌≡◌, refl, sym}
-use mathlib.Core.Bool.{Bool, cond}
+use mathlib.Core.Path.{◌≡◌, refl, sym, ◌∙◌}
+use mathlib.Core.Bool.{Bool, true, false, cond}
 use mathlib.Core.List.{List, [], ◌∷◌}
 use Prim.Native.Nat.{ℕ, zero, suc, ◌≤◌, ◌<◌}
 use native.Mathlib.Nat.{le_of_eq}
 use native.Mathlib.Omega.{arith}
 use borrow.Author.Tests.{lt-ltb, le-ltb}
+use lib.Dec.{ltb}
 use lib.ListN.{length, get_or, take}
 use lib.Ieee.{Float}
 use Rattle.lent.proofs.NeverLaws.{never}
 use Rattle.numeric.specs.Constants.{one64, eight_tenths}
 use Rattle.std.specs.Prelude.{Option, None, Some}
 use Rattle.evaluator_rhythm.specs.RepeatedInterval.{present, some_pair, walk_penalty}
+use Rattle.evaluator_rhythm.specs.passes.Walk.{newest_of, penalty_among}
 
 -- of k own intervals at most k exist
 present-most : (k : ℕ) (owns : List (Option Float)) → length (present (take k owns)) ≤ k
@@ -34,6 +36,11 @@ pub walk_absent : (threshold : Float) (k j : ℕ) (owns : List (Option Float)) �
 unfolding walk_penalty
 walk_absent threshold k j owns h e = rw (lt-ltb (length (present (take k owns))) k (present-fewer k j owns h e))
 
+-- one that is absent leaves none to walk over
+pub absent : {own : Option Float} (k j : ℕ) (owns : List (Option Float)) → j < k → get_or owns j None ≡ own → own ≡ None → None ≡ newest_of k owns
+unfolding newest_of
+absent k j owns h g e = rw (lt-ltb (length (present (take k owns))) k (present-fewer k j owns h (g ∙ e)))
+
 -- own intervals that all exist, with their numbers of milliseconds
 pub data Existing : List (Option Float) → List Float → Type 0 where
   none : Existing [] []
@@ -44,8 +51,23 @@ unfolding present
 present_all none = refl
 present_all (next {own} {owns} {x} {xs} h r) = rw (h, present_all r)
 
+pub all_exist : (k : ℕ) (owns : List (Option Float)) {xs : List Float} → Existing (take k owns) xs → length xs ≡ k → Some xs ≡ newest_of k owns
+unfolding newest_of
+all_exist k owns {xs} r l = rw (present_all r, le-ltb (length xs) k (le_of_eq (sym l)))
+
 -- b is what the search for a similar pair found
 pub walk_existing : (threshold : Float) (k : ℕ) (owns : List (Option Float)) {xs : List Float} {b : Bool} → Existing (take k owns) xs → length xs ≡ k
     → b ≡ some_pair threshold xs → cond b eight_tenths one64 ≡ walk_penalty threshold k owns
 unfolding walk_penalty
 walk_existing threshold k owns {xs} {b} r l h = rw (present_all r, le-ltb (length xs) k (le_of_eq (sym l)), ← h)
+
+-- the walk in its two steps
+pub walked : (threshold : Float) (k : ℕ) (owns : List (Option Float)) → penalty_among threshold (newest_of k owns) ≡ walk_penalty threshold k owns
+unfolding penalty_among newest_of walk_penalty
+walked threshold k owns = by (ltb (length (present (take k owns))) k)
+  where
+    by : (fewer : Bool)
+        → penalty_among threshold (cond fewer None (Some (present (take k owns))))
+        ≡ cond fewer one64 (cond (some_pair threshold (present (take k owns))) eight_tenths one64)
+    by true = refl
+    by false = refl

@@ -4,7 +4,7 @@
 ghost use Rattle.std.specs.Prelude.{◌≡◌, cond, ltb};
 ghost use Rattle.numeric.specs.Constants.{one64, eight_tenths};
 ghost use Rattle.evaluator_rhythm.specs.RepeatedInterval.{similar, similar_to, some_pair, walk_penalty};
-ghost use Rattle.evaluator_rhythm.specs.passes.Walk.{ThreeOrFour};
+ghost use Rattle.evaluator_rhythm.specs.passes.Walk.{newest_of, penalty_among};
 ghost use Rattle.evaluator_rhythm.specs.RepeatedInterval.{newest_first, smaller, larger, duration_penalty};
 ghost use Rattle.evaluator_rhythm.specs.RepeatedInterval.{repeated_interval_penalty};
 
@@ -25,16 +25,28 @@ fn similar_to(newer: f64, older: &[f64], threshold: f64) -> bool
 }
 
 // Whether one of them is similar to an older one. The newest comes first.
+#[tactic(auto, unfolding(crate::specs::RepeatedInterval::some_pair))]
 fn some_pair(owns: &[f64], threshold: f64) -> bool
     ensures { result ≡ some_pair threshold owns.now }
 {
-    for i in 0..owns.len() {
-        let newer = owns[i];
-        if similar_to(newer, &owns[i + 1..], threshold) {
-            return true;
-        }
+    match owns {
+        [] => false,
+        [newer, older @ ..] => similar_to(*newer, older, threshold) || some_pair(older, threshold),
     }
-    false
+}
+
+// A group's own interval and those of the two groups before it, if they all exist.
+fn newest_three(owns: Recent) -> Option<[f64; 3]>
+    ensures { result ≡ newest_of 3 (newest_first owns) }
+{
+    Some([owns.newest?, owns.second?, owns.third?])
+}
+
+// And that of the group before those.
+fn newest_four(owns: Recent) -> Option<[f64; 4]>
+    ensures { result ≡ newest_of 4 (newest_first owns) }
+{
+    Some([owns.newest?, owns.second?, owns.third?, owns.fourth?])
 }
 
 fn penalty_if(similar: bool) -> f64
@@ -43,27 +55,14 @@ fn penalty_if(similar: bool) -> f64
     if similar { 0.8 } else { 1.0 }
 }
 
-// The walk over k groups, a group and the ones before it.
-fn walk(owns: Recent, k: usize, threshold: f64) -> f64
-    requires { ThreeOrFour k }
-    ensures { result ≡ walk_penalty threshold k (newest_first owns) }
+// The walk over K groups, a group and the ones before it, if their own intervals exist.
+fn walk<const K: usize>(owns: Option<[f64; K]>, threshold: f64) -> f64
+    ensures { result ≡ penalty_among threshold owns.entry }
 {
-    let Some(a) = owns.newest else {
-        return 1.0;
-    };
-    let Some(b) = owns.second else {
-        return 1.0;
-    };
-    let Some(c) = owns.third else {
-        return 1.0;
-    };
-    if k == 3 {
-        return penalty_if(some_pair(&[a, b, c], threshold));
+    match owns {
+        Some(walked) => penalty_if(some_pair(&walked, threshold)),
+        None => 1.0,
     }
-    let Some(d) = owns.fourth else {
-        return 1.0;
-    };
-    penalty_if(some_pair(&[a, b, c, d], threshold))
 }
 
 // A group of six notes or more takes no penalty from the walk over four.
@@ -71,7 +70,7 @@ fn short_penalty(owns: Recent, notes: usize, threshold: f64) -> f64
     ensures { result ≡ cond (ltb notes 6) (walk_penalty threshold 4 (newest_first owns)) one64 }
 {
     if notes < 6 {
-        walk(owns, 4, threshold)
+        walk(newest_four(owns), threshold)
     } else {
         1.0
     }
@@ -108,7 +107,7 @@ pub fn repeated_interval_penalty(
 ) -> f64
     ensures { result ≡ repeated_interval_penalty threshold owns notes duration window }
 {
-    let long = walk(owns, 3, threshold);
+    let long = walk(newest_three(owns), threshold);
     let short = short_penalty(owns, notes, threshold);
     smaller_of(long, short) * duration_penalty(duration, window)
 }

@@ -16,8 +16,8 @@ returns-in_err-judge c =
     let same : c.from_residual.result ≡ Err c.in_err-judge.field-0.0 = search rules in
     ap (λ r. outcome r m) same ∙ answered-refused _ _ m judged
 
-pub fill_groups-k-requires : goal.fill_groups-k-requires
-fill_groups-k-requires c =
+pub fill_groups-counts-requires : goal.fill_groups-counts-requires
+fill_groups-counts-requires c =
     let a = c.args in
     let m = memory a.group.now a.pattern.now a.work.now a.scratch.now in
     rhythm_room (seen a.chart) m (told (seen a.chart) m c.judge.ensures c.in_ok-judge.was)
@@ -26,6 +26,6 @@ pub returns : goal.returns
 returns c =
     let a = c.args in
     let m = memory a.group.now a.pattern.now a.work.now a.scratch.now in
-    let counted = c.fill_groups-k.ensures in
+    let counted = c.fill_groups-counts.ensures in
     let judged = told (seen a.chart) m c.judge.ensures c.in_ok-judge.was in
-    rw c.base.ensures at (rhythm-done c.base.result (seen a.chart) m _ _ judged counted.counts counted.filled)
+    rw c.from.ensures (rw c.base.ensures at (rhythm-done c.base.result (seen a.chart) m _ _ judged counted.counts counted.filled))

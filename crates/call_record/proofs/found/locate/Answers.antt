@@ -30,14 +30,16 @@ slice_bounds-objects-end c =
 pub bounds-start-last : goal.bounds-start-last
 bounds-start-last c =
     let x = noted c.requires.tables c.list_notes-m.ensures _ (c.number_notes-groups.ensures.count, c.number_notes-groups.ensures.work) in
-    objects_started c.requires c.list_notes-m.ensures x c.reach-reached.ensures _
-    (omega (arith, objects_some c.requires c.list_notes-m.ensures x c.reach-reached.ensures))
+    rw c.from-last.ensures
+    (objects_started c.requires c.list_notes-m.ensures x c.reach-reached.ensures _
+    (omega (arith, objects_some c.requires c.list_notes-m.ensures x c.reach-reached.ensures)))
 
 pub bounds-start-first : goal.bounds-start-first
 bounds-start-first c =
     let x = noted c.requires.tables c.list_notes-m.ensures _ (c.number_notes-groups.ensures.count, c.number_notes-groups.ensures.work) in
-    objects_started c.requires c.list_notes-m.ensures x c.reach-reached.ensures _
-    (objects_some c.requires c.list_notes-m.ensures x c.reach-reached.ensures)
+    rw c.from-first.ensures
+    (objects_started c.requires c.list_notes-m.ensures x c.reach-reached.ensures _
+    (objects_some c.requires c.list_notes-m.ensures x c.reach-reached.ensures))
 
 pub returns : goal.returns
 returns c =
@@ -45,7 +47,7 @@ returns c =
     let e = c.list_notes-m.ensures in
     let m = c.reach-reached in
     record {
-      found = located c.requires e x m.ensures;
+      found = rw (c.from-first.ensures, c.from-last.ensures) (located c.requires e x m.ensures);
       work = x.memory;
       scratch = scratch_located c.requires e x m.ensures m.auto.deltas;
       rest = past_located c.requires e x m.ensures m.auto.deltas;
