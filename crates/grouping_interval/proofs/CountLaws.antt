@@ -9,7 +9,7 @@ use native.Mathlib.Omega.{arith}
 use lib.Dec.{eqb, ltb}
 use lib.ListN.{length, drop, get_or}
 use lib.Ieee.{Float, nan}
-use borrow.Author.Tests.{eq-eqb, ne_eqb}
+use borrow.Author.Tests.{ne_eqb}
 use Rattle.numeric.specs.Near.{is_near}
 use Rattle.lent.specs.Scan.{end_state}
 use Rattle.grouping_marks.specs.Marks.{group_count}
@@ -29,10 +29,6 @@ use Rattle.std.specs.Prelude.{Option, Some, None}
 -- ---- the cases of a further note
 
 module _ (margin : Float) (c : Counting) (d : Float) where
-  pub counted_first : c.notes ≡ 0 → record { notes = 1; groups = 1; last = d; pending = None } ≡ counted margin c d
-  unfolding counted
-  counted_first e = rw (eq-eqb _ _ e)
-
   module _ (n : c.notes ≡ 0 → ⊥) where
     pub counted-open : c.pending ≡ None → record { notes = c.notes + 1; groups = c.groups; last = c.last; pending = Some d } ≡ counted margin c d
     unfolding counted counted_next

@@ -38,6 +38,7 @@ pub struct Counting {
 }
 
 // After a pending note of delta `next`, one of delta d.
+#[tactic(auto, unfolding(crate::specs::passes::Counting::counted_behind))]
 fn count_behind(c: Counting, next: f64, d: f64, margin: f64) -> Counting
     requires { SumsFit c }
     ensures { result ≡ counted_behind margin c next d }
@@ -69,6 +70,7 @@ fn count_behind(c: Counting, next: f64, d: f64, margin: f64) -> Counting
 }
 
 // A further note, of delta d.
+#[tactic(auto, unfolding(crate::specs::passes::Counting::counted))]
 fn count_note(c: Counting, d: f64, margin: f64) -> Counting
     requires { SumsFit c }
     ensures { result ≡ counted margin c d }

@@ -1,10 +1,7 @@
--- Each arm is the case of `counted` that its tests name.
+-- Each arm behind a first note is the case of `counted` that its tests name.
 use Rattle.std.proofs.Common.{◌∙◌}
-use Rattle.grouping_interval.proofs.CountLaws.{counted_first, counted-open, counted-pending}
+use Rattle.grouping_interval.proofs.CountLaws.{counted-open, counted-pending}
 use Rattle.grouping_interval.proofs.notes.count_note.Goals as goal
-
-pub returns-then-c-eq0 : goal.returns-then-c-eq0
-returns-then-c-eq0 c = counted_first _ _ _ c.if-c-eq0.true
 
 pub returns-in-Some : goal.returns-in-Some
 returns-in-Some c = c.count_behind.ensures ∙ counted-pending _ _ _ c.if-c-eq0.false c.in-Some.is
