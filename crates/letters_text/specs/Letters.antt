@@ -2,8 +2,8 @@
 -- after them one line feed that counts for nothing. A text that is too long is told as that, whatever its bytes are;
 -- else its first byte that is no letter is told.
 -- A text is a list of bytes.
-use Rattle.std.specs.Prelude.{◌≡◌, ℕ, suc, ◌+◌, ◌-◌, Bool, true, cond, List, [], ◌∷◌, map, eqb, ltb, length, take, get_or}
-use Rattle.std.specs.Prelude.{Result, Ok, Err}
+use Rattle.std.specs.Prelude.{◌≡◌, ℕ, suc, ◌+◌, ◌-◌, Bool, true, cond, List, [], ◌∷◌, map, eqb, ltb, length, take}
+use Rattle.std.specs.Prelude.{get_or, Result, Ok, Err}
 use Rattle.lent.specs.Over.{over}
 use Rattle.letters_text.specs.declared.TextError.{TextError}
 use Rattle.letters_text.specs.declared.TextError.TheVariants.{Long, Bad}

@@ -50,7 +50,8 @@ item-returns-in-100 t c = c.letter.ensures _
 pub item-returns-in_default-b : goal.item-returns-in_default-b
 item-returns-in_default-b t c =
     let here = c.in-Some.ensures.lookup.4 (omega arith) 0 in
-    item_other _ _ _ _ _ c.in-Some.ensures.lookup.3.0 (λ e. omega (arith, here)) (λ e. omega (arith, here)) (λ e. let letter : Lettered c.in-Some.field-0.now = subst Lettered (sym here) e in omega (arith, letter)) c.refuse-in_default-b.ensures
+    item_other _ _ _ _ _ c.in-Some.ensures.lookup.3.0 (λ e. omega (arith, here)) (λ e. omega (arith, here))
+    (λ e. let letter : Lettered c.in-Some.field-0.now = subst Lettered (sym here) e in omega (arith, letter)) c.refuse-in_default-b.ensures
 
 pub item-returns-in_default : goal.item-returns-in_default
 item-returns-in_default t c = rw c.refuse.ensures (item_end _ _ _ _ _ c.in_default.ensures.lookup.3)
