@@ -15,7 +15,7 @@ pub fn copy<T: Copy>(src: &[T], out: &mut [T])
 }
 
 // Sets each of the first n places to what f gives for it: the one loop that fills by the place. `iter_mut` with
-// `enumerate` is no plainer, as the proof goes by index, nor is `&mut out[..n]`, as the clause speaks of the whole slice.
+// `enumerate` is no plainer, as the proof goes by index, nor is `&mut out[..n]`, as the clause says all of the slice.
 pub fn by_place<T: Copy, F: Fn(usize) -> T>(n: usize, out: &mut [T], f: F)
     requires room { n ≤ length out.old }
     requires callable { (i : ℕ) → i < n → F.pre f i }
