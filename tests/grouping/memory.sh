@@ -24,6 +24,8 @@ wanted='"core::cmp::numbers::BoolOrd::cmp" library
 "core::f64::is_sign_negative" library
 "core::f64::is_sign_positive" library
 "core::iter::base::Iterator::any" library
+"core::iter::base::Iterator::count" library
+"core::iter::base::Iterator::take_while" library
 "core::iter::slices::slice+T::iter" library
 "core::slice::reads::slice+T::split_at" library
 "core::slice::slice+T::is_empty" library
