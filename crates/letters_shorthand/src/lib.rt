@@ -5,8 +5,7 @@ ghost use Rattle.letters_shorthand.specs.Input.{trimmed, ReadText};
 
 use crate::reader::read_text;
 use lent::fill;
-pub use letters_count::MOST_OBJECTS;
-use letters_count::Refusal;
+use letters_count::{MOST_OBJECTS, Refusal};
 
 mod reader;
 

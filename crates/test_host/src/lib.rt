@@ -17,7 +17,8 @@ ghost use Rattle.lent.specs.Over.{over};
 ghost use Rattle.letters_shorthand.specs.Input.{trimmed, input_of, objects_read, answer_of, told};
 ghost use Rattle.test_host.specs.Told.{told_of};
 
-use letters_shorthand::{InputError, MOST_OBJECTS};
+use letters_count::MOST_OBJECTS;
+use letters_shorthand::InputError;
 
 #[unsafe(no_mangle)]
 pub extern "C" fn numeric_near(a: f64, b: f64, margin: f64) -> bool
