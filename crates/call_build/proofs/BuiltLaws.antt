@@ -9,9 +9,9 @@ use lib.ListN.{length, drop, get_or, set, drop_of_length-le}
 use lib.Seq.{take_all}
 use lib.Ieee.{Float, nan, binary64, div}
 use Rattle.lent.specs.Over.{over}
-use Rattle.lent.proofs.OverLaws.{drop-over}
+use Rattle.lent.proofs.OverLaws.{drop-over, over-first}
 use Rattle.lent.specs.Scan.{tabulate}
-use Rattle.lent.proofs.FillLaws.{length-tabulate, get_or-tabulate, tabulate-agree}
+use Rattle.lent.proofs.FillLaws.{length-tabulate, get_or-tabulate, tabulate-first, tabulate-agree}
 use Rattle.numeric.specs.Constants.{one64}
 use Rattle.call_build.specs.Ratio.{nearest_ratio}
 use Rattle.call_build.specs.Build.{Raw, delta_at, ratio_at, built_deltas, built_ratios}
@@ -26,18 +26,18 @@ ratio_after deltas i = nearest_ratio (div binary64 (get_or deltas (i + 1) nan) (
 
 -- the first ratio is stored before those of the objects after it
 ratios-parted : (deltas : List Float) (n : ℕ) → tabulate (ratio_from deltas) (suc n) ≡ one64 ∷ tabulate (ratio_after deltas) n
-unfolding tabulate ratio_from
-ratios-parted deltas zero = refl
-ratios-parted deltas (suc n) = rw (ratios-parted deltas n, add-one n) refl
+unfolding ratio_from
+ratios-parted deltas n =
+    tabulate-first (ratio_from deltas) n
+    ∙ ap (λ later. one64 ∷ later) (tabulate-agree (λ i. ratio_from deltas (suc i)) (ratio_after deltas) n (λ i h. rw (add-one i) refl))
 
 -- the later elements are written over all that stands behind the first
 over_first : (first : Float) (later old : List Float) (k : ℕ) → 0 < length old → k ≡ length (set old 0 first) - 1
     → put_mid 1 k (set old 0 first) (over later (mid_of 1 k (set old 0 first))) ≡ over (first ∷ later) old
-unfolding over
 over_first first later [] k h e = absurd (omega arith)
 over_first first later (x ∷ old) k h e =
     let past : drop k old ≡ [] = drop_of_length-le old (omega arith) in
-    rw (take_all k old (omega arith), past, append-nil) refl
+    rw (over-first first x later old, take_all k old (omega arith), past, append-nil) refl
 
 pub ratios_stored : (deltas old : List Float) {new : List Float} → 0 < length deltas → length deltas ≤ length old
     → let k : ℕ = length (set old 0 one64) - 1 in

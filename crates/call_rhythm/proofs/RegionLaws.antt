@@ -12,7 +12,7 @@ use Rattle.grouping_marks.specs.Marks.{group_count, group_numbers, group_firsts}
 use Rattle.grouping_marks.specs.Parted.{parted}
 use Rattle.lent.proofs.OverLaws.{length-over, front, length-part, lent-part}
 use Rattle.lent.proofs.OverLaws.{take-put, drop-put, part-put_same, part-put_before, put_nothing}
-use Rattle.lent.proofs.PieceLaws.{put-back, put_piece, put_piece₂, over_whole, part_then}
+use Rattle.lent.proofs.PieceLaws.{put-back, put_piece, put_piece₂, over_whole, part_then, part_pieces}
 use Rattle.grouping_marks.proofs.MarksLaws.{length-numbers, count_le, count_none}
 use Rattle.grouping_marks.proofs.MarksLaws.{length-firsts as length-firsts-of}
 use Rattle.grouping_marks.proofs.NumberLaws.{number_last}
@@ -81,15 +81,13 @@ module _ (margin : Float) (deltas : List Float) (n : ℕ) (work₀ : List ℕ) (
     front_is = o ∙ ap (take n) marked ∙ take-put n (2 * n) marks work₀ (omega arith) (omega (arith, r))
 
     region_is : region ≡ part n n work₀
-    unfolding part
-    region_is = rw (f, b, marked) (part-put_before n n (2 * n) marks work₀ (omega arith) (omega (arith, r)))
+    region_is = rw (f, b, part_pieces, marked) (part-put_before n n (2 * n) marks work₀ (omega arith) (omega (arith, r)))
 
     rest_is : rest ≡ drop (2 * n) work₁
     rest_is = let k : n + n ≡ 2 * n = omega arith in rw (t, b, drop-drop, k)
 
     pub marks_are : take (length deltas) rest ≡ marks
-    unfolding part
-    marks_are = rw (rest_is, marked) (part-put_same (2 * n) (length deltas) marks work₀ marked_each (omega (arith, r)))
+    marks_are = rw (rest_is, part_pieces, marked) (part-put_same (2 * n) (length deltas) marks work₀ marked_each (omega (arith, r)))
 
     behind_is : drop (length deltas) rest ≡ drop (2 * n + length deltas) work₀
     behind_is = rw (rest_is, drop-drop, marked) (drop-put (2 * n + length deltas) (2 * n) marks work₀ (omega (arith, marked_each)))

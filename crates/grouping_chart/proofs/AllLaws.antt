@@ -7,7 +7,7 @@ use native.Mathlib.Omega.{arith}
 use lib.ListN.{get_or}
 use Rattle.std.proofs.lemmas.Bool.{and_parts}
 use Rattle.lent.specs.Scan.{tabulate}
-use Rattle.lent.proofs.FillLaws.{tabulate_places}
+use Rattle.lent.proofs.FillLaws.{tabulate_places, tabulate_none, tabulate-last}
 use Rattle.grouping_chart.specs.passes.Good.{all, all_places}
 
 -- ---- by the elements
@@ -51,10 +51,10 @@ module _ (passes : ℕ → Bool) where
 
 -- of a list that is made by its places
 pub places_tabulated : {A : Type 0} (test : A → Bool) (f : ℕ → A) (n : ℕ) → all_places (λ i. test (f i)) n ≡ all test (tabulate f n)
-unfolding all_places all tabulate
-places_tabulated test f zero = refl
+unfolding all_places all
+places_tabulated test f zero = ap (all test) (sym (tabulate_none f))
 places_tabulated test f (suc n) =
-    ap (λ b. b && test (f n)) (places_tabulated test f n) ∙ sym (all_last test (tabulate f n) (f n))
+    ap (λ b. b && test (f n)) (places_tabulated test f n) ∙ sym (all_last test (tabulate f n) (f n)) ∙ ap (all test) (sym (tabulate-last f n))
 
 pub places_all : {A : Type 0} (test : A → Bool) (xs : List A) (d : A) → all_places (λ i. test (get_or xs i d)) (length xs) ≡ all test xs
 places_all test xs d = places_tabulated test (λ i. get_or xs i d) (length xs) ∙ ap (all test) (tabulate_places xs d (length xs) refl)

@@ -10,7 +10,7 @@ use lib.ListN.{length, take, get_or}
 use lib.Seq.{ext_get_or}
 use Rattle.lent.specs.Over.{over}
 use Rattle.lent.specs.Scan.{scan, end_state, tabulate}
-use Rattle.lent.proofs.ScanLaws.{length-scan}
+use Rattle.lent.proofs.ScanLaws.{length-scan, scan-alike}
 use Rattle.lent.proofs.WalkLaws.{after_none, after_first, get_or-scan}
 use Rattle.lent.proofs.FillLaws.{length-tabulate, get_or-tabulate}
 use Rattle.grouping_chart.specs.Object.{is_note, Previous, none, kind}
@@ -78,12 +78,8 @@ kept_next s last k x = by (is_note k) refl
     by false e = x
 
 same_marks : (s : Seen) (last : Option ℕ) (ks : List ℕ) → Kept s last → scan last_after opens_after last ks ≡ scan seen_next opens_seen s ks
-unfolding scan
-same_marks s last [] x = refl
-same_marks s last (k ∷ ks) x =
-    let here = opens-kept s last k x in
-    let rest = same_marks (seen_next s k) (last_after last k) ks (kept_next s last k x) in
-    λ i. here i ∷ rest i
+same_marks s last ks x =
+    scan-alike last_after opens_after seen_next opens_seen (λ l t. Kept t l) (λ l t k y. opens-kept t l k y) (λ l t k y. kept_next t l k y) last s ks x
 
 -- the marks are what the pass emits
 pub streak_marks_passed : (kinds : List ℕ) → streak_marks kinds ≡ scan last_after opens_after None kinds

@@ -107,6 +107,20 @@ tabulate_places xs d n e =
     ext_get_or d _ xs (length-tabulate (λ i. get_or xs i d) n ∙ sym e)
     (λ i h. get_or-tabulate (λ j. get_or xs j d) n i d (omega (arith, length-tabulate (λ j. get_or xs j d) n)))
 
+module _ {B : Type 0} (f : ℕ → B) where
+  pub tabulate_none : tabulate f 0 ≡ []
+  unfolding tabulate
+  tabulate_none = refl
+
+  pub tabulate-last : (n : ℕ) → tabulate f (suc n) ≡ tabulate f n ++ (f n ∷ [])
+  unfolding tabulate
+  tabulate-last n = refl
+
+pub tabulate-first : {B : Type 0} (f : ℕ → B) (n : ℕ) → tabulate f (suc n) ≡ f 0 ∷ tabulate (λ i. f (suc i)) n
+unfolding tabulate
+tabulate-first f zero = refl
+tabulate-first f (suc n) = ap (λ l. l ++ (f (suc n) ∷ [])) (tabulate-first f n)
+
 -- functions that are equal below n make equal lists
 pub tabulate-agree : {B : Type 0} (f g : ℕ → B) (n : ℕ) → ((i : ℕ) → i < n → f i ≡ g i) → tabulate f n ≡ tabulate g n
 unfolding tabulate

@@ -18,6 +18,14 @@ module _ {A : Type 0} where
   unfolding over
   length-over new old h = length-append new (drop (length new) old) ∙ omega (arith, length-drop (length new) old)
 
+  pub over_none : (old : List A) → over [] old ≡ old
+  unfolding over
+  over_none old = refl
+
+  pub over-first : (x y : A) (new old : List A) → over (x ∷ new) (y ∷ old) ≡ x ∷ over new old
+  unfolding over
+  over-first x y new old = refl
+
   pub front : (new old : List A) (n : ℕ) → length new ≡ n → take n (over new old) ≡ new
   unfolding over
   front new old n e = take_at new (drop (length new) old) n e

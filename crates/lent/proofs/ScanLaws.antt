@@ -60,3 +60,14 @@ module _ {S A B : Type 0} {next : S → A → S} {emit : S → A → B} {s₀ : 
 
   pub ended_front : Walk next emit s₀ xs m 0 w₀ w s i → m ≤ i → w ≡ over (scan next emit s₀ xs) w₀
   ended_front x h = fill_end_front x.fill h
+
+-- two walks whose states stand alike after each element emit the same
+pub scan-alike : {S T A B : Type 0} (next : S → A → S) (emit : S → A → B) (next' : T → A → T) (emit' : T → A → B) (Alike : S → T → Type 0)
+    → ((s : S) (t : T) (x : A) → Alike s t → emit s x ≡ emit' t x) → ((s : S) (t : T) (x : A) → Alike s t → Alike (next s x) (next' t x))
+    → (s : S) (t : T) (xs : List A) → Alike s t → scan next emit s xs ≡ scan next' emit' t xs
+unfolding scan
+scan-alike next emit next' emit' Alike same on s t [] a = refl
+scan-alike next emit next' emit' Alike same on s t (x ∷ xs) a =
+    let here = same s t x a in
+    let rest = scan-alike next emit next' emit' Alike same on (next s x) (next' t x) xs (on s t x a) in
+    λ i. here i ∷ rest i
