@@ -3,8 +3,7 @@
 use mathlib.Core.Path.{◌≡◌}
 use Prim.Native.Nat.{ℕ}
 use Rattle.grouping_chart.specs.Chart.{Chart}
-use Rattle.std.specs.Prelude.{Option}
-use Rattle.grouping_chart.specs.Refusal.{accepted, verdict}
+use Rattle.grouping_chart.specs.Refusal.{Check, passed, accepted, verdict}
 use Rattle.grouping_chart.specs.declared.refusal.Reason.{Reason}
 use Rattle.grouping_chart.specs.Settings.{Settings}
 use Rattle.grouping_chart.proofs.AcceptedLaws.{accepted_good}
@@ -13,7 +12,7 @@ use Rattle.agreement.proofs.colour.Claimed.{colour_claim}
 use Rattle.agreement.proofs.rhythm.Claimed.{chart_claim}
 use Rattle.agreement.proofs.rhythm.NoteLaws.{same_note}
 
-pub tails_agree : (s : Settings) (c c' : Chart) (beside beside' : Option Reason) (m : ℕ) → verdict c beside ≡ accepted → verdict c' beside' ≡ accepted
+pub tails_agree : (s : Settings) (c c' : Chart) (beside beside' : Check) (m : ℕ) → verdict c beside ≡ accepted → verdict c' beside' ≡ accepted
     → AlikeTails c c' m → TailAgreement s c c' m
 tails_agree s c c' beside beside' m good good' t =
     let long = (accepted_good c beside good).lengths in

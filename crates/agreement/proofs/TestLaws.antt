@@ -2,15 +2,12 @@
 use mathlib.Core.Path.{◌≡◌, refl, ap, ◌∙◌}
 use mathlib.Core.Logic.{◌⊎◌, inl, inr}
 use mathlib.Core.List.{List, [], ◌∷◌}
-use mathlib.Core.Bool.{Bool, true, false, not}
+use mathlib.Core.Bool.{Bool, true, false}
 use Prim.Native.Nat.{ℕ, zero, suc, ◌<◌}
 use native.Mathlib.Nat.{not-suc-le-zero, eq-or-lt_of_le, le_of_suc-le-suc}
 use native.Mathlib.Omega.{arith}
 use Rattle.lent.proofs.NeverLaws.{never}
 use Rattle.agreement.specs.passes.Tests.{all_true, any_below}
-
-pub not_of : (a : Bool) → a ≡ false → not a ≡ true
-not_of a e = rw e
 
 -- ---- all of some tests
 

@@ -6,14 +6,13 @@ use Prim.Native.Nat.{ℕ}
 use native.Mathlib.Omega.{arith}
 use lib.ListN.{take, drop}
 use lib.Ieee.{Float}
-use Rattle.std.specs.Prelude.{Option, None, Ok}
+use Rattle.std.specs.Prelude.{Ok}
 use Rattle.lent.specs.Over.{over}
 use Rattle.lent.proofs.OverLaws.{front}
 use Rattle.lent.proofs.FillLaws.{length-tabulate}
 use Rattle.grouping_chart.specs.Outcome.{outcome}
-use Rattle.grouping_chart.specs.Refusal.{Verdict, accepted, verdict}
+use Rattle.grouping_chart.specs.Refusal.{Check, passed, Verdict, accepted, verdict}
 use Rattle.grouping_chart.specs.Room.{any_short}
-use Rattle.grouping_chart.specs.declared.refusal.Reason.{Reason}
 use Rattle.grouping_chart.proofs.RefusalLaws.{all_equal, verdict-objects}
 use Rattle.grouping_chart.proofs.RoomLaws.{all_long}
 use Rattle.grouping_chart.proofs.OutcomeLaws.{answered-done}
@@ -61,9 +60,9 @@ module _ (rate : Float) (r : Raw) (m : Memory) {n : ℕ} (size : built_size r �
 
 -- ---- what an accepted call wrote
 
-module _ (rate : Float) (r : Raw) (m : Memory) (passed : judged rate r m ≡ accepted) where
+module _ (rate : Float) (r : Raw) (m : Memory) (good : judged rate r m ≡ accepted) where
   left : (build_outcome rate r m).memory ≡ filled (built_chart rate r) m
-  left = rw (← build-done rate r m refl passed refl)
+  left = rw (← build-done rate r m refl good refl)
 
   -- its first n places are the built chart
   pub built-written : chart_in (built_size r) (build_outcome rate r m).memory ≡ built_chart rate r
@@ -82,8 +81,8 @@ module _ (rate : Float) (r : Raw) (m : Memory) (passed : judged rate r m ≡ acc
       ) refl
 
   -- every other call accepts it, where nothing is refused beside it
-  pub built-accepted : (beside : Option Reason) → beside ≡ None → verdict (chart_in (built_size r) (build_outcome rate r m).memory) beside ≡ accepted
+  pub built-accepted : (beside : Check) → beside ≡ passed → verdict (chart_in (built_size r) (build_outcome rate r m).memory) beside ≡ accepted
   built-accepted beside e =
-      let p = all_passed rate r _ passed in
+      let p = all_passed rate r _ good in
       rw built-written
       (verdict-objects (built_chart rate r) beside (omega (arith, p.few, built-size rate r)) (sym (all_equal _ (built-lengths rate r))) e ∙ p.objects)

@@ -8,16 +8,15 @@ use native.Mathlib.Omega.{arith}
 use lib.ListN.{length, take, drop, get_or, length-drop}
 use lib.Seq.{get_or-drop, drop-nil, take_all}
 use lib.Ieee.{Float, nan, le}
-use Rattle.std.specs.Prelude.{Option}
+use Rattle.std.proofs.lemmas.Bool.{and_parts}
 use Rattle.lent.proofs.FillLaws.{length-tabulate, get_or-tabulate}
 use Rattle.numeric.specs.Constants.{one64}
 use Rattle.grouping_chart.specs.Chart.{size}
-use Rattle.grouping_chart.specs.Refusal.{kind_good, time_good, ratio_good, accepted, object_refusal, objects_verdict}
-use Rattle.grouping_chart.specs.declared.refusal.Reason.{Reason}
+use Rattle.grouping_chart.specs.Refusal.{Check, kind_good, time_good, ratio_good, accepted, object_refusal, objects_verdict}
 use Rattle.grouping_chart.specs.passes.Good.{SameLengths, all, all_good}
 use Rattle.grouping_chart.proofs.RangeLaws.{good_ratio}
 use Rattle.grouping_chart.proofs.RefusalLaws.{refusal_ratio}
-use Rattle.grouping_chart.proofs.AllLaws.{both_true, each_all}
+use Rattle.grouping_chart.proofs.AllLaws.{each_all}
 use Rattle.grouping_chart.proofs.AcceptedLaws.{lists_good, all_good_accepted}
 use Rattle.call_build.specs.Build.{Raw, start_at, delta_at, ratio_at, built_size, built_starts, built_deltas, built_chart}
 use Rattle.call_build.proofs.RatioLaws.{nearest_common, common_good}
@@ -75,13 +74,13 @@ module _ (rate : Float) (r : Raw) where
   pub good_built : {n : ℕ} {k s d : Bool} → built_size r ≡ n → k ≡ all kind_good (drop 2 r.kinds) → s ≡ all time_good (built_starts rate r.times n)
       → d ≡ all time_good (built_deltas rate r.times n) → (k && (s && d)) ≡ true → accepted ≡ objects_verdict (built_chart rate r)
   good_built size e f g t =
-      let k = both_true _ _ t in
-      let s = both_true _ _ k.1 in
+      let k = and_parts _ _ t in
+      let s = and_parts _ _ k.1 in
       all_good_accepted _ built-lengths
       (good_lists (sym e ∙ k.0) (rw size (sym f ∙ s.0)) (rw size (sym g ∙ s.1)) all_ratios_good)
 
   -- why object i is refused, as it is found with the raw object's kind, and with 1.0 for the ratio
-  pub reason_found : (i : ℕ) {v : Option Reason} {s d : Float} → i < built_size r → s ≡ start_at rate r.times i → d ≡ delta_at rate r.times i
+  pub reason_found : (i : ℕ) {v : Check} {s d : Float} → i < built_size r → s ≡ start_at rate r.times i → d ≡ delta_at rate r.times i
       → v ≡ object_refusal (get_or r.kinds (i + 2) 0) s d one64
       → v ≡ object_refusal (get_or (built_chart rate r).kinds i 0) (get_or (built_chart rate r).starts i nan) (get_or (built_chart rate r).deltas i nan)
       (get_or (built_chart rate r).ratios i nan)

@@ -6,9 +6,9 @@ use borrow.Author.Tests.{lt-ltb, le-ltb, ltb-false, eq-eqb, ne_eqb, eqb-true}
 use lib.Dec.{eqb, ltb}
 use lib.ListN.{length}
 use lib.Ieee.{Float}
-use Rattle.std.specs.Prelude.{Option, Some, None, Err}
+use Rattle.std.specs.Prelude.{Err}
 use Rattle.lent.proofs.NeverLaws.{never}
-use Rattle.grouping_chart.specs.Refusal.{Verdict, accepted, refused, refused_or, objects_verdict}
+use Rattle.grouping_chart.specs.Refusal.{Check, passed, Verdict, accepted, refused, refused_or, objects_verdict}
 use Rattle.grouping_chart.specs.declared.refusal.Reason.{Reason}
 use Rattle.grouping_chart.specs.declared.refusal.Reason.TheVariants.{TooManyObjects, UnequalLengths, ShortSlice, BadRatio, BadRate}
 use Rattle.grouping_chart.specs.declared.object.ObjectIndex.{ObjectIndex}
@@ -25,7 +25,7 @@ pub record Passed (rate : Float) (r : Raw) (short : Bool) : Type 0 where
   pub long : short ≡ false
   pub objects : objects_verdict (built_chart rate r) ≡ accepted
 
-long_enough : (short : Bool) (rate : Float) → beside_refusal short rate ≡ None → short ≡ false
+long_enough : (short : Bool) (rate : Float) → beside_refusal short rate ≡ passed → short ≡ false
 unfolding beside_refusal
 long_enough true rate e = never (cc)
 long_enough false rate e = refl
@@ -47,19 +47,19 @@ module _ (rate : Float) (r : Raw) (short : Bool) where
   unfolding verdict_of
   refused_2 h e = rw (le-ltb _ _ h, ne_eqb _ _ e)
 
-  module _ {beside : Option Reason} (few : length r.kinds ≤ 16386) (same : length r.times ≡ length r.kinds) (told : beside ≡ beside_refusal short rate) where
-    pub refused_beside : {reason : Reason} → beside ≡ Some reason → refused reason ≡ verdict_of rate r short
+  module _ {beside : Check} (few : length r.kinds ≤ 16386) (same : length r.times ≡ length r.kinds) (told : beside ≡ beside_refusal short rate) where
+    pub refused_beside : {reason : Reason} → beside ≡ Err reason → refused reason ≡ verdict_of rate r short
     unfolding verdict_of
     refused_beside n = rw (le-ltb _ _ few, eq-eqb _ _ same, ← told, n)
 
-    pub objects-judged : {v : Verdict} → beside ≡ None → v ≡ objects_verdict (built_chart rate r) → v ≡ verdict_of rate r short
+    pub objects-judged : {v : Verdict} → beside ≡ passed → v ≡ objects_verdict (built_chart rate r) → v ≡ verdict_of rate r short
     unfolding verdict_of
     objects-judged n e = rw (le-ltb _ _ few, eq-eqb _ _ same, ← told, n) e
 
 -- ---- refusal 7 never applies
 
 beside_not_ratio : (short good : Bool) (later : Verdict) → NotRatio later
-    → NotRatio (refused_or (cond short (Some ShortSlice) (cond good None (Some BadRate))) 0 later)
+    → NotRatio (refused_or (cond short (Err ShortSlice) (cond good passed (Err BadRate))) 0 later)
 beside_not_ratio true good later l = λ e. never (cc)
 beside_not_ratio false true later l = l
 beside_not_ratio false false later l = λ e. never (cc)

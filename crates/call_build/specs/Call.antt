@@ -1,14 +1,13 @@
 -- The call build (change requests: 1/12): what it answers, and what every lent slice holds afterwards.
-use Rattle.std.specs.Prelude.{ℕ, Bool, false, cond, List, [], ◌∷◌, eqb, ltb, pos, negsuc, length, take, Float}
-use Rattle.std.specs.Prelude.{Option, Some, None, Result}
+use Rattle.std.specs.Prelude.{ℕ, Bool, false, cond, List, [], ◌∷◌, eqb, ltb, pos, negsuc, length, take, Float, Err}
+use Rattle.std.specs.Prelude.{Result}
 use Rattle.std.specs.Float.{fin}
 use Rattle.lent.specs.Over.{over}
 use Rattle.numeric.specs.Range.{within}
 use Rattle.grouping_chart.specs.Chart.{Chart}
-use Rattle.grouping_chart.specs.Refusal.{Verdict, in_order, objects_verdict}
+use Rattle.grouping_chart.specs.Refusal.{Check, passed, Verdict, in_order, objects_verdict}
 use Rattle.grouping_chart.specs.Room.{any_short}
 use Rattle.grouping_chart.specs.Outcome.{Outcome, answered}
-use Rattle.grouping_chart.specs.declared.refusal.Reason.{Reason}
 use Rattle.grouping_chart.specs.declared.refusal.Reason.TheVariants.{ShortSlice, BadRate}
 use Rattle.grouping_chart.specs.declared.refusal.Refusal.{Refusal}
 use Rattle.call_build.specs.Build.{Raw, built_size, built_chart}
@@ -38,8 +37,8 @@ unfoldable pub rate_good : Float → Bool
 rate_good rate = within (fin false 1 (negsuc 1)) (fin false 1 (pos 2)) rate
 
 -- what is refused beside the objects, if anything is: an answer slice that is too short for them, then the rate
-unfoldable pub beside_refusal : Bool → Float → Option Reason
-beside_refusal short rate = cond short (Some ShortSlice) (cond (rate_good rate) None (Some BadRate))
+unfoldable pub beside_refusal : Bool → Float → Check
+beside_refusal short rate = cond short (Err ShortSlice) (cond (rate_good rate) passed (Err BadRate))
 
 -- the verdict on a call, where `short` says that an answer slice is too short: the tests of every call, in their order
 unfoldable pub verdict_of : Float → Raw → Bool → Verdict

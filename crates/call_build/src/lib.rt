@@ -15,6 +15,9 @@ pub mod objects;
 pub mod ratio;
 pub mod verdict;
 
+// The most raw objects that are taken: the first two build none.
+pub const MOST_RAW: usize = 16386;
+
 // Raw objects as a call is lent them: two slices, with a place in each for each object.
 #[derive(Clone, Copy)]
 pub struct Raw<'a> {

@@ -7,6 +7,18 @@ ghost use Rattle.call_build.specs.passes.Candidate.{candidate_of};
 
 use numeric::near;
 
+// The source's common ratios after 1.0, in its order.
+const LATER_RATIOS: [f64; 8] = [
+    2.0,
+    0.5,
+    3.0,
+    0.3333333333333333,
+    1.5,
+    0.6666666666666666,
+    1.25,
+    0.8,
+];
+
 // A ratio and how far it is from the quotient.
 #[derive(Clone, Copy)]
 pub struct Candidate {
@@ -33,19 +45,13 @@ fn nearer(best: Candidate, ratio: f64, q: f64) -> Candidate
     if next.gap < best.gap { next } else { best }
 }
 
-// The nine in the source's order, one after another. There is no loop and no jump, so that a pass works on several
-// quotients at a time.
+// The nine in the source's order, one after another. The compiler writes the loop out.
 pub fn nearest_ratio(q: f64) -> f64
     ensures { result ≡ nearest_ratio q }
 {
-    let first = measured(1.0, q);
-    let second = nearer(first, 2.0, q);
-    let third = nearer(second, 0.5, q);
-    let fourth = nearer(third, 3.0, q);
-    let fifth = nearer(fourth, 0.3333333333333333, q);
-    let sixth = nearer(fifth, 1.5, q);
-    let seventh = nearer(sixth, 0.6666666666666666, q);
-    let eighth = nearer(seventh, 1.25, q);
-    let ninth = nearer(eighth, 0.8, q);
-    ninth.ratio
+    let mut best = measured(1.0, q);
+    for ratio in LATER_RATIOS {
+        best = nearer(best, ratio, q);
+    }
+    best.ratio
 }

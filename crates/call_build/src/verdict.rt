@@ -1,17 +1,17 @@
 // The verdict on a call: refusals 1, 2, 3 and 10, then those of the objects that it would build.
-ghost use Rattle.std.specs.Prelude.{◌≡◌, ◌-◌, ◌≤◌, length};
-ghost use Rattle.grouping_chart.specs.Refusal.{time_good, objects_verdict};
+ghost use Rattle.std.specs.Prelude.{◌≡◌, ◌-◌, ◌<◌, ◌≤◌, length, get_or};
+ghost use Rattle.std.specs.Float.{nan};
+ghost use Rattle.grouping_chart.specs.Refusal.{time_good, object_refusal, objects_verdict};
 ghost use Rattle.grouping_chart.specs.passes.Good.{all};
 ghost use Rattle.call_build.specs.Build.{built_size, built_starts, built_deltas, built_chart};
 ghost use Rattle.call_build.specs.Call.{rate_good, beside_refusal, verdict_of};
 ghost use Rattle.call_build.specs.Lent.{seen};
 ghost use Rattle.call_build.specs.passes.Room.{RawRoom};
 
-use crate::Raw;
 use crate::objects::{delta_at, start_at};
+use crate::{MOST_RAW, Raw};
 use grouping_chart::good::{all_places, kinds_good};
-use grouping_chart::object::ObjectIndex;
-use grouping_chart::refusal::{Reason, Refusal, object_refusal, time_good};
+use grouping_chart::refusal::{Reason, Refusal, first_refused, object_refusal, time_good};
 use numeric::range;
 
 fn starts_good(time: &[f64], rate: f64, n: usize) -> bool
@@ -28,22 +28,16 @@ fn deltas_good(time: &[f64], rate: f64, n: usize) -> bool
     all_places(n, |i| time_good(delta_at(time, rate, i)))
 }
 
-// The first object that is refused. Its ratio is one of the common ones, so 1.0 serves for it: none of them is refused.
-fn first_refused(raw: Raw, rate: f64, n: usize) -> Result<(), Refusal>
-    requires { RawRoom (seen raw) n }
-    ensures { result ≡ objects_verdict (built_chart rate (seen raw.entry)) }
+// Whether a built object is good. Its ratio is one of the common ones, so 1.0 serves for it: none of them is refused.
+fn built_refusal(raw: Raw, rate: f64, i: usize) -> Result<(), Reason>
+    requires same { length raw.time.now ≡ length raw.kind.now }
+    requires inside { i < built_size (seen raw) }
+    ensures { let c = built_chart rate (seen raw.entry) in result
+        ≡ object_refusal (get_or c.kinds i 0) (get_or c.starts i nan) (get_or c.deltas i nan) (get_or c.ratios i nan) }
 {
-    for i in 0..n {
-        let start = start_at(raw.time, rate, i);
-        let delta = delta_at(raw.time, rate, i);
-        if let Some(reason) = object_refusal(raw.kind[i + 2], start, delta, 1.0) {
-            return Err(Refusal {
-                reason,
-                place: ObjectIndex(i),
-            });
-        }
-    }
-    Ok(())
+    let start = start_at(raw.time, rate, i);
+    let delta = delta_at(raw.time, rate, i);
+    object_refusal(raw.kind[i + 2], start, delta, 1.0)
 }
 
 // Most charts are good, which is told without a jump for each object.
@@ -58,7 +52,7 @@ fn check_objects(raw: Raw, rate: f64, n: usize) -> Result<(), Refusal>
     if kinds & (starts & deltas) {
         return Ok(());
     }
-    first_refused(raw, rate, n)
+    first_refused(n, |i| built_refusal(raw, rate, i))
 }
 
 // From 0.25 to 4.0.
@@ -68,18 +62,18 @@ fn rate_good(rate: f64) -> bool
     range::is_within(0.25, 4.0, rate)
 }
 
-// What is refused beside the objects, if anything is.
+// Whether what is beside the objects is good: the answer slices, then the rate.
 #[tactic(auto, unfolding(crate::specs::Call::beside_refusal))]
-fn beside_refusal(short: bool, rate: f64) -> Option<Reason>
+fn beside_refusal(short: bool, rate: f64) -> Result<(), Reason>
     ensures { result ≡ beside_refusal short rate }
 {
     if short {
-        return Some(Reason::ShortSlice);
+        return Err(Reason::ShortSlice);
     }
     if rate_good(rate) {
-        return None;
+        return Ok(());
     }
-    Some(Reason::BadRate)
+    Err(Reason::BadRate)
 }
 
 // The verdict on raw objects of which n are built; `short` says that an answer slice is too short for these.
@@ -87,15 +81,12 @@ pub fn judge(raw: Raw, rate: f64, n: usize, short: bool) -> Result<(), Refusal>
     requires { built_size (seen raw) ≡ n }
     ensures { result ≡ verdict_of rate (seen raw.entry) short }
 {
-    if 16386 < raw.kind.len() {
+    if MOST_RAW < raw.kind.len() {
         return Err(Refusal::from(Reason::TooManyObjects));
     }
     if raw.time.len() != raw.kind.len() {
         return Err(Refusal::from(Reason::UnequalLengths));
     }
-    let beside = beside_refusal(short, rate);
-    if let Some(reason) = beside {
-        return Err(Refusal::from(reason));
-    }
+    beside_refusal(short, rate)?;
     check_objects(raw, rate, n)
 }

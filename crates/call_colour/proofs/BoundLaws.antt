@@ -17,9 +17,7 @@ use Rattle.numeric.proofs.Bounded as bounds
 use Rattle.numeric.proofs.Bounded.{Bounded, bounded_more, bounded_number, bounded_tenths, add_bounded}
 use Rattle.numeric.proofs.tenths.Nearest.{tenths_nearest}
 use Rattle.grouping_chart.specs.Chart.{Chart}
-use Rattle.std.specs.Prelude.{Option}
-use Rattle.grouping_chart.specs.Refusal.{accepted, verdict}
-use Rattle.grouping_chart.specs.declared.refusal.Reason.{Reason}
+use Rattle.grouping_chart.specs.Refusal.{Check, accepted, verdict}
 use Rattle.grouping_chart.specs.Settings.{Settings}
 use Rattle.grouping_chart.proofs.AcceptedLaws.{accepted_good}
 use Rattle.evaluator_values.proofs.BoundLaws.{largest_colour, value_bounded}
@@ -50,7 +48,7 @@ average_bounded B xs some few k l g =
     (rw zero-add at (sum_bounded B 0 zero64 xs (omega arith) (leb→le 0 0 tt) g))
 
 -- ---- the mean of a stretch of an accepted chart
-module _ (s : Settings) (c : Chart) (beside : Option Reason) (good : verdict c beside ≡ accepted) (a b : ℕ) (x : GoodStretch c.kinds a b) where
+module _ (s : Settings) (c : Chart) (beside : Check) (good : verdict c beside ≡ accepted) (a b : ℕ) (x : GoodStretch c.kinds a b) where
   abbrev made : List Float
   made = stretch_values s c a b
 

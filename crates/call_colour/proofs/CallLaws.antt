@@ -1,14 +1,18 @@
 -- The outcomes of colour and stretch, case by case, over plain lists: a refusal leaves all as lent, and an accepted call has room in every slice.
 use mathlib.Core.Path.{◌≡◌}
+use mathlib.Core.Bool.{false}
 use mathlib.Core.List.{List}
 use Prim.Native.Nat.{ℕ}
 use lib.IntN.{ℤ}
+use lib.ListN.{length}
 use lib.Ieee.{Float}
-use Rattle.grouping_chart.specs.Chart.{Chart}
+use Rattle.grouping_chart.specs.Chart.{Chart, size}
 use Rattle.grouping_chart.specs.Outcome.{outcome}
-use Rattle.std.specs.Prelude.{None, Ok}
-use Rattle.grouping_chart.specs.Refusal.{Verdict, accepted}
-use Rattle.grouping_chart.proofs.OutcomeLaws.{accommodated, BothAccepted, answered-done}
+use Rattle.std.specs.Prelude.{Ok}
+use Rattle.grouping_chart.specs.Refusal.{passed, Verdict, accepted, verdict}
+use Rattle.grouping_chart.specs.Room.{short_refusal}
+use Rattle.grouping_chart.proofs.RoomLaws.{joined, short_joined}
+use Rattle.grouping_chart.proofs.OutcomeLaws.{verdict-judged, accommodated, BothAccepted, answered-done}
 use Rattle.grouping_chart.specs.Settings.{Settings, Permitted}
 use Rattle.call_colour.specs.Stretch.{stretch_refusal, stretch_verdict, chart_mean, chart_tenths}
 use Rattle.call_colour.specs.Call.{Memory, answer_lengths, judged, filled, stretch_mean, colour_outcome, stretch_outcome}
@@ -18,8 +22,13 @@ use Rattle.call_colour.specs.passes.Rooms.{ChartRoom}
 abbrev pub StretchAccepted : Verdict → List ℕ → ℕ → ℕ → Type 0
 StretchAccepted v kinds a b = BothAccepted v (stretch_refusal kinds a b)
 
-pub both_accepted : (c : Chart) (m : Memory) (a b : ℕ) → judged c m ≡ accepted → stretch_refusal c.kinds a b ≡ None → StretchAccepted (judged c m) c.kinds a b
+pub both_accepted : (c : Chart) (m : Memory) (a b : ℕ) → judged c m ≡ accepted → stretch_refusal c.kinds a b ≡ passed → StretchAccepted (judged c m) c.kinds a b
 both_accepted c m a b h e = record { chart = h; none = e }
+
+-- the verdict of the definition is what `judge` gave on the code's tests of the answer slices
+pub told : (c : Chart) (m : Memory) {v u : Verdict}
+    → v ≡ verdict c (short_refusal (joined (size c) false (answer_lengths m)) (size c) (length m.work) (length m.scratch)) → v ≡ u → judged c m ≡ u
+told c m = verdict-judged c (answer_lengths m) _ _ (short_joined (size c) _ _)
 
 -- ---- each case leaves its outcome
 

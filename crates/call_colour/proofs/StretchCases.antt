@@ -6,10 +6,11 @@ use Prim.Native.Nat.{ℕ, ◌≤◌, ◌<◌}
 use borrow.Author.Tests.{lt-ltb, le-ltb, le-leb, lt-leb, ltb-false, leb-false}
 use lib.Dec.{ltb, leb}
 use lib.ListN.{length}
-use Rattle.std.specs.Prelude.{Some, None}
+use Rattle.std.specs.Prelude.{Err}
+use Rattle.grouping_chart.specs.Refusal.{passed}
 use Rattle.lent.proofs.NeverLaws.{never}
 use Rattle.grouping_chart.specs.declared.refusal.Reason.TheVariants.{OutOfRange, NoNotes}
-use Rattle.grouping_chart.proofs.RoomLaws.{either_false}
+use Rattle.std.proofs.lemmas.Bool.{or_parts}
 use Rattle.call_colour.specs.Stretch.{from_to, has_note, stretch_refusal, GoodStretch}
 
 -- a stretch has an object, all of them are the chart's, and one is a note
@@ -19,27 +20,27 @@ pub record StretchLies (kinds : List ℕ) (a b : ℕ) : Type 0 where
   pub noted : has_note (from_to a b kinds) ≡ true
 
 module _ (kinds : List ℕ) (a b : ℕ) where
-  pub none_refused : b ≤ a → Some OutOfRange ≡ stretch_refusal kinds a b
+  pub none_refused : b ≤ a → Err OutOfRange ≡ stretch_refusal kinds a b
   unfolding stretch_refusal
   none_refused h = rw (le-leb b a h)
 
-  pub past_refused : length kinds < b → Some OutOfRange ≡ stretch_refusal kinds a b
+  pub past_refused : length kinds < b → Err OutOfRange ≡ stretch_refusal kinds a b
   unfolding stretch_refusal
   past_refused h = rw (lt-ltb (length kinds) b h) (either_outside (leb b a))
     where
-      either_outside : (none : Bool) → Some OutOfRange ≡ cond (none || true) (Some OutOfRange) (cond (has_note (from_to a b kinds)) None (Some NoNotes))
+      either_outside : (none : Bool) → Err OutOfRange ≡ cond (none || true) (Err OutOfRange) (cond (has_note (from_to a b kinds)) passed (Err NoNotes))
       either_outside true = refl
       either_outside false = refl
 
   -- where it is the chart's, its notes decide
-  inside-refused : a < b → b ≤ length kinds → (noted : Bool) → has_note (from_to a b kinds) ≡ noted → stretch_refusal kinds a b ≡ cond noted None (Some NoNotes)
+  inside-refused : a < b → b ≤ length kinds → (noted : Bool) → has_note (from_to a b kinds) ≡ noted → stretch_refusal kinds a b ≡ cond noted passed (Err NoNotes)
   unfolding stretch_refusal
   inside-refused h k noted e = rw (lt-leb b a h, le-ltb (length kinds) b k, e)
 
-  pub noteless_refused : a < b → b ≤ length kinds → has_note (from_to a b kinds) ≡ false → stretch_refusal kinds a b ≡ Some NoNotes
+  pub noteless_refused : a < b → b ≤ length kinds → has_note (from_to a b kinds) ≡ false → stretch_refusal kinds a b ≡ Err NoNotes
   noteless_refused h k = inside-refused h k false
 
-  none_of : (outside noted : Bool) → cond outside (Some OutOfRange) (cond noted None (Some NoNotes)) ≡ None → (outside ≡ false) × (noted ≡ true)
+  none_of : (outside noted : Bool) → cond outside (Err OutOfRange) (cond noted passed (Err NoNotes)) ≡ passed → (outside ≡ false) × (noted ≡ true)
   none_of true noted e = never (cc)
   none_of false true e = (refl, refl)
   none_of false false e = never (cc)
@@ -48,7 +49,7 @@ module _ (kinds : List ℕ) (a b : ℕ) where
   unfolding stretch_refusal
   good_lies e =
       let z = none_of (leb b a || ltb (length kinds) b) (has_note (from_to a b kinds)) e in
-      let t = either_false _ _ z.0 in
+      let t = or_parts _ _ z.0 in
       record { some = leb-false _ _ t.0; inside = ltb-false _ _ t.1; noted = z.1 }
 
   pub lies_good : StretchLies kinds a b → GoodStretch kinds a b

@@ -2,7 +2,7 @@
 -- stretches are refused; the mean of one, the colour values of its notes added from left to right and divided by how
 -- many they are; and its tenths, to the nearest.
 use Rattle.std.specs.Prelude.{◌≡◌, ℕ, ◌-◌, Bool, ◌||◌, cond, List, [], ◌∷◌, ltb, leb, ℤ, pos, length, Float}
-use Rattle.std.specs.Prelude.{Option, Some, None}
+use Rattle.std.specs.Prelude.{Err}
 use Rattle.std.specs.Float.{binary64}
 use Rattle.std.specs.Float.Ieee.{add, div, of_int}
 use Rattle.numeric.specs.Constants.{zero64}
@@ -12,8 +12,7 @@ use Rattle.grouping_chart.specs.Object.{notes}
 use Rattle.grouping_chart.specs.Chart.{Chart}
 use Rattle.grouping_chart.specs.Outcome.{refused_then}
 use Rattle.grouping_chart.specs.Settings.{Settings}
-use Rattle.grouping_chart.specs.Refusal.{Verdict}
-use Rattle.grouping_chart.specs.declared.refusal.Reason.{Reason}
+use Rattle.grouping_chart.specs.Refusal.{Check, passed, Verdict}
 use Rattle.grouping_chart.specs.declared.refusal.Reason.TheVariants.{OutOfRange, NoNotes}
 use Rattle.grouping_interval.specs.Notes.{of_notes}
 use Rattle.evaluator_values.specs.Colour.{values_of}
@@ -25,14 +24,14 @@ from_to a b xs = part a (b - a) xs
 unfoldable pub has_note : List ℕ → Bool
 has_note kinds = ltb 0 (length (notes kinds))
 
--- what is refused of a stretch, if anything is: 9 where it is empty or ends past the chart, else 11 where it has no note
-unfoldable pub stretch_refusal : List ℕ → ℕ → ℕ → Option Reason
+-- whether a stretch is good: 9 where it is empty or ends past the chart, else 11 where it has no note
+unfoldable pub stretch_refusal : List ℕ → ℕ → ℕ → Check
 stretch_refusal kinds a b =
-    cond (leb b a || ltb (length kinds) b) (Some OutOfRange) (cond (has_note (from_to a b kinds)) None (Some NoNotes))
+    cond (leb b a || ltb (length kinds) b) (Err OutOfRange) (cond (has_note (from_to a b kinds)) passed (Err NoNotes))
 
 -- a stretch of which nothing is refused, of a chart with these kinds
 abbrev pub GoodStretch : List ℕ → ℕ → ℕ → Type 0
-GoodStretch kinds a b = stretch_refusal kinds a b ≡ None
+GoodStretch kinds a b = stretch_refusal kinds a b ≡ passed
 
 -- and what is refused of it comes after what is refused of the chart
 abbrev pub stretch_verdict : Verdict → List ℕ → ℕ → ℕ → Verdict

@@ -73,9 +73,7 @@ pub fn stretch(
 {
     let short = value.len() < chart.kind.len();
     judge(chart, short, work.len(), scratch.len())?;
-    if let Some(reason) = stretches::stretch_refusal(chart.kind, a, b) {
-        return Err(Refusal::from(reason));
-    }
+    stretches::stretch_refusal(chart.kind, a, b)?;
     fill_chart(chart, settings::base(), value, work, scratch);
     let mean = stretches::mean(chart.kind, value, a, b);
     Ok(StretchMean {

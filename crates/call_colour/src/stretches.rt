@@ -16,20 +16,20 @@ fn has_note(kind: &[u8]) -> bool
     kind.iter().any(|k| is_note(*k))
 }
 
-// What is refused of a stretch, if anything is: one where a is not below b or b is above n, then one that has no note.
-pub fn stretch_refusal(kind: &[u8], a: usize, b: usize) -> Option<Reason>
+// Whether a stretch is good. One where a is not below b or b is above n is refused, then one that has no note.
+pub fn stretch_refusal(kind: &[u8], a: usize, b: usize) -> Result<(), Reason>
     ensures { result ≡ stretch_refusal kind.now a b }
 {
     if b <= a {
-        return Some(Reason::OutOfRange);
+        return Err(Reason::OutOfRange);
     }
     if kind.len() < b {
-        return Some(Reason::OutOfRange);
+        return Err(Reason::OutOfRange);
     }
     if !has_note(&kind[a..b]) {
-        return Some(Reason::NoNotes);
+        return Err(Reason::NoNotes);
     }
-    None
+    Ok(())
 }
 
 // What an object adds to a sum: a note its value, a NonHit -0.0, which changes no sum. It is read by its kind's place,

@@ -48,6 +48,8 @@ fn spread(
 }
 
 // The six numbers of each object, by the kinds alone, under a search limit. The result is the number of hit patterns.
+// The answer slices stay parameters: a struct of `&mut` slices is no plainer. By value its fields have no names at the
+// return (`out.exit.0`), and by value or behind a `&mut` the look-ups from field to field get no generated proof.
 pub fn encode_kinds(
     kind: &[u8],
     limit: SearchLimit,

@@ -8,16 +8,14 @@ use native.Mathlib.Omega.{arith}
 use lib.Dec.{T, lit≤}
 use lib.ListN.{length, get_or}
 use lib.Ieee.{Float, nan, is_nan}
-use Rattle.std.specs.Prelude.{Option}
 use Rattle.numeric.specs.Constants.{one64, thousand64}
 use Rattle.numeric.proofs.Bounded.{Bounded, sub_bounded, le_bounded}
 use Rattle.numeric.proofs.range.Laws.{within_ends}
 use Rattle.grouping_marks.proofs.PartedLaws.{parted_all, parted-some}
 use Rattle.grouping_chart.specs.Chart.{Chart, size}
-use Rattle.grouping_chart.specs.Refusal.{accepted, verdict}
+use Rattle.grouping_chart.specs.Refusal.{Check, accepted, verdict}
 use Rattle.grouping_interval.specs.Notes.{note_objects}
 use Rattle.grouping_chart.specs.Settings.{Settings}
-use Rattle.grouping_chart.specs.declared.refusal.Reason.{Reason}
 use Rattle.grouping_chart.proofs.AcceptedLaws.{GoodChart, accepted_good}
 use Rattle.grouping_interval.proofs.NoteLaws.{object-below}
 use Rattle.grouping_chart.proofs.RangeLaws.{time_range}
@@ -30,12 +28,12 @@ use Rattle.evaluator_rhythm.proofs.PenaltyLaws as penalty
 use Rattle.call_record.specs.Record.{objects_in, owns_at, duration_of, record_at}
 use Rattle.call_record.specs.Call.{window_good}
 
-start_bounded : {c : Chart} {beside : Option Reason} → GoodChart c beside → (i : ℕ) → i < size c → Bounded (get_or c.starts i nan) (2 ^ 24)
+start_bounded : {c : Chart} {beside : Check} → GoodChart c beside → (i : ℕ) → i < size c → Bounded (get_or c.starts i nan) (2 ^ 24)
 start_bounded {c} good i h =
     let r = time_range (get_or c.starts i nan) (good.objects i nan h).start in
     le_bounded (get_or c.starts i nan) 24 r.0 r.1
 
-module _ (s : Settings) (c : Chart) (beside : Option Reason) (g : ℕ) (told : verdict c beside ≡ accepted) (there : g < groups_in s.margin c.kinds c.deltas) where
+module _ (s : Settings) (c : Chart) (beside : Check) (g : ℕ) (told : verdict c beside ≡ accepted) (there : g < groups_in s.margin c.kinds c.deltas) where
   -- group g is one of the groups
   group_there : g < length (group_objects s.margin c.kinds c.deltas)
   group_there =

@@ -8,12 +8,12 @@ use lib.Dec.{T, ltb}
 use lib.ListN.{length, get_or}
 use lib.Ieee.{Float, nan}
 use lib.Ieee.Scale.{finite}
-use Rattle.std.specs.Prelude.{Some, None, Ok, Err}
+use Rattle.std.specs.Prelude.{Ok, Err}
 use Rattle.lent.proofs.NeverLaws.{never}
 use Rattle.numeric.specs.Range.{earliest, latest}
 use Rattle.numeric.proofs.Values.{finite-between}
 use Rattle.grouping_chart.specs.Chart.{Chart, size}
-use Rattle.grouping_chart.specs.Refusal.{Verdict, accepted, at_0, time_good, verdict}
+use Rattle.grouping_chart.specs.Refusal.{passed, Verdict, accepted, at_0, time_good, verdict}
 use Rattle.grouping_chart.specs.Room.{short_refusal}
 use Rattle.grouping_chart.specs.Outcome.{outcome}
 use Rattle.grouping_chart.specs.Settings.{Settings}
@@ -46,23 +46,23 @@ lengths_same c m h = (accommodated c (answer_lengths m) _ _ h).chart.lengths.del
 -- ---- what is refused after the chart
 
 module _ (window : Float) (g groups : ℕ) where
-  pub window_refused : window_good window ≡ false → Some BadWindow ≡ record_refusal window g groups
+  pub window_refused : window_good window ≡ false → Err BadWindow ≡ record_refusal window g groups
   unfolding record_refusal
   window_refused h = rw h
 
-  pub group-refused : window_good window ≡ true → groups ≤ g → Some OutOfRange ≡ record_refusal window g groups
+  pub group-refused : window_good window ≡ true → groups ≤ g → Err OutOfRange ≡ record_refusal window g groups
   unfolding record_refusal
   group-refused h k = rw (h, le-ltb g groups k)
 
-  pub neither_refused : window_good window ≡ true → g < groups → None ≡ record_refusal window g groups
+  pub neither_refused : window_good window ≡ true → g < groups → passed ≡ record_refusal window g groups
   unfolding record_refusal
   neither_refused h k = rw (h, lt-ltb g groups k)
 
-  group-below : record_refusal window g groups ≡ None → g < groups
+  group-below : record_refusal window g groups ≡ passed → g < groups
   unfolding record_refusal
   group-below e = go (window_good window) (ltb g groups) refl e
     where
-      go : (good below : Bool) → ltb g groups ≡ below → cond good (cond below None (Some OutOfRange)) (Some BadWindow) ≡ None → g < groups
+      go : (good below : Bool) → ltb g groups ≡ below → cond good (cond below passed (Err OutOfRange)) (Err BadWindow) ≡ passed → g < groups
       go true true q e = ltb-true g groups q
       go true false q e = never (cc)
       go false below q e = never (cc)
@@ -76,11 +76,11 @@ module _ (s : Settings) (c : Chart) (m : Memory) (g : ℕ) (window : Float) wher
 
   -- the chart is accepted, and the window and the group number are tested
   module _ (taken : judged c m ≡ accepted) where
-    pub asked_refused : {r : Reason} → record_refusal window g (groups_of s c) ≡ Some r → outcome (Err (at_0 r)) m ≡ record_outcome s c g window m
+    pub asked_refused : {r : Reason} → record_refusal window g (groups_of s c) ≡ Err r → outcome (Err (at_0 r)) m ≡ record_outcome s c g window m
     unfolding record_outcome
     asked_refused e = answered-refused _ _ m (then-refused _ taken e)
 
-    module _ (none : record_refusal window g (groups_of s c) ≡ None) where
+    module _ (none : record_refusal window g (groups_of s c) ≡ passed) where
       pub group_room : GroupRoom s.margin c.kinds c.starts c.deltas g m.work m.scratch
       group_room =
           let r = accommodated c (answer_lengths m) _ _ taken in

@@ -1,14 +1,13 @@
 -- The call record (scope: Calls and what they fill): what it answers, and what every lent slice holds
 -- afterwards. Refusals 8 and 9 are tested after 1 to 7.
-use Rattle.std.specs.Prelude.{ℕ, Bool, cond, List, [], ltb, Float, Option, Some, None, Result}
+use Rattle.std.specs.Prelude.{ℕ, Bool, cond, List, [], ltb, Float, Result, Err}
 use Rattle.numeric.specs.Constants.{one64, thousand64}
 use Rattle.numeric.specs.Range.{within}
 use Rattle.grouping_chart.specs.Chart.{Chart, size}
 use Rattle.grouping_chart.specs.Room.{cleared_work, cleared_scratch}
 use Rattle.grouping_chart.specs.Outcome.{Outcome, judged_by, refused_then, answered}
 use Rattle.grouping_chart.specs.Settings.{Settings}
-use Rattle.grouping_chart.specs.Refusal.{Verdict}
-use Rattle.grouping_chart.specs.declared.refusal.Reason.{Reason}
+use Rattle.grouping_chart.specs.Refusal.{Check, passed, Verdict}
 use Rattle.grouping_chart.specs.declared.refusal.Reason.TheVariants.{BadWindow, OutOfRange}
 use Rattle.grouping_chart.specs.declared.refusal.Refusal.{Refusal}
 use Rattle.call_rhythm.specs.Rhythm.{groups_in}
@@ -44,9 +43,9 @@ unfoldable pub window_good : Float → Bool
 window_good window = within one64 thousand64 window
 
 -- why a window and a group number are refused, if they are: a window that is not good, then a number that no group has
-unfoldable pub record_refusal : Float → ℕ → ℕ → Option Reason
+unfoldable pub record_refusal : Float → ℕ → ℕ → Check
 record_refusal window g groups =
-    cond (window_good window) (cond (ltb g groups) None (Some OutOfRange)) (Some BadWindow)
+    cond (window_good window) (cond (ltb g groups) passed (Err OutOfRange)) (Err BadWindow)
 
 -- and it comes after what is refused of the chart
 abbrev pub record_verdict : Verdict → Float → ℕ → ℕ → Verdict

@@ -45,19 +45,25 @@ fn window_good(window: f64) -> bool
     numeric::range::is_within(1.0, 1000.0, window)
 }
 
-// Why an accepted chart's window and group number are refused, if they are: a window that is not good, then a number
-// that no group has.
-fn record_refusal(kind: &[u8], delta: &[f64], margin: f64, g: usize, window: f64) -> Option<Reason>
+// Whether window and group number are good for an accepted chart. A window that is not good is refused, then a number that
+// no group has.
+fn record_refusal(
+    kind: &[u8],
+    delta: &[f64],
+    margin: f64,
+    g: usize,
+    window: f64,
+) -> Result<(), Reason>
     requires { length delta.now ≡ length kind.now }
     ensures { result ≡ record_refusal window g (groups_in margin kind.now delta.now) }
 {
     if !window_good(window) {
-        return Some(Reason::BadWindow);
+        return Err(Reason::BadWindow);
     }
     if count_groups(kind, delta, margin) <= g {
-        return Some(Reason::OutOfRange);
+        return Err(Reason::OutOfRange);
     }
-    None
+    Ok(())
 }
 
 // What the call does with an accepted chart and group number: finds the group, clears the work slices, and scores.
@@ -117,8 +123,6 @@ pub fn record(
 {
     judge(chart, false, work.len(), scratch.len())?;
     let s = settings::base();
-    if let Some(reason) = record_refusal(chart.kind, chart.delta, s.margin, group, window) {
-        return Err(Refusal::from(reason));
-    }
+    record_refusal(chart.kind, chart.delta, s.margin, group, window)?;
     Ok(make_record(chart, s, group, window, work, scratch))
 }

@@ -11,7 +11,7 @@ use Rattle.lent.specs.Over.{over, put, part, written}
 use Rattle.grouping_marks.specs.Marks.{group_count, group_numbers, group_firsts}
 use Rattle.grouping_marks.specs.Parted.{parted}
 use Rattle.lent.proofs.OverLaws.{length-over, front, length-part, lent-part}
-use Rattle.lent.proofs.OverLaws.{length-put, take-put, drop-put, part-put_same, part-put_before, put_nothing}
+use Rattle.lent.proofs.OverLaws.{take-put, drop-put, part-put_same, part-put_before, put_nothing}
 use Rattle.lent.proofs.PieceLaws.{put-back, put_piece, put_piece₂, over_whole, part_then}
 use Rattle.grouping_marks.proofs.MarksLaws.{length-numbers, count_le, count_none}
 use Rattle.grouping_marks.proofs.MarksLaws.{length-firsts as length-firsts-of}
@@ -76,8 +76,6 @@ module _ (margin : Float) (deltas : List Float) (n : ℕ) (work₀ : List ℕ) (
   -- ---- taken apart, with the marks in region 2: the objects, region 1, the marks and what follows
   module _ (work₁ : List ℕ) (marked : work₁ ≡ put (2 * n) marks work₀) (front back : List ℕ) (o : front ≡ take n work₁) (b : back ≡ drop n work₁)
       (region rest : List ℕ) (f : region ≡ take n back) (t : rest ≡ drop n back) where
-    long₁ : length work₁ ≡ length work₀
-    long₁ = ap length marked ∙ length-put (2 * n) marks work₀ (omega (arith, marked_each, r))
 
     front_is : front ≡ take n work₀
     front_is = o ∙ ap (take n) marked ∙ take-put n (2 * n) marks work₀ (omega arith) (omega (arith, r))

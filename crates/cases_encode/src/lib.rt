@@ -24,6 +24,7 @@ use vectors::sentinel::{
 };
 
 // Whether an answer and slices are those of the body, each of whose columns has so many bytes.
+// The slices stay parameters, as `encode` lends them: a struct of them, made for this one call, is no plainer.
 fn outcome_holds(
     room: Room,
     body: &[u8],

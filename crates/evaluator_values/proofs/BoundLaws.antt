@@ -7,12 +7,11 @@ use lib.Dec.{T}
 use lib.ListN.{get_or}
 use lib.Ieee.{nan, binary64, is_nan, le, mul}
 use lib.Ieee.Fits.{mul-fits}
-use Rattle.std.specs.Prelude.{Option}
 use Rattle.numeric.specs.Range.{least_ratio, greatest_ratio}
 use Rattle.numeric.proofs.Values.{Number, number_no_nan}
 use Rattle.numeric.proofs.Bounded.{Bounded, bounded_number}
 use Rattle.grouping_chart.specs.Chart.{Chart, size}
-use Rattle.grouping_chart.specs.Refusal.{accepted, verdict}
+use Rattle.grouping_chart.specs.Refusal.{Check, passed, accepted, verdict}
 use Rattle.grouping_chart.specs.declared.refusal.Reason.{Reason}
 use Rattle.grouping_chart.specs.Settings.{Settings}
 use Rattle.grouping_chart.proofs.AcceptedLaws.{GoodChart, accepted_good}
@@ -33,11 +32,11 @@ value_is : (s : Settings) (c : Chart) (i : ℕ) → i < size c
 unfolding colour_at
 value_is s c i h = value_of s.limit s.tolerance c.kinds c.ratios i h
 
-ratio_at_lem : {c : Chart} {beside : Option Reason} → GoodChart c beside → (i : ℕ) → i < size c
+ratio_at_lem : {c : Chart} {beside : Check} → GoodChart c beside → (i : ℕ) → i < size c
     → T (le least_ratio (get_or c.ratios i nan)) × T (le (get_or c.ratios i nan) greatest_ratio)
 ratio_at_lem {c} g i h = ratio_range (get_or c.ratios i nan) (g.objects i nan h).ratio
 
-module _ (s : Settings) (c : Chart) (beside : Option Reason) (good : verdict c beside ≡ accepted) where
+module _ (s : Settings) (c : Chart) (beside : Check) (good : verdict c beside ≡ accepted) where
   pub value_bounded : (i : ℕ) → i < size c → Bounded (get_or (values_of s c) i nan) largest_colour
   value_bounded i h =
       let objects = accepted_good c beside good in

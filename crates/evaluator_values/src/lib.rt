@@ -28,9 +28,9 @@ fn numbers_at(tables: Tables, idx: ObjectIndex) -> Numbers
     ensures { NumbersAt tables.entry idx.0 result }
 {
     let i = idx.0;
-    let streak = tables.streak[i] as usize;
-    let pattern = tables.pattern[streak] as usize;
-    let hit = tables.hit[pattern] as usize;
+    let streak = usize::from(tables.streak[i]);
+    let pattern = usize::from(tables.pattern[streak]);
+    let hit = usize::from(tables.hit[pattern]);
     Numbers {
         streak,
         pattern,
@@ -44,9 +44,9 @@ fn standing_at(tables: Tables, idx: ObjectIndex) -> Standing
 {
     let i = idx.0;
     let at = numbers_at(tables, idx);
-    let interval = tables.interval[at.hit] as usize;
-    let pattern_place = tables.pattern_place[at.pattern] as usize;
-    let streak_place = tables.streak_place[at.streak] as usize;
+    let interval = usize::from(tables.interval[at.hit]);
+    let pattern_place = usize::from(tables.pattern_place[at.pattern]);
+    let streak_place = usize::from(tables.streak_place[at.streak]);
     if i == 0 {
         return Standing {
             interval,

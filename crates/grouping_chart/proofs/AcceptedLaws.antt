@@ -9,13 +9,14 @@ use lib.Dec.{T, leb}
 use denote.Floats.{passes, is_true}
 use lib.ListN.{length, get_or}
 use lib.Ieee.{Float, nan}
+use Rattle.std.proofs.lemmas.Bool.{and_parts}
 use Rattle.lent.proofs.NeverLaws.{never}
-use Rattle.std.specs.Prelude.{Option, Some, None}
+use Rattle.std.specs.Prelude.{Ok, Err}
 use Rattle.grouping_chart.specs.declared.refusal.Reason.{Reason}
 use Rattle.grouping_chart.specs.Chart.{Chart, equally_long}
-use Rattle.grouping_chart.specs.Refusal.{kind_good, time_good, ratio_good, Verdict, accepted, refused, refused_or, object_refusal, first_refused, in_order, objects_verdict, verdict}
+use Rattle.grouping_chart.specs.Refusal.{Check, passed, kind_good, time_good, ratio_good, Verdict, accepted, refused, refused_or, object_refusal, first_refused, in_order, objects_verdict, verdict}
 use Rattle.grouping_chart.specs.passes.Good.{SameLengths, all, all_good}
-use Rattle.grouping_chart.proofs.AllLaws.{both_true, all_each}
+use Rattle.grouping_chart.proofs.AllLaws.{all_each}
 use Rattle.grouping_chart.proofs.RefusalLaws.{all_equal, verdict-objects}
 
 -- an object that is not refused
@@ -26,16 +27,16 @@ pub record GoodObject (k : ℕ) (s d r : Float) : Type 0 where
   pub ratio : T (ratio_good r)
 
 -- a chart that is not refused, in a call of which nothing is refused beside it
-pub record GoodChart (c : Chart) (beside : Option Reason) : Type 0 where
+pub record GoodChart (c : Chart) (beside : Check) : Type 0 where
   pub few : length c.kinds ≤ 16384
-  pub room : beside ≡ None
+  pub room : beside ≡ passed
   pub lengths : SameLengths (length c.kinds) c.starts c.deltas c.ratios
   pub objects : (i : ℕ) (z : Float) → i < length c.kinds
       → GoodObject (get_or c.kinds i 0) (get_or c.starts i z) (get_or c.deltas i z) (get_or c.ratios i z)
 
 -- ---- an object
 
-tests_passed : (a b c d : Bool) (p q r s : Reason) → cond a (cond b (cond c (cond d None (Some s)) (Some r)) (Some q)) (Some p) ≡ None
+tests_passed : (a b c d : Bool) (p q r s : Reason) → cond a (cond b (cond c (cond d passed (Err s)) (Err r)) (Err q)) (Err p) ≡ passed
     → (a ≡ true) × ((b ≡ true) × ((c ≡ true) × (d ≡ true)))
 tests_passed true true true true p q r s e = (refl, (refl, (refl, refl)))
 tests_passed true true true false p q r s e = never (cc)
@@ -43,13 +44,13 @@ tests_passed true true false d p q r s e = never (cc)
 tests_passed true false c d p q r s e = never (cc)
 tests_passed false b c d p q r s e = never (cc)
 
-pub object_good : (k : ℕ) (s d r : Float) → object_refusal k s d r ≡ None → GoodObject k s d r
+pub object_good : (k : ℕ) (s d r : Float) → object_refusal k s d r ≡ passed → GoodObject k s d r
 unfolding object_refusal
 object_good k s d r e =
     let t = tests_passed (leb k 2) (time_good s) (time_good d) (ratio_good r) _ _ _ _ e in
     record { kind = leb-true k 2 t.0; start = passes _ t.1.0; delta = passes _ t.1.1.0; ratio = passes _ t.1.1.1 }
 
-pub good_object : {k : ℕ} {s d r : Float} → GoodObject k s d r → object_refusal k s d r ≡ None
+pub good_object : {k : ℕ} {s d r : Float} → GoodObject k s d r → object_refusal k s d r ≡ passed
 unfolding object_refusal
 good_object {k} {s} {d} {r} g = rw (le-leb k 2 g.kind, is_true (time_good s) g.start, is_true (time_good d) g.delta, is_true (ratio_good r) g.ratio)
 
@@ -64,9 +65,9 @@ test_failed : (b : Bool) (later : Verdict) (r : Reason) → cond b (refused r) l
 test_failed true later r e = never (cc)
 test_failed false later r e = (refl, e)
 
-pub none_refused : (asked : Option Reason) (place : ℕ) (later : Verdict) → refused_or asked place later ≡ accepted → (asked ≡ None) × (later ≡ accepted)
-none_refused None place later e = (refl, e)
-none_refused (Some r) place later e = never (cc)
+pub none_refused : (asked : Check) (place : ℕ) (later : Verdict) → refused_or asked place later ≡ accepted → (asked ≡ passed) × (later ≡ accepted)
+none_refused (Ok done) place later e = (refl, e)
+none_refused (Err r) place later e = never (cc)
 
 objects_good : (j : ℕ) (ks : List ℕ) (ss ds rs : List Float) → SameLengths (length ks) ss ds rs → first_refused j ks ss ds rs ≡ accepted
     → (i : ℕ) (z : Float) → i < length ks → GoodObject (get_or ks i 0) (get_or ss i z) (get_or ds i z) (get_or rs i z)
@@ -90,7 +91,7 @@ good_objects j (k ∷ ks) [] ds rs g = refl
 good_objects j (k ∷ ks) (s ∷ ss) [] rs g = refl
 good_objects j (k ∷ ks) (s ∷ ss) (d ∷ ds) [] g = refl
 good_objects j (k ∷ ks) (s ∷ ss) (d ∷ ds) (r ∷ rs) g =
-    let here : object_refusal k s d r ≡ None = good_object (g 0 nan (omega arith)) in
+    let here : object_refusal k s d r ≡ passed = good_object (g 0 nan (omega arith)) in
     let later : first_refused (j + 1) ks ss ds rs ≡ accepted = good_objects (j + 1) ks ss ds rs (λ i z h. g (suc i) z (omega arith)) in
     rw here later
 
@@ -104,9 +105,9 @@ lists_good c a b d e = rw (a, b, d, e)
 pub all_good_accepted : (c : Chart) → SameLengths (length c.kinds) c.starts c.deltas c.ratios → all_good c ≡ true → accepted ≡ objects_verdict c
 unfolding all_good
 all_good_accepted c same e =
-    let k = both_true _ _ e in
-    let s = both_true _ _ k.1 in
-    let d = both_true _ _ s.1 in
+    let k = and_parts _ _ e in
+    let s = and_parts _ _ k.1 in
+    let d = and_parts _ _ s.1 in
     sym (good_objects 0 c.kinds c.starts c.deltas c.ratios (λ i z h. record {
       kind = leb-true _ 2 (all_each kind_good c.kinds k.0 i 0 h);
       start = passes _ (all_each time_good c.starts s.0 i z (omega (arith, same.start)));
@@ -128,13 +129,13 @@ equal-lengths c e =
     record { start = eqb-true _ _ t.0; delta = eqb-true _ _ t.1.0; ratio = eqb-true _ _ t.1.1 }
 
 -- no test refuses, of those that a call makes in their order
-pub record AllPassed (large equal : Bool) (beside : Option Reason) (objects : Verdict) : Type 0 where
+pub record AllPassed (large equal : Bool) (beside : Check) (objects : Verdict) : Type 0 where
   pub few : large ≡ false
   pub same : equal ≡ true
-  pub none : beside ≡ None
+  pub none : beside ≡ passed
   pub good : objects ≡ accepted
 
-pub all_passed : (large equal : Bool) (beside : Option Reason) (objects : Verdict) → in_order large equal beside objects ≡ accepted
+pub all_passed : (large equal : Bool) (beside : Check) (objects : Verdict) → in_order large equal beside objects ≡ accepted
     → AllPassed large equal beside objects
 all_passed large equal beside objects e =
     let few = test_failed _ _ _ e in
@@ -142,13 +143,13 @@ all_passed large equal beside objects e =
     let none = none_refused _ _ _ same.1 in
     record { few = few.0; same = same.0; none = none.0; good = none.1 }
 
-pub accepted_good : (c : Chart) (beside : Option Reason) → verdict c beside ≡ accepted → GoodChart c beside
+pub accepted_good : (c : Chart) (beside : Check) → verdict c beside ≡ accepted → GoodChart c beside
 unfolding verdict
 accepted_good c beside e =
     let p = all_passed _ (equally_long c) beside _ e in
     let same = equal-lengths c p.same in
     record { few = ltb-false _ _ p.few; room = p.none; lengths = same; objects = objects_good 0 _ _ _ _ same p.good }
 
-pub good_accepted : {c : Chart} {beside : Option Reason} → GoodChart c beside → verdict c beside ≡ accepted
+pub good_accepted : {c : Chart} {beside : Check} → GoodChart c beside → verdict c beside ≡ accepted
 good_accepted {c} {beside} g =
     verdict-objects c beside g.few (sym (all_equal c g.lengths)) g.room ∙ good_objects 0 _ _ _ _ g.objects

@@ -1,17 +1,14 @@
 -- A test of every element of a list, by the elements and by the places.
 -- The same for any list and test.
-use Rattle.std.proofs.Common.{◌≡◌, refl, sym, ap, ◌∙◌, ℕ, zero, suc, ◌+◌, ◌<◌, Bool, true, false, ◌&&◌, List, [], ◌∷◌, ◌++◌, length}
-use mathlib.Core.Bool.{true≢false, and_assoc, and-true}
+use Rattle.std.proofs.Common.{◌≡◌, refl, sym, ap, ◌∙◌, ℕ, zero, suc, ◌+◌, ◌<◌, Bool, true, ◌&&◌, List, [], ◌∷◌, ◌++◌, length}
+use mathlib.Core.Bool.{and_assoc, and-true}
 use native.Mathlib.Numerals.{add-one}
 use native.Mathlib.Omega.{arith}
 use lib.ListN.{get_or}
+use Rattle.std.proofs.lemmas.Bool.{and_parts}
 use Rattle.lent.specs.Scan.{tabulate}
 use Rattle.lent.proofs.FillLaws.{tabulate_places}
 use Rattle.grouping_chart.specs.passes.Good.{all, all_places}
-
-pub both_true : (a b : Bool) → (a && b) ≡ true → (a ≡ true) × (b ≡ true)
-both_true true b e = (refl, e)
-both_true false b e = absurd (true≢false (sym e))
 
 -- ---- by the elements
 
@@ -27,8 +24,8 @@ all_more test x xs e f = rw (e, f)
 pub all_each : {A : Type 0} (test : A → Bool) (xs : List A) → all test xs ≡ true → (i : ℕ) (d : A) → i < length xs → test (get_or xs i d) ≡ true
 unfolding all
 all_each test [] e i d h = absurd (omega arith)
-all_each test (x ∷ xs) e zero d h = (both_true (test x) (all test xs) e).0
-all_each test (x ∷ xs) e (suc i) d h = all_each test xs (both_true (test x) (all test xs) e).1 i d (omega arith)
+all_each test (x ∷ xs) e zero d h = (and_parts (test x) (all test xs) e).0
+all_each test (x ∷ xs) e (suc i) d h = all_each test xs (and_parts (test x) (all test xs) e).1 i d (omega arith)
 
 -- where each passes, all do
 pub each_all : {A : Type 0} (test : A → Bool) (xs : List A) (d : A) → ((i : ℕ) → i < length xs → test (get_or xs i d) ≡ true) → all test xs ≡ true

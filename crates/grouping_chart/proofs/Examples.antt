@@ -3,12 +3,11 @@ use mathlib.Core.Path.{◌≡◌, refl}
 use mathlib.Core.List.{List, [], ◌∷◌, map}
 use Prim.Native.Nat.{ℕ}
 use lib.Ieee.{Float, binary64, of_bits, le}
-use Rattle.std.specs.Prelude.{Option, Some, None, Err}
-use Rattle.grouping_chart.specs.declared.refusal.Reason.{Reason}
+use Rattle.std.specs.Prelude.{Err}
 use Rattle.grouping_chart.specs.declared.refusal.Reason.TheVariants.{UnequalLengths, ShortSlice, UnknownKind, BadStart, BadDelta, BadRatio}
 use Rattle.grouping_chart.specs.Chart.{Chart, equally_long}
 use Rattle.numeric.specs.Range.{within}
-use Rattle.grouping_chart.specs.Refusal.{Verdict, accepted, refusal, refused, time_good, ratio_good, object_refusal, first_refused, verdict}
+use Rattle.grouping_chart.specs.Refusal.{Check, passed, Verdict, accepted, refusal, refused, time_good, ratio_good, object_refusal, first_refused, verdict}
 
 -- An f64 is written by its bits, so that the next one in size is the next number.
 abbrev one : ℕ
@@ -45,7 +44,7 @@ minus_infinite = 0xfff0_0000_0000_0000
 
 record Example : Type 0 where
   chart : Chart
-  beside : Option Reason
+  beside : Check
   outcome : Verdict
 
 floats : List ℕ → List Float
@@ -55,13 +54,13 @@ floats = map (of_bits binary64)
 lists : List ℕ → List ℕ → List ℕ → List ℕ → Verdict → Example
 lists kinds starts deltas ratios outcome = record {
   chart = record { kinds = kinds; starts = floats starts; deltas = floats deltas; ratios = floats ratios };
-  beside = None;
+  beside = passed;
   outcome = outcome;
 }
 
 -- a call that is refused 3 where its chart is looked at
 short : List ℕ → List ℕ → List ℕ → List ℕ → Verdict → Example
-short kinds starts deltas ratios outcome = record { chart = (lists kinds starts deltas ratios outcome).chart; beside = Some ShortSlice; outcome = outcome }
+short kinds starts deltas ratios outcome = record { chart = (lists kinds starts deltas ratios outcome).chart; beside = Err ShortSlice; outcome = outcome }
 
 -- a call on one object
 object : ℕ → ℕ → ℕ → ℕ → Verdict → Example

@@ -3,10 +3,10 @@ use mathlib.Core.Path.{◌≡◌, refl, sym, ◌∙◌}
 use mathlib.Core.Bool.{Bool}
 use mathlib.Core.List.{List}
 use Prim.Native.Nat.{ℕ, ◌*◌, ◌≤◌}
-use Rattle.std.specs.Prelude.{Option, Some, None, Result, Ok, Err}
+use Rattle.std.specs.Prelude.{Result, Ok, Err}
 use Rattle.lent.proofs.NeverLaws.{never}
 use Rattle.grouping_chart.specs.Chart.{Chart, size}
-use Rattle.grouping_chart.specs.Refusal.{Verdict, accepted, refused, verdict}
+use Rattle.grouping_chart.specs.Refusal.{Check, passed, Verdict, accepted, refused, verdict}
 use Rattle.grouping_chart.specs.Room.{any_short, short_refusal, refusal_beside}
 use Rattle.grouping_chart.specs.Outcome.{Outcome, outcome, refused_then, answered}
 use Rattle.grouping_chart.specs.declared.refusal.Reason.{Reason}
@@ -35,25 +35,25 @@ accommodated c answers work scratch h =
 
 -- ---- what is refused after the chart
 
-module _ {v : Verdict} (asked : Option Reason) where
+module _ {v : Verdict} (asked : Check) where
   pub chart-refused : {first : Refusal} → v ≡ Err first → refused_then v asked ≡ Err first
   unfolding refused_then
   chart-refused h = rw h
 
-  pub nothing-refused : v ≡ accepted → asked ≡ None → refused_then v asked ≡ accepted
+  pub nothing-refused : v ≡ accepted → asked ≡ passed → refused_then v asked ≡ accepted
   unfolding refused_then
   nothing-refused h e = rw (h, e)
 
-  pub then-refused : {r : Reason} → v ≡ accepted → asked ≡ Some r → refused_then v asked ≡ refused r
+  pub then-refused : {r : Reason} → v ≡ accepted → asked ≡ Err r → refused_then v asked ≡ refused r
   unfolding refused_then
   then-refused h e = rw (h, e)
 
 -- neither is refused
-pub record BothAccepted (v : Verdict) (asked : Option Reason) : Type 0 where
+pub record BothAccepted (v : Verdict) (asked : Check) : Type 0 where
   pub chart : v ≡ accepted
-  pub none : asked ≡ None
+  pub none : asked ≡ passed
 
-pub both-accepted : (v : Verdict) (asked : Option Reason) → refused_then v asked ≡ accepted → BothAccepted v asked
+pub both-accepted : (v : Verdict) (asked : Check) → refused_then v asked ≡ accepted → BothAccepted v asked
 unfolding refused_then
 both-accepted (Ok done) asked e = record { chart = refl; none = (none_refused asked _ _ e).0 }
 both-accepted (Err first) asked e = never (cc)

@@ -1,14 +1,16 @@
 -- The cases of refusal 3, and what is known where no slice is too short. A call on a chart cites these.
 use mathlib.Core.Path.{◌≡◌, refl, sym, ◌∙◌}
-use mathlib.Core.Bool.{Bool, true, false, cond, ◌||◌, true≢false, or-false, or_assoc}
+use mathlib.Core.Bool.{Bool, true, false, cond, ◌||◌, or-false, or_assoc}
 use mathlib.Core.List.{List, [], ◌∷◌}
 use Prim.Native.Nat.{ℕ, ◌*◌, ◌/◌, ◌≤◌, ◌<◌}
 use native.Mathlib.Omega.{arith}
 use borrow.Author.Tests.{lt-ltb, le-ltb, ltb-false}
 use lib.Dec.{ltb}
-use Rattle.std.specs.Prelude.{Some, None}
+use Rattle.std.specs.Prelude.{Err}
+use Rattle.std.proofs.lemmas.Bool.{or_parts}
 use Rattle.lent.proofs.NeverLaws.{never}
 use Rattle.grouping_chart.specs.declared.refusal.Reason.TheVariants.{ShortSlice}
+use Rattle.grouping_chart.specs.Refusal.{passed}
 use Rattle.grouping_chart.specs.Room.{any_short, short_refusal}
 
 -- no slice is too short for n objects, by how many places the work slices have
@@ -17,26 +19,22 @@ pub record Roomy (answers : Bool) (n work scratch : ℕ) : Type 0 where
   pub regions : 8 * n ≤ work
   pub floats : n ≤ scratch
 
-pub either_false : (a b : Bool) → (a || b) ≡ false → (a ≡ false) × (b ≡ false)
-either_false true b e = absurd (true≢false e)
-either_false false b e = (refl, e)
-
-not_refused : (b : Bool) → cond b (Some ShortSlice) None ≡ None → b ≡ false
+not_refused : (b : Bool) → cond b (Err ShortSlice) passed ≡ passed → b ≡ false
 not_refused true e = never (cc)
 not_refused false e = refl
 
-pub roomy : (answers : Bool) (n work scratch : ℕ) → short_refusal answers n work scratch ≡ None → Roomy answers n work scratch
+pub roomy : (answers : Bool) (n work scratch : ℕ) → short_refusal answers n work scratch ≡ passed → Roomy answers n work scratch
 unfolding short_refusal
 roomy answers n work scratch e =
-    let a = either_false _ _ (not_refused (answers || (ltb work (8 * n) || ltb scratch n)) e) in
-    let b = either_false _ _ a.1 in
+    let a = or_parts _ _ (not_refused (answers || (ltb work (8 * n) || ltb scratch n)) e) in
+    let b = or_parts _ _ a.1 in
     record { answered = a.0; regions = ltb-false _ _ b.0; floats = ltb-false _ _ b.1 }
 
 -- ---- the answer slices, one after another
 
 pub long_enough : (n l : ℕ) (ls : List ℕ) → any_short n (l ∷ ls) ≡ false → (n ≤ l) × (any_short n ls ≡ false)
 unfolding any_short
-long_enough n l ls e = let t = either_false _ _ e in (ltb-false l n t.0, t.1)
+long_enough n l ls e = let t = or_parts _ _ e in (ltb-false l n t.0, t.1)
 
 -- each of some slices has a place for each of n objects
 abbrev pub AllLong : ℕ → List ℕ → Type 0
@@ -68,19 +66,19 @@ none_asked n = refl
 -- ---- the cases
 
 module _ (answers : Bool) (n work scratch : ℕ) where
-  pub answers_short : answers ≡ true → Some ShortSlice ≡ short_refusal answers n work scratch
+  pub answers_short : answers ≡ true → Err ShortSlice ≡ short_refusal answers n work scratch
   unfolding short_refusal
   answers_short a = rw a
 
   -- by eighths, as the code tests it
-  pub regions_short : answers ≡ false → work / 8 < n → Some ShortSlice ≡ short_refusal answers n work scratch
+  pub regions_short : answers ≡ false → work / 8 < n → Err ShortSlice ≡ short_refusal answers n work scratch
   unfolding short_refusal
   regions_short a w = rw (a, lt-ltb work (8 * n) (omega arith))
 
-  pub floats_short : answers ≡ false → n ≤ work / 8 → scratch < n → Some ShortSlice ≡ short_refusal answers n work scratch
+  pub floats_short : answers ≡ false → n ≤ work / 8 → scratch < n → Err ShortSlice ≡ short_refusal answers n work scratch
   unfolding short_refusal
   floats_short a w s = rw (a, le-ltb work (8 * n) (omega arith), lt-ltb scratch n s)
 
-  pub none_short : answers ≡ false → n ≤ work / 8 → n ≤ scratch → None ≡ short_refusal answers n work scratch
+  pub none_short : answers ≡ false → n ≤ work / 8 → n ≤ scratch → passed ≡ short_refusal answers n work scratch
   unfolding short_refusal
   none_short a w s = rw (a, le-ltb work (8 * n) (omega arith), le-ltb scratch n s)

@@ -1,10 +1,9 @@
 -- What a call on a chart comes to: its answer, and the lent memory afterwards. A refusal leaves all memory as it was
 -- lent (demand 1; scope: "Refused by number").
-use Rattle.std.specs.Prelude.{ℕ, List, length, Float, Option, Result, Ok, Err}
+use Rattle.std.specs.Prelude.{ℕ, List, length, Float, Result, Ok, Err}
 use Rattle.grouping_chart.specs.Chart.{Chart, size}
-use Rattle.grouping_chart.specs.Refusal.{Verdict, accepted, refused_or, verdict}
+use Rattle.grouping_chart.specs.Refusal.{Check, Verdict, accepted, refused_or, verdict}
 use Rattle.grouping_chart.specs.Room.{refusal_beside}
-use Rattle.grouping_chart.specs.declared.refusal.Reason.{Reason}
 use Rattle.grouping_chart.specs.declared.refusal.Refusal.{Refusal}
 
 pub record Outcome (Answer Memory : Type 0) : Type 0 where
@@ -19,7 +18,7 @@ abbrev pub judged_by : Chart → List ℕ → List ℕ → List Float → Verdic
 judged_by c answers work scratch = verdict c (refusal_beside (size c) answers (length work) (length scratch))
 
 -- what a call refuses of what it is asked beside the chart comes after what is refused of the chart
-unfoldable pub refused_then : Verdict → Option Reason → Verdict
+unfoldable pub refused_then : Verdict → Check → Verdict
 refused_then (Ok done) asked = refused_or asked 0 accepted
 refused_then (Err first) asked = Err first
 

@@ -3,11 +3,11 @@
 -- that is too short: an answer slice has a place for each of the n objects, and the two work slices have 8 n and n
 -- places.
 use Rattle.std.specs.Prelude.{ℕ, ◌*◌, Bool, false, ◌||◌, cond, List, [], ◌∷◌, ltb, replicate, Float}
-use Rattle.std.specs.Prelude.{Option, Some, None}
+use Rattle.std.specs.Prelude.{Err}
 use Rattle.std.specs.Float.{binary64}
 use Rattle.std.specs.Float.Ieee.{of_bits}
 use Rattle.lent.specs.Over.{over}
-use Rattle.grouping_chart.specs.declared.refusal.Reason.{Reason}
+use Rattle.grouping_chart.specs.Refusal.{Check, passed}
 use Rattle.grouping_chart.specs.declared.refusal.Reason.TheVariants.{ShortSlice}
 
 -- whether one of some slices has too few places for n objects, by how many places each has
@@ -15,13 +15,13 @@ unfoldable pub any_short : ℕ → List ℕ → Bool
 any_short n [] = false
 any_short n (l ∷ ls) = ltb l n || any_short n ls
 
--- whether a slice is too short; `answers` says that an answer slice is, `work` and `scratch` are how many places the
+-- whether no slice is too short; `answers` says that an answer slice is, `work` and `scratch` are how many places the
 -- work slices have
-unfoldable pub short_refusal : Bool → ℕ → ℕ → ℕ → Option Reason
-short_refusal answers n work scratch = cond (answers || (ltb work (8 * n) || ltb scratch n)) (Some ShortSlice) None
+unfoldable pub short_refusal : Bool → ℕ → ℕ → ℕ → Check
+short_refusal answers n work scratch = cond (answers || (ltb work (8 * n) || ltb scratch n)) (Err ShortSlice) passed
 
--- what is refused beside the chart, by how many places each answer slice, the work and the scratch slice have
-abbrev pub refusal_beside : ℕ → List ℕ → ℕ → ℕ → Option Reason
+-- the test of what is beside the chart, by how many places each answer slice, the work and the scratch slice have
+abbrev pub refusal_beside : ℕ → List ℕ → ℕ → ℕ → Check
 refusal_beside n answers work scratch = short_refusal (any_short n answers) n work scratch
 
 -- the work slices after an accepted call on n objects: 0 and +0.0 in the places that it may use, old contents elsewhere

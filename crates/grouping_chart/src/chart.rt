@@ -1,5 +1,8 @@
 // A chart as a call is lent it.
 
+// The most objects that a chart may have.
+pub const MOST_OBJECTS: usize = 16384;
+
 // Four slices, with a place in each for each object.
 #[derive(Clone, Copy)]
 pub struct Chart<'a> {

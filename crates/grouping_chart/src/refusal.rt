@@ -1,12 +1,12 @@
 // Why a call refuses and where, and refusals 1 to 7: of the chart's size and lengths, and object by object.
-ghost use Rattle.std.specs.Prelude.{◌≡◌, length, Option, Result};
+ghost use Rattle.std.specs.Prelude.{◌≡◌, ℕ, ◌<◌, length};
 ghost use Rattle.grouping_chart.specs.Chart.{equally_long};
 ghost use Rattle.grouping_chart.specs.Lent.{seen};
-ghost use Rattle.grouping_chart.specs.passes.Good.{SameLengths};
-ghost use Rattle.grouping_chart.specs.Refusal.{reason_number, at_0, time_good, ratio_good, object_refusal};
+ghost use Rattle.grouping_chart.specs.passes.Good.{SameLengths, first_at};
+ghost use Rattle.grouping_chart.specs.Refusal.{Check, reason_number, at_0, time_good, ratio_good, object_refusal};
 ghost use Rattle.grouping_chart.specs.Refusal.{objects_verdict, verdict};
 
-use crate::chart::Chart;
+use crate::chart::{Chart, MOST_OBJECTS};
 use crate::good;
 use crate::object::ObjectIndex;
 use numeric::range;
@@ -78,38 +78,34 @@ fn ratio_good(ratio: f64) -> bool
     range::is_within(range::LEAST_RATIO, range::GREATEST_RATIO, ratio)
 }
 
-// Why an object is refused, if it is.
+// Whether an object is good; else why it is refused.
 #[tactic(auto, unfolding(crate::specs::Refusal::object_refusal))]
-pub fn object_refusal(kind: u8, start: f64, delta: f64, ratio: f64) -> Option<Reason>
+pub fn object_refusal(kind: u8, start: f64, delta: f64, ratio: f64) -> Result<(), Reason>
     ensures { result ≡ object_refusal kind start delta ratio }
 {
     if !good::kind_good(kind) {
-        return Some(Reason::UnknownKind);
+        return Err(Reason::UnknownKind);
     }
     if !time_good(start) {
-        return Some(Reason::BadStart);
+        return Err(Reason::BadStart);
     }
     if !time_good(delta) {
-        return Some(Reason::BadDelta);
+        return Err(Reason::BadDelta);
     }
     if !ratio_good(ratio) {
-        return Some(Reason::BadRatio);
+        return Err(Reason::BadRatio);
     }
-    None
+    Ok(())
 }
 
-// The first object that is refused.
-fn first_refused(chart: Chart) -> Result<(), Refusal>
-    requires { SameLengths (length chart.kind.now) chart.start.now chart.delta.now chart.ratio.now }
-    ensures { result ≡ objects_verdict (seen chart.entry) }
+// The first of n objects that does not pass its test.
+pub fn first_refused<F: Fn(usize) -> Result<(), Reason>>(n: usize, test: F) -> Result<(), Refusal>
+    requires callable { (i : ℕ) → i < n → F.pre test i }
+    ensures { (checks : ℕ → Check) → ((i : ℕ) (given : Check) → i < n → F.post test i given → given ≡ checks i)
+        → result ≡ first_at checks n }
 {
-    for i in 0..chart.kind.len() {
-        if let Some(reason) = object_refusal(
-            chart.kind[i],
-            chart.start[i],
-            chart.delta[i],
-            chart.ratio[i],
-        ) {
+    for i in 0..n {
+        if let Err(reason) = test(i) {
             return Err(Refusal {
                 reason,
                 place: ObjectIndex(i),
@@ -127,7 +123,14 @@ fn check_objects(chart: Chart) -> Result<(), Refusal>
     if good::all_good(chart) {
         return Ok(());
     }
-    first_refused(chart)
+    first_refused(chart.kind.len(), |i| {
+        object_refusal(
+            chart.kind[i],
+            chart.start[i],
+            chart.delta[i],
+            chart.ratio[i],
+        )
+    })
 }
 
 // Whether the four slices are of one length.
@@ -139,18 +142,16 @@ fn equally_long(chart: Chart) -> bool
     chart.start.len() == n && chart.delta.len() == n && chart.ratio.len() == n
 }
 
-// Refusals 1 to 7 of a call on a chart; `beside` is what is refused straight after 2, if anything is.
-pub fn check(chart: Chart, beside: Option<Reason>) -> Result<(), Refusal>
+// Refusals 1 to 7 of a call on a chart; `beside` is the test of what is beside it, whose refusal comes straight after 2.
+pub fn check(chart: Chart, beside: Result<(), Reason>) -> Result<(), Refusal>
     ensures { result ≡ verdict (seen chart.entry) beside }
 {
-    if 16384 < chart.kind.len() {
+    if MOST_OBJECTS < chart.kind.len() {
         return Err(Refusal::from(Reason::TooManyObjects));
     }
     if !equally_long(chart) {
         return Err(Refusal::from(Reason::UnequalLengths));
     }
-    if let Some(reason) = beside {
-        return Err(Refusal::from(reason));
-    }
+    beside?;
     check_objects(chart)
 }

@@ -8,21 +8,21 @@ use crate::chart::Chart;
 use crate::refusal;
 use crate::refusal::{Reason, Refusal};
 
-// ShortSlice where a slice is too short for n objects; `answers` says that an answer slice is.
-fn short_refusal(answers: bool, n: usize, work: usize, scratch: usize) -> Option<Reason>
+// Whether no slice is too short for n objects; `answers` says that an answer slice is.
+fn short_refusal(answers: bool, n: usize, work: usize, scratch: usize) -> Result<(), Reason>
     ensures { result ≡ short_refusal answers n work scratch }
 {
     if answers {
-        return Some(Reason::ShortSlice);
+        return Err(Reason::ShortSlice);
     }
     // work < 8 * n, without a product that could wrap
     if work / 8 < n {
-        return Some(Reason::ShortSlice);
+        return Err(Reason::ShortSlice);
     }
     if scratch < n {
-        return Some(Reason::ShortSlice);
+        return Err(Reason::ShortSlice);
     }
-    None
+    Ok(())
 }
 
 // Refusals 1 to 7 of a call; `short` says that an answer slice has too few places for the objects, `work` and

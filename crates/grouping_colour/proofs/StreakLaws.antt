@@ -1,8 +1,9 @@
 -- Streaks by a walk that carries how many notes were passed and the kind of the last: which objects open a streak is what this walk emits.
+-- The pass needs less: the kind of the last note, if there is one.
 use mathlib.Core.Path.{◌≡◌, refl, sym, ap, ◌∙◌}
 use mathlib.Core.Bool.{Bool, true, false, cond}
 use mathlib.Core.List.{List, [], ◌∷◌}
-use Prim.Native.Nat.{ℕ, ◌+◌, ◌≤◌, ◌<◌}
+use Prim.Native.Nat.{ℕ, ◌+◌, ◌<◌}
 use native.Mathlib.Omega.{arith}
 use lib.Dec.{eqb}
 use lib.ListN.{length, take, get_or}
@@ -13,9 +14,12 @@ use Rattle.lent.proofs.ScanLaws.{length-scan}
 use Rattle.lent.proofs.WalkLaws.{after_none, after_first, get_or-scan}
 use Rattle.lent.proofs.FillLaws.{length-tabulate, get_or-tabulate}
 use Rattle.grouping_chart.specs.Object.{is_note, Previous, none, kind}
-use Rattle.grouping_chart.proofs.ObjectLaws.{Seen, seen₀, seen_next, seen_after, previous_seen, seen_next_notes, seen_next_last, previous_note_seen}
+use Rattle.grouping_chart.proofs.ObjectLaws.{Seen, seen₀, seen_next, seen_after, previous_seen, previous_note_seen}
 use Rattle.grouping_chart.proofs.SeenLaws.{seen_after_none, seen_after_first, previous_seen_by}
+use Rattle.std.specs.Prelude.{Option, Some, None}
+use borrow.Author.Tests.{ne_eqb}
 use Rattle.grouping_colour.specs.MonoStreak.{continues, opens_streak, streak_marks}
+use Rattle.grouping_colour.specs.passes.Streaks.{opens_after, last_after}
 
 -- 1 where an object of kind k opens a streak, by what was seen before it
 unfoldable pub opens_seen : Seen → ℕ → ℕ
@@ -43,37 +47,48 @@ streak_marks_scan kinds =
     let r : i < length kinds = omega arith in
     get_or-tabulate (opens_streak kinds) (length kinds) i 0 r ∙ opens_seen_lem kinds i ∙ sym (get_or_seen seen₀ kinds i r))
 
--- the marks that the walk stored
-pub marks_stored : (kinds w₀ w : List ℕ) → w ≡ over (scan seen_next opens_seen seen₀ kinds) w₀ → w ≡ over (streak_marks kinds) w₀
-marks_stored kinds w₀ w e = rw (streak_marks_scan kinds) e
+-- ---- the pass, which keeps of what was seen only the kind of the last note
 
--- ---- a step of the walk, as the code takes it: by the note's number, the last note's kind, and the two as they are after the object
+-- what was seen, and the kind that the pass has of it
+record Kept (s : Seen) (last : Option ℕ) : Type 0 where
+  last_is : last ≡ cond (eqb s.notes 0) None (Some s.last)
+  note : eqb s.notes 0 ≡ false → is_note s.last ≡ true
 
-pub seen_opens : (next last k note v : ℕ) → note ≡ cond (is_note k) next 0 → v ≡ cond (eqb note 0) 1 (cond (eqb last k) 0 1)
-    → v ≡ opens_seen (record { notes = next; last = last }) k
-unfolding opens_seen continues
-seen_opens next last k note v n e =
-    e ∙ ap (λ (j : ℕ). cond (eqb j 0) 1 (cond (eqb last k) 0 1)) n ∙ by (is_note k) (eqb next 0) refl
-    ∙ ap (λ (p : Previous). cond (continues p k) 0 1) (sym (previous_seen_by (record { notes = next; last = last }) k))
+opens-kept : (s : Seen) (last : Option ℕ) (k : ℕ) → Kept s last → opens_after last k ≡ opens_seen s k
+unfolding opens_seen opens_after continues
+opens-kept s last k x =
+    ap (λ l. opens_after l k) x.last_is ∙ by (eqb s.notes 0) (is_note k) x.note refl
+    ∙ ap (λ (p : Previous). cond (continues p k) 0 1) (sym (previous_seen_by s k))
   where
-    by : (a b : Bool) → eqb next 0 ≡ b
-        → ◌≡◌ {A = ℕ} (cond (eqb (cond a next 0) 0) 1 (cond (eqb last k) 0 1)) (cond (continues (cond a (cond b none (kind last)) none) k) 0 1)
-    by false b q = refl
-    by true true q = rw q
-    by true false q = rw q
+    by : (none_yet note : Bool) → (none_yet ≡ false → is_note s.last ≡ true) → is_note k ≡ note
+        → opens_after (cond none_yet None (Some s.last)) k ≡ cond (continues (cond note (cond none_yet none (kind s.last)) none) k) 0 1
+    by true true n e = refl
+    by true false n e = refl
+    by false true n e = refl
+    by false false n e = rw (ne_eqb s.last k (λ q. grind (arith, n refl, e, q))) refl
 
-pub seen_moves : (next last k next' last' : ℕ) → next' ≡ cond (is_note k) (next + 1) next → last' ≡ cond (is_note k) k last
-    → ◌≡◌ {A = Seen} (record { notes = next'; last = last' }) (seen_next (record { notes = next; last = last }) k)
-seen_moves next last k next' last' n l =
-    let s : Seen = record { notes = next; last = last } in
-    let n' : next' ≡ (seen_next s k).notes = n ∙ sym (seen_next_notes s k) in
-    let l' : last' ≡ (seen_next s k).last = l ∙ sym (seen_next_last s k) in
-    λ i. record { notes = n' i; last = l' i }
-
--- the walk never counts more notes than objects
-pub seen_few : (next k next' i : ℕ) → next' ≡ cond (is_note k) (next + 1) next → next ≤ i → next' ≤ i + 1
-seen_few next k next' i e h = rw e (by (is_note k))
+kept_next : (s : Seen) (last : Option ℕ) (k : ℕ) → Kept s last → Kept (seen_next s k) (last_after last k)
+unfolding seen_next last_after
+kept_next s last k x = by (is_note k) refl
   where
-    by : (b : Bool) → cond b (next + 1) next ≤ i + 1
-    by true = omega arith
-    by false = omega arith
+    by : (b : Bool) → is_note k ≡ b → Kept (cond b (record { notes = s.notes + 1; last = k }) s) (cond b (Some k) last)
+    by true e =
+        let some : eqb (s.notes + 1) 0 ≡ false = ne_eqb (s.notes + 1) 0 (λ q. omega arith) in
+        record { last_is = rw some refl; note = λ _. e }
+    by false e = x
+
+same_marks : (s : Seen) (last : Option ℕ) (ks : List ℕ) → Kept s last → scan last_after opens_after last ks ≡ scan seen_next opens_seen s ks
+unfolding scan
+same_marks s last [] x = refl
+same_marks s last (k ∷ ks) x =
+    let here = opens-kept s last k x in
+    let rest = same_marks (seen_next s k) (last_after last k) ks (kept_next s last k x) in
+    λ i. here i ∷ rest i
+
+-- the marks are what the pass emits
+pub streak_marks_passed : (kinds : List ℕ) → streak_marks kinds ≡ scan last_after opens_after None kinds
+streak_marks_passed kinds = streak_marks_scan kinds ∙ sym (same_marks seen₀ None kinds (record { last_is = refl; note = λ e. grind (arith, e) }))
+
+-- the marks that the pass stored
+pub marks_stored : (kinds w₀ w : List ℕ) → w ≡ over (scan last_after opens_after None kinds) w₀ → w ≡ over (streak_marks kinds) w₀
+marks_stored kinds w₀ w e = rw (streak_marks_passed kinds) e

@@ -1,4 +1,5 @@
-// Alternating patterns: which streaks open one, and which patterns are coupled.
+// Alternating patterns: which streaks open one, and which patterns are coupled. A mark or a flag is a number, as in
+// grouping_marks: its group's number comes into its place.
 ghost use Rattle.std.specs.Prelude.{◌≡◌, ◌≤◌, ◌<◌, length};
 ghost use Rattle.lent.specs.Over.{over};
 ghost use Rattle.grouping_colour.specs.AlternatingMonoPattern.{opens_pattern, pattern_marks, coupled_at, coupled};

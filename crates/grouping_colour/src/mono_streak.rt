@@ -1,40 +1,36 @@
 // Streaks: which objects open one.
-ghost use Rattle.std.specs.Prelude.{◌≡◌, cond, ◌≤◌, eqb, length};
+ghost use Rattle.std.specs.Prelude.{◌≡◌, ◌≤◌, length};
 ghost use Rattle.lent.specs.Over.{over};
-ghost use Rattle.grouping_chart.specs.Object.{is_note};
 ghost use Rattle.grouping_colour.specs.MonoStreak.{streak_marks};
+ghost use Rattle.grouping_colour.specs.passes.Streaks.{opens_after, last_after};
 
-use grouping_chart::object;
-use grouping_chart::object::NoteIndex;
+use grouping_chart::object::is_note;
 
-// 0 where an object of kind k with this note number continues the open streak: the note before exists and has kind k.
-fn opens_streak(note: NoteIndex, last: u8, k: u8) -> u16
-    ensures { result ≡ cond (eqb note.0 0) 1 (cond (eqb last k) 0 1) }
+// 0 where an object of kind k continues the open streak: the last note has this kind, which a NonHit never has.
+#[tactic(auto, unfolding(crate::specs::passes::Streaks::opens_after))]
+fn opens_streak(last: Option<u8>, k: u8) -> u16
+    ensures { result ≡ opens_after last k }
 {
-    if note.0 == 0 {
-        return 1;
-    }
-    if last == k { 0 } else { 1 }
+    u16::from(last != Some(k))
 }
 
 // The kind of the last note, after an object of kind k.
-fn last_after(last: u8, k: u8) -> u8
-    ensures { result ≡ cond (is_note k) k last }
+#[tactic(auto, unfolding(crate::specs::passes::Streaks::last_after))]
+fn last_after(last: Option<u8>, k: u8) -> Option<u8>
+    ensures { result ≡ last_after last k }
 {
-    if object::is_note(k) { k } else { last }
+    if is_note(k) { Some(k) } else { last }
 }
 
-// Marks the objects that open a streak.
+// Marks the objects that open a streak. The marks are written by index, as no proof knows writes through a zip with
+// `iter_mut`; and each turn chooses without a jump by the kind.
 pub fn mark_streaks(kind: &[u8], marks: &mut [u16])
     requires { length kind.now ≤ length marks.old }
     ensures { marks.new ≡ over (streak_marks kind.now) marks.old }
 {
-    let mut next = NoteIndex(0);
-    let mut last: u8 = 0;
+    let mut last: Option<u8> = None;
     for (i, &k) in kind.iter().enumerate() {
-        let note = object::note_index(k, next);
-        marks[i] = opens_streak(note, last, k);
-        next = object::note_after(k, next);
+        marks[i] = opens_streak(last, k);
         last = last_after(last, k);
     }
 }

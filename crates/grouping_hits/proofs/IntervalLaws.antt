@@ -13,7 +13,7 @@ use lib.ListN.{length, drop, get_or, set, replicate, length-replicate, get_or-re
 use lib.Seq.{ext_get_or}
 use Rattle.lent.specs.Over.{over}
 use Rattle.lent.specs.Scan.{tabulate}
-use Rattle.lent.proofs.OverLaws.{length-over, drop-over, over-agree}
+use Rattle.lent.proofs.OverLaws.{drop-over, over-agree}
 use Rattle.lent.proofs.PieceLaws.{get_or-over}
 use Rattle.lent.proofs.FillLaws.{Fill, fill_from, fill_turn_front, fill_end_front, fill_unread, length-tabulate, get_or-tabulate, tabulate-agree}
 use Rattle.grouping_marks.specs.Alike.{alike_at}
@@ -152,9 +152,6 @@ module _ (limit : ℕ) (s f t w₀ : List ℕ) where
   module _ {w : List ℕ} {k : ℕ} (x : Searched w k) where
     long-nearest : length (nearest limit s f t (length s) k) ≡ length s
     long-nearest = nearest_long limit s f t (length s) k
-
-    pub search_long : length s ≤ length w
-    search_long = omega (arith, ap length x.stored, length-over (nearest limit s f t (length s) k) w₀ (omega (arith, long-nearest, x.room)), x.room)
 
     pub search_turn : {w' : List ℕ} {j : ℕ} → j + 1 ≡ k → 1 ≤ j → w' ≡ over (matches_taken j s f t w) w → Searched w' j
     search_turn {w'} {j} n h e =

@@ -1,4 +1,5 @@
-// Hit patterns: which patterns open one, and each hit pattern's repetition interval.
+// Hit patterns: which patterns open one, and each hit pattern's repetition interval. A mark or a flag is a number, as
+// in grouping_marks: its group's number comes into its place.
 #![tactic(auto)]
 
 ghost use Rattle.std.specs.Prelude.{◌≡◌, cond, ◌≤◌, ◌<◌, eqb, length};
@@ -46,7 +47,8 @@ fn opens_hit(stage: Stage, coupled: u16) -> u16
     }
 }
 
-// Puts in place of each pattern's coupled flag the mark whether it opens a hit pattern.
+// Puts in place of each pattern's coupled flag the mark whether it opens a hit pattern. A loop, as in grouping_marks:
+// one `scan` for all passes would take two closures, which is no plainer.
 pub fn mark_hits(flags: &mut [u16])
     ensures { flags.new ≡ hit_marks flags.old }
 {
@@ -88,13 +90,16 @@ pub fn second_lengths(lengths: &[u16], marks: &[u16], seconds: &mut [u16])
     fill::by_place(lengths.len(), seconds, |i| second_at(lengths, marks, i));
 }
 
+// k where it is found. A select under a name, so that the loop stores in each turn: a jump by what is found would often
+// be guessed wrong, as one by a mark is.
 fn nearer(found: bool, k: u16, other: u16) -> u16
     ensures { result ≡ cond found k other }
 {
     if found { k } else { other }
 }
 
-// Gives k to each hit pattern that matches the one k before it. The others keep what they have.
+// Gives k to each hit pattern that matches the one k before it. The others keep what they have. By index: each turn
+// reads two places of three columns and writes a fourth, which is no plainer by iterators.
 fn take_matches(patterns: &Features, k: u16, taken: &mut [u16])
     requires { length patterns.now.first.now ≤ length taken.old }
     ensures { taken.new

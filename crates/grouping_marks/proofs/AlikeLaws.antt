@@ -7,15 +7,15 @@ use lib.Dec.{eqb}
 use lib.ListN.{length, get_or}
 use lib.Seq.{get_or-append-add}
 use Rattle.lent.specs.Over.{part}
-use Rattle.lent.proofs.StoreLaws.{read_at}
+use Rattle.lent.proofs.OverLaws.{get_or-part}
 use Rattle.grouping_marks.specs.Alike.{alike_at}
 
 module _ (w : List ℕ) (x y z m a b : ℕ) (in-a : a < m) (in_b : b < m) where
   read_a : (r : ℕ) → get_or (part r m w) a 0 ≡ get_or w (r + a) 0
-  read_a r = read_at r m w a (r + a) in-a refl
+  read_a r = get_or-part r m w a 0 in-a
 
   read_b : (r : ℕ) → get_or (part r m w) b 0 ≡ get_or w (r + b) 0
-  read_b r = read_at r m w b (r + b) in_b refl
+  read_b r = get_or-part r m w b 0 in_b
 
   abbrev same : ℕ → Bool
   same r = eqb (get_or w (r + a) 0) (get_or w (r + b) 0)

@@ -12,7 +12,8 @@ use borrow.Author.Tests.{eq-eqb, ne_eqb, eqb-true, eqb-false}
 use Rattle.lent.specs.Scan.{end_state, gathered}
 use Rattle.lent.specs.passes.Bounds.{AllBelow}
 use Rattle.grouping_marks.specs.Marks.{opened, group_count, group_numbers}
-use Rattle.lent.proofs.FillLaws.{get_or-map, length-gathered, get_or-gathered}
+use Rattle.std.proofs.lemmas.List.{get_or-map}
+use Rattle.lent.proofs.FillLaws.{length-gathered, get_or-gathered}
 use Rattle.grouping_marks.proofs.MarksLaws.{opened_bounds, opened_first, length-numbers, numbers-below}
 use Rattle.grouping_marks.proofs.CutLaws.{Opening, nothing_left, opens, opened_new, opened_same, numbers-cut}
 use Rattle.lent.proofs.WalkLaws.{after_none, after_first}

@@ -1,16 +1,17 @@
--- The sets of the normaliser, by how long the one in front is: `sets_front`. With it the walk from set to set, and the loop that looks for a set's end.
+-- The sets of the normaliser, by how long the one in front is: `sets_front`. With it the walk from set to set, and how long a set is by a count.
 use mathlib.Core.Path.{◌≡◌, refl, ap, ◌∙◌}
 use mathlib.Core.Bool.{Bool, true, false, cond, ◌||◌}
 use mathlib.Core.List.{List, [], ◌∷◌, ◌++◌, append-nil}
 use Prim.Native.Nat.{ℕ, suc, ◌+◌, ◌-◌, ◌/◌, ◌%◌, ◌≤◌, ◌<◌}
-use native.Mathlib.Numerals.{add-one}
 use native.Mathlib.Omega.{arith}
 use lib.IntN.{pos}
 use lib.ListN.{length, take, drop, get_or, length-drop}
-use lib.Seq.{drop-cons, append_snoc}
+use lib.Seq.{append_snoc}
 use lib.Ieee.{Float, nan, fin, binary64, add, div}
 use borrow.Author.Tests.{eq-eqb, ne_eqb}
-use Rattle.std.specs.List.{list_any}
+use Rattle.std.specs.List.{list_any, prefix_len}
+use Rattle.std.proofs.lemmas.List.{take_all}
+use Rattle.std.proofs.lemmas.List.Folds.{length-prefix_len}
 use Rattle.numeric.specs.Near.{is_near}
 use Rattle.grouping_normalizer.specs.Normalizer.{alike, holds, middle, middle_of, sets_after, sets}
 use Rattle.grouping_normalizer.specs.passes.Sets.{running, set_len, SetLen}
@@ -38,49 +39,30 @@ running-few margin first (v ∷ values) = by (is_near margin v first) (running-f
     by true h = omega arith
     by false h = omega arith
 
-module _ (margin first : Float) (values : List Float) (i : ℕ) (h : i < length values) where
-  running-near : is_near margin (get_or values i nan) first ≡ true → running margin first (drop i values) ≡ suc (running margin first (drop (i + 1) values))
-  unfolding running
-  running-near e = rw (drop-cons values i nan h, e, add-one)
+running-prefix : (margin first : Float) (values : List Float) → prefix_len (λ v. is_near margin v first) values ≡ running margin first values
+unfolding running
+running-prefix margin first [] = refl
+running-prefix margin first (v ∷ values) = by (is_near margin v first) (running-prefix margin first values)
+  where
+    by : (t : Bool) → prefix_len (λ v. is_near margin v first) values ≡ running margin first values
+        → cond t (1 + prefix_len (λ v. is_near margin v first) values) 0 ≡ cond t (suc (running margin first values)) 0
+    by true e = omega arith
+    by false e = refl
 
-  running_far : is_near margin (get_or values i nan) first ≡ false → running margin first (drop i values) ≡ 0
-  unfolding running
-  running_far e = rw (drop-cons values i nan h, e)
-
--- the loop of `set_len`: the set took the first k values, and more as those from k on say
-pub record Running (margin : Float) (values : List Float) (k : ℕ) : Type 0 where
-  pub some : 0 < k
-  pub upto : k ≤ length values
-  pub same : k + running margin (get_or values 0 nan) (drop k values) ≡ set_len margin values
-
-pub running-start : (margin : Float) (values : List Float) → 0 < length values → Running margin values 1
+-- the values behind the first that are near it without a break, counted, and the first one
+pub set_counted : (margin : Float) (values others : List Float) (r : ℕ) → 0 < length values → others ≡ take (length values - 1) (drop 1 values)
+    → r ≡ length (take (prefix_len (λ v. is_near margin v (get_or values 0 nan)) others) others) → SetLen margin values (1 + r)
 unfolding set_len
-running-start margin values h = record { some = omega arith; upto = h; same = omega arith }
-
-module _ {margin : Float} {values : List Float} {k : ℕ} (x : Running margin values k) where
-  pub running_turn : k < length values → is_near margin (get_or values k nan) (get_or values 0 nan) ≡ true → Running margin values (k + 1)
-  running_turn h e = record {
-    some = omega arith;
-    upto = omega arith;
-    same = omega (arith, running-near margin (get_or values 0 nan) values k h e, x.same);
-  }
-
-  pub running_stop : k < length values → is_near margin (get_or values k nan) (get_or values 0 nan) ≡ false → SetLen margin values k
-  running_stop h e = record {
-    number = omega (arith, running_far margin (get_or values 0 nan) values k h e, x.same);
-    some = x.some;
-    upto = x.upto;
-  }
-
-  pub running-end : length values ≤ k → SetLen margin values (length values)
-  running-end h =
-      let e : k ≡ length values = omega (arith, x.upto) in
-      rw (← e)
-      record {
-        number = omega (arith, running-few margin (get_or values 0 nan) (drop k values), length-drop k values, x.same);
-        some = x.some;
-        upto = x.upto;
-      }
+set_counted margin values others r h o e =
+    let first = get_or values 0 nan in
+    let all : others ≡ drop 1 values = o ∙ take_all (length values - 1) (drop 1 values) (omega (arith, length-drop 1 values)) in
+    let count : r ≡ running margin first (drop 1 values) =
+    e ∙ length-prefix_len (λ v. is_near margin v first) others ∙ running-prefix margin first others ∙ ap (running margin first) all in
+    record {
+      number = omega (arith, count);
+      some = omega arith;
+      upto = omega (arith, count, running-few margin first (drop 1 values), length-drop 1 values);
+    }
 
 -- ---- what is held
 

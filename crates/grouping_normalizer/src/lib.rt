@@ -10,14 +10,15 @@ ghost use Rattle.grouping_normalizer.specs.passes.Sets.{SetLen};
 use numeric::near::near;
 use numeric::order::total_order;
 
-// Equal in all bits, for values that are no NaN.
+// Equal in all bits, for values that are no NaN. `to_bits` asks that there is none: here is no such clause.
 fn is_alike(a: f64, b: f64) -> bool
     ensures { result ≡ alike a b }
 {
     total_order(a, b) && total_order(b, a)
 }
 
-// Puts the distinct values, in total order, in front. The result is how many there are.
+// Puts the distinct values, in total order, in front. The result is how many there are. By index, as each turn reads
+// and writes the slice at two places; the library's `dedup` is of a Vec, and there is no heap.
 fn distinct_values(values: &mut [f64]) -> usize
     requires { AllFinite values.old }
     ensures { Distinct values.old values.new result }
@@ -41,12 +42,11 @@ fn set_len(values: &[f64], margin: f64) -> usize
     requires { 0 < length values.now }
     ensures { SetLen margin values.now result }
 {
-    for k in 1..values.len() {
-        if !near(values[k], values[0], margin) {
-            return k;
-        }
-    }
-    values.len()
+    let first = values[0];
+    1 + values[1..]
+        .iter()
+        .take_while(|v| near(**v, first, margin))
+        .count()
 }
 
 fn is_held(values: &[f64], x: f64) -> bool

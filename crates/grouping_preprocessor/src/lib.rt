@@ -34,7 +34,8 @@ fn widen(kind: &[u8], wide: &mut [u16])
     fill::by_place(kind.len(), wide, |i| u16::from(kind[i]));
 }
 
-// Streaks: each object's number, their types and lengths; the result is their count.
+// Streaks: each object's number, their types and lengths; the result is their count. The regions travel one by one,
+// here and below, and that the items are few is a clause each time: a struct or a type of them would hold `&mut`s.
 fn find_streaks(
     kind: &[u8],
     marks: &mut [u16],
@@ -59,7 +60,8 @@ fn find_streaks(
     group_sizes(marks, lengths)
 }
 
-// Puts what stands at each group's first item over the front of the items, by way of a spare slice.
+// Puts what stands at each group's first item over the front of the items, by way of a spare slice. The groups' count
+// comes beside the marks: counted here it would be counted twice.
 fn keep_firsts(marks: &[u16], groups: usize, items: &mut [u16], spare: &mut [u16])
     requires groups { groups ≡ group_count marks.now }
     requires regions { AsLong (length marks.now) (items.old ∷ spare.old ∷ []) }

@@ -8,7 +8,7 @@ use native.Mathlib.Omega.{arith}
 use lib.ListN.{length, get_or, length-map}
 use lib.Ieee.{Float, nan, inf}
 use Rattle.grouping_marks.specs.Parted.{parted}
-use Rattle.lent.proofs.FillLaws.{get_or-map}
+use Rattle.std.proofs.lemmas.List.{get_or-map}
 use Rattle.grouping_marks.proofs.PartedLaws.{parted_all, parted-some}
 use Rattle.grouping_same_rhythm.specs.SameRhythm.{firsts_of, starts_of, between, intervals_after, intervals_of}
 

@@ -1,18 +1,17 @@
--- The own interval case by case: of few notes and of more, snapped, and set against another. Each case is what a match or a test hands over.
+-- The own interval case by case: of few notes and of more, and snapped. Each case is what a match or a test hands over.
 use mathlib.Core.Path.{◌≡◌, refl, ap, ◌∙◌}
 use mathlib.Core.Bool.{Bool, cond}
 use mathlib.Core.List.{List, [], ◌∷◌}
 use Prim.Native.Nat.{◌≤◌, ◌<◌}
 use native.Mathlib.Omega.{arith}
 use lib.ListN.{length, get_or}
-use lib.Ieee.{Float, nan, binary64, div}
-use Rattle.numeric.specs.Constants.{one64}
+use lib.Ieee.{Float, nan}
 use Rattle.numeric.specs.Near.{is_near}
 use Rattle.numeric.specs.RoundTiesEven.{round_ties_even}
 use Rattle.grouping_normalizer.specs.Normalizer.{normal_of, NormalOf}
 use Rattle.grouping_normalizer.proofs.DistinctLaws.{few_left}
 use Rattle.std.specs.Prelude.{Option, None, Some}
-use Rattle.grouping_same_rhythm.specs.Own.{modal_delta, snapped, ratio_of}
+use Rattle.grouping_same_rhythm.specs.Own.{modal_delta, snapped}
 use Rattle.grouping_same_rhythm.specs.passes.Owns.{Modal}
 
 -- ---- found
@@ -51,18 +50,3 @@ module _ (margin : Float) (own previous : Option Float) where
       → cond b (Some y) (Some x) ≡ snapped margin own previous
   unfolding snapped
   snap_both x y b p q e = rw (p, q, e)
-
--- ---- set against another
-
-module _ (own previous : Option Float) where
-  pub ratio_absent : own ≡ None → one64 ≡ ratio_of own previous
-  unfolding ratio_of
-  ratio_absent p = rw p
-
-  pub ratio_first : (x : Float) → own ≡ Some x → previous ≡ None → one64 ≡ ratio_of own previous
-  unfolding ratio_of
-  ratio_first x p q = rw (p, q)
-
-  pub ratio-both : (x y : Float) → own ≡ Some x → previous ≡ Some y → div binary64 x y ≡ ratio_of own previous
-  unfolding ratio_of
-  ratio-both x y p q = rw (p, q)

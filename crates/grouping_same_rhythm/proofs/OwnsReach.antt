@@ -3,10 +3,11 @@ use mathlib.Core.Path.{◌≡◌, refl, sym, ap, ◌∙◌}
 use mathlib.Core.List.{List, ◌∷◌, ◌++◌, append_assoc}
 use Prim.Native.Nat.{ℕ, suc, ◌+◌, ◌-◌, ◌≤◌, ◌<◌}
 use native.Mathlib.Omega.{arith}
-use lib.ListN.{length, take, drop, length-append, take-append-drop}
-use lib.Seq.{length-take-le, take_at, drop-drop}
+use lib.ListN.{length, take, drop, take-append-drop}
+use lib.Seq.{drop-drop}
 use lib.Ieee.{Float, nan}
 use borrow.Rule.Slice.PartMut.{put_mid, same_len_mid, mid_len, drop_put}
+use Rattle.std.proofs.lemmas.Slice.{take-put_mid}
 use Rattle.lent.specs.Over.{put, part}
 use Rattle.grouping_marks.specs.Parted.{parted}
 use Rattle.lent.proofs.OverLaws.{length-part, get_or-part}
@@ -73,12 +74,6 @@ drop-later a b xs ys h e =
     let s : a + (b - a) ≡ b = omega arith in
     cc (drop-drop (b - a) a xs, drop-drop (b - a) a ys)
 
--- what stands before the end of a part that was put back
-take_mid : (a b : ℕ) (xs ys : List Float) → a ≤ b → b ≤ length xs → length ys ≡ b - a → take b (put_mid a (b - a) xs ys) ≡ take a xs ++ ys
-take_mid a b xs ys h w l =
-    ap (take b) (sym (append_assoc (take a xs) ys (drop (b - a) (drop a xs))))
-    ∙ take_at (take a xs ++ ys) (drop (b - a) (drop a xs)) b (omega (arith, length-append (take a xs) ys, length-take-le a xs (omega arith)))
-
 module _ {margin : Float} {deltas₀ deltas : List Float} {g : ℕ} {recent : Recent} {at end k : ℕ} (x : Reaching margin deltas₀ deltas g recent at end k) where
   -- the deltas are those of the groups, of which k are in order
   settled : settled_up_to k (parted (interval_marks margin deltas₀) deltas₀) ≡ deltas
@@ -126,7 +121,7 @@ module _ {margin : Float} {deltas₀ deltas : List Float} {g : ℕ} {recent : Re
         known = known_turn (rw u at x.known) own (m.own ∙ ap (modal_delta margin) o.notes) newest r;
         left = λ j.
             let n : suc k + j ≡ k + suc j = omega arith in
-            rw n (x.left (suc j) ∙ rw (u, f, take_mid end new deltas group (omega (arith, o.on)) o.upto size, append_assoc));
+            rw n (x.left (suc j) ∙ rw (u, f, take-put_mid end (new - end) deltas group new (omega (arith, o.on, size)) (omega (arith, o.on, o.upto)), append_assoc));
         alone = λ j e.
             let n : j ≡ k = omega arith in
             rw (n, f, settled) (put_pieces end (new - end) group deltas size);

@@ -23,6 +23,7 @@ pub fn modal_delta(deltas: &mut [f64], margin: f64) -> Option<f64>
 }
 
 // The previous group's own interval, where it is near.
+#[tactic(auto, unfolding(crate::specs::Own::snapped))]
 pub fn snap(own: Option<f64>, previous: Option<f64>, margin: f64) -> Option<f64>
     ensures { result ≡ snapped margin own previous }
 {
@@ -33,6 +34,7 @@ pub fn snap(own: Option<f64>, previous: Option<f64>, margin: f64) -> Option<f64>
 }
 
 // Two zeros give a NaN, as in the source.
+#[tactic(auto, unfolding(crate::specs::Own::ratio_of))]
 pub fn ratio(own: Option<f64>, previous: Option<f64>) -> f64
     ensures { result ≡ ratio_of own previous }
 {

@@ -12,6 +12,7 @@ pub struct Pattern {
 }
 
 // The interval of the pattern of these groups: that of the second, where there is one.
+#[tactic(auto, unfolding(crate::specs::SamePatterns::pattern_interval))]
 fn pattern_interval(intervals: &[f64]) -> f64
     requires { 0 < length intervals.now }
     ensures { result ≡ pattern_interval intervals.now }

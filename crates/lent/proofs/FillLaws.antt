@@ -1,17 +1,18 @@
 -- A loop that stores a goal list g of n elements from place `to` on, one element a turn: its invariant, with the laws of the start, of a turn and of the end.
-use mathlib.Core.Path.{◌≡◌, refl, sym, ap, ◌∙◌}
-use mathlib.Core.Logic.{◌⊎◌, inl, inr, ⊎_elim}
+use mathlib.Core.Path.{◌≡◌, refl, sym, ap, ◌∙◌, subst}
+use mathlib.Core.Logic.{◌⊎◌, ⊎_elim}
 use mathlib.Core.List.{List, [], ◌∷◌, ◌++◌, map}
 use Prim.Native.Nat.{ℕ, zero, suc, ◌+◌, ◌≤◌, ◌<◌}
 use native.Mathlib.Nat.{le_of_suc-le-suc, not-suc-le-zero, eq-or-lt_of_le, zero-add}
 use native.Mathlib.Numerals.{add-one}
-use Rattle.std.proofs.lemmas.List.{map-id}
+use Rattle.std.proofs.lemmas.List.{map-id, get_or-map}
 use native.Mathlib.Omega.{arith}
-use lib.ListN.{length, take, drop, get_or, length-drop, set, length-set, length-append, get_or-append, length-map}
+use lib.ListN.{length, take, drop, replicate, get_or, length-drop, set, length-set, length-append, get_or-append, length-map}
 use lib.Seq.{get_or_at, drop-cons, ext_get_or}
-use Rattle.lent.specs.Over.{over, put, part}
+use Rattle.std.specs.List.{FoldsTo}
+use Rattle.lent.specs.Over.{over, put}
 use Rattle.lent.specs.Scan.{tabulate, gathered}
-use Rattle.lent.proofs.OverLaws.{put_front, put_nothing, put-kept, put_all, store, unread, get_or-part}
+use Rattle.lent.proofs.OverLaws.{put_front, put_nothing, put-kept, put_all, store, unread}
 
 -- i elements are stored in what was w₀ and is now w
 pub record Fill {A : Type 0} (g : List A) (n to : ℕ) (w₀ w : List A) (i : ℕ) : Type 0 where
@@ -62,12 +63,6 @@ module _ {A : Type 0} where
       → get_or w j d ≡ get_or w₀ j d
   fill_unread {g} {n} {to} {w₀} {w} {i} j d x h = rw x.written (unread to g w₀ i j d (omega arith) (omega arith) h)
 
-  -- a loop that has stored j elements and reads element i of m places of the same slice, as `Room` allows
-  pub fill_read : {g : List A} {n to : ℕ} {w₀ w : List A} {j : ℕ} (from m i : ℕ) (d : A) → Fill g n to w₀ w j → (from + m ≤ to) ⊎ (to ≤ from) → j ≤ i → i < m
-      → get_or w (from + i) d ≡ get_or (part from m w₀) i d
-  fill_read {w₀} from m i d x c b h =
-      fill_unread (from + i) d x (⊎_elim (λ a. inl (omega arith)) (λ a. inr (omega arith)) c) ∙ sym (get_or-part from m w₀ i d h)
-
   -- ---- a loop that fills the front
 
   pub fill_start_front : (g : List A) (n : ℕ) (w₀ : List A) → length g ≡ n → n ≤ length w₀ → Fill g n 0 w₀ w₀ 0
@@ -79,6 +74,15 @@ module _ {A : Type 0} where
 
   pub fill_end_front : {g : List A} {n : ℕ} {w₀ w : List A} {i : ℕ} → Fill g n 0 w₀ w i → n ≤ i → w ≡ over g w₀
   fill_end_front {g} {w₀} x h = fill_end x h ∙ put_front g w₀
+
+-- what a closure gave in turn that gives one value and stays as it is
+pub replicate-from_calls : {F A : Type 0} (R : F → A → F → Type 0) (v : A) (f : F) → ((x : A) (f' : F) → R f x f' → (x ≡ v) × (f' ≡ f))
+    → (xs : List A) (last : F) → FoldsTo R f xs last → xs ≡ replicate (length xs) v
+replicate-from_calls R v f gives [] last ran = refl
+replicate-from_calls R v f gives (x ∷ xs) last (j, k, ran) =
+    let one = gives x j k in
+    let rest : xs ≡ replicate (length xs) v = replicate-from_calls R v f gives xs last (subst (λ q. FoldsTo R q xs last) one.1 ran) in
+    λ i. one.0 i ∷ rest i
 
 -- ---- goals whose elements are known by their place
 
@@ -111,11 +115,6 @@ tabulate-agree f g (suc n) e =
     let before : tabulate f n ≡ tabulate g n = tabulate-agree f g n (λ i h. e i (omega arith)) in
     let here : f n ≡ g n = e n (omega arith) in
     λ t. before t ++ (here t ∷ [])
-
-pub get_or-map : {A B : Type 0} (f : A → B) (xs : List A) (i : ℕ) (a : A) (b : B) → i < length xs → get_or (map f xs) i b ≡ f (get_or xs i a)
-get_or-map f [] i a b h = absurd (not-suc-le-zero h)
-get_or-map f (x ∷ xs) zero a b h = refl
-get_or-map f (x ∷ xs) (suc i) a b h = get_or-map f xs i a b (le_of_suc-le-suc h)
 
 pub length-gathered : (table idx : List ℕ) → length (gathered table idx) ≡ length idx
 unfolding gathered

@@ -105,13 +105,6 @@ module _ {A : Type 0} where
   part-put_before (suc b) n (suc a) new [] h r = absurd (not-suc-le-zero r)
   part-put_before (suc b) n (suc a) new (x ∷ old) h r = part-put_before b n a new old (omega arith) (le_of_suc-le-suc r)
 
-  pub part-put_after : (b n a : ℕ) (new old : List A) → a + length new ≤ b → part b n (put a new old) ≡ part b n old
-  unfolding part
-  part-put_after b n a new old h = rw (drop-put b a new old h)
-
-  pub part-put-apart : (b n a : ℕ) (new old : List A) → (b + n ≤ a) ⊎ (a + length new ≤ b) → a ≤ length old → part b n (put a new old) ≡ part b n old
-  part-put-apart b n a new old h r = ⊎_elim (λ x. part-put_before b n a new old x r) (λ x. part-put_after b n a new old x) h
-
   pub get_or-put_before : (a : ℕ) (new old : List A) (j : ℕ) (d : A) → a ≤ length old → j < a → get_or (put a new old) j d ≡ get_or old j d
   get_or-put_before a new old j d r h =
       sym (get_or-take a (put a new old) j d h) ∙ ap (λ (l : List A). get_or l j d) (take-put a a new old (omega arith) r) ∙ get_or-take a old j d h
@@ -144,27 +137,6 @@ module _ {A : Type 0} where
   put-kept a g w (suc i) d h r e =
       let before : put a (take i g) w ≡ w = put-kept a g w i d (omega arith) r (λ j k. e j (omega arith)) in
       rw (← store_suc a g w i d (omega arith) r, before, e i (omega arith)) (set-get_or w (a + i) d)
-
-  put-whole : (a : ℕ) (g x : List A) → put a g x ≡ take a x ++ (g ++ drop (a + length g) x)
-  unfolding put over
-  put-whole a g x = rw (drop-drop (length g) a x)
-
-  -- what is written twice is as the second time has it
-  pub put_twice : (a : ℕ) (f g w : List A) → length f ≡ length g → a + length g ≤ length w → put a g (put a f w) ≡ put a g w
-  put_twice a f g w l r =
-      let past : drop (a + length g) (put a f w) ≡ drop (a + length g) w = drop-put (a + length g) a f w (omega arith) in
-      put-whole a g (put a f w) ∙ (λ t. take-put a a f w (omega arith) (omega arith) t ++ (g ++ past t)) ∙ sym (put-whole a g w)
-
-  -- what is written in two places that lie apart may be written in either order
-  pub put_swap : (a b : ℕ) (f g w : List A) → a + length f ≤ b → b ≤ length w → put a f (put b g w) ≡ put b g (put a f w)
-  unfolding put over
-  put_swap zero b [] g w h r = refl
-  put_swap zero zero (y ∷ f) g w h r = absurd (omega arith)
-  put_swap zero (suc b) (y ∷ f) g [] h r = absurd (not-suc-le-zero r)
-  put_swap zero (suc b) (y ∷ f) g (x ∷ w) h r = rw (put_swap zero b f g w (omega arith) (le_of_suc-le-suc r))
-  put_swap (suc a) zero f g w h r = absurd (omega arith)
-  put_swap (suc a) (suc b) f g [] h r = absurd (not-suc-le-zero r)
-  put_swap (suc a) (suc b) f g (x ∷ w) h r = rw (put_swap a b f g w (omega arith) (le_of_suc-le-suc r))
 
   pub put_all : (a : ℕ) (g w : List A) (i : ℕ) → i ≡ length g → put a (take i g) w ≡ put a g w
   put_all a g w i e = rw (e, take-length g)

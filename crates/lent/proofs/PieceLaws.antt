@@ -1,10 +1,10 @@
 -- `over`, `put` and `part` by the pieces of a list, as code takes a slice apart and puts it together again.
-use mathlib.Core.Path.{◌≡◌, refl, sym, ap, ◌∙◌}
+use mathlib.Core.Path.{◌≡◌, refl, ◌∙◌}
 use mathlib.Core.List.{List, [], ◌++◌, append-nil, append_assoc}
 use Prim.Native.Nat.{ℕ, ◌+◌, ◌-◌, ◌≤◌, ◌<◌}
 use native.Mathlib.Omega.{arith}
 use lib.ListN.{length, take, drop, get_or, length-append, length-take, drop_of_length-le, take-append-drop, get_or-append}
-use lib.Seq.{drop-drop, take-take, take_at, drop_at, drop-append-le}
+use lib.Seq.{drop-drop, take_at, drop_at, drop-append-le}
 use Rattle.lent.specs.Over.{over, put, part}
 use Rattle.lent.proofs.OverLaws.{drop-over, over-agree}
 
@@ -79,8 +79,3 @@ module _ {A : Type 0} where
       let e : at + (end - at) ≡ end = omega arith in
       let d : drop end xs ≡ drop (end - at) (drop at xs) = rw (drop-drop (end - at) at xs, e) in
       rw d (take-append-drop (end - at) (drop at xs))
-
-  -- lists with the same part have the same shorter part there
-  pub part_shorter : (a s n : ℕ) (v w : List A) → s ≤ n → part a n w ≡ part a n v → part a s w ≡ part a s v
-  unfolding part
-  part_shorter a s n v w h e = sym (take-take s n (drop a w) h) ∙ ap (take s) e ∙ take-take s n (drop a v) h

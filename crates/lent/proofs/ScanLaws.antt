@@ -7,11 +7,9 @@ use native.Mathlib.Numerals.{add-one}
 use native.Mathlib.Omega.{arith}
 use lib.ListN.{length, drop, get_or, set}
 use lib.Seq.{drop-cons}
-use Rattle.lent.specs.Over.{over, put, part}
+use Rattle.lent.specs.Over.{over}
 use Rattle.lent.specs.Scan.{scan, end_state}
-use Rattle.lent.specs.passes.Regions.{Room}
-use Rattle.lent.proofs.OverLaws.{length-part}
-use Rattle.lent.proofs.FillLaws.{Fill, Onward, fill_start, fill_next, fill_end, fill_end_front, fill_read}
+use Rattle.lent.proofs.FillLaws.{Fill, Onward, fill_start, fill_next, fill_end_front}
 
 pub after_append : {S A : Type 0} (next : S → A → S) (s : S) (xs ys : List A) → end_state next s (xs ++ ys) ≡ end_state next (end_state next s xs) ys
 unfolding end_state
@@ -54,9 +52,6 @@ module _ {S A B : Type 0} {next : S → A → S} {emit : S → A → B} {s₀ : 
         last = rw (add-one, e) (rw (drop-cons xs i d k) at x.last);
       }
 
-  pub ended : {to : ℕ} → Walk next emit s₀ xs m to w₀ w s i → m ≤ i → w ≡ put to (scan next emit s₀ xs) w₀
-  ended x h = fill_end x.fill h
-
   -- ---- a walk that writes the front
 
   pub turn_front : {s' : S} {v : B} (d : A) → Walk next emit s₀ xs m 0 w₀ w s i → i < m → v ≡ emit s (get_or xs i d) → s' ≡ next s (get_or xs i d)
@@ -65,17 +60,3 @@ module _ {S A B : Type 0} {next : S → A → S} {emit : S → A → B} {s₀ : 
 
   pub ended_front : Walk next emit s₀ xs m 0 w₀ w s i → m ≤ i → w ≡ over (scan next emit s₀ xs) w₀
   ended_front x h = fill_end_front x.fill h
-
--- ---- a walk over m places of the very slice that it writes
-
-pub start-part : {S : Type 0} (next : S → ℕ → S) (emit : S → ℕ → ℕ) (s₀ : S) (w₀ : List ℕ) (from m to : ℕ) → Room w₀ from m to
-    → Walk next emit s₀ (part from m w₀) m to w₀ w₀ s₀ 0
-start-part next emit s₀ w₀ from m to r = start next emit s₀ (part from m w₀) m to w₀ (length-part from m w₀ r.read) r.write
-
--- what it reads next is as it was
-pub turn_part : {S : Type 0} {next : S → ℕ → S} {emit : S → ℕ → ℕ} {s₀ : S} {from m to : ℕ} {w₀ w : List ℕ} {s : S} {i : ℕ} {s' : S} {v : ℕ}
-    → Walk next emit s₀ (part from m w₀) m to w₀ w s i → Room w₀ from m to → i < m → v ≡ emit s (get_or w (from + i) 0) → s' ≡ next s (get_or w (from + i) 0)
-    → Walk next emit s₀ (part from m w₀) m to w₀ (set w (to + i) v) s' (i + 1)
-turn_part {next} {emit} {from} {m} {s} {i} x r h q e =
-    let y = fill_read from m i 0 x.fill r.clear (omega arith) h in
-    turn 0 x h (q ∙ ap (emit s) y) (e ∙ ap (next s) y)

@@ -11,7 +11,8 @@ use lib.ListN.{length, get_or, length-append, get_or-append}
 use lib.Seq.{get_or-append-add}
 use Rattle.lent.specs.Scan.{tabulate, gathered}
 use Rattle.lent.specs.passes.Bounds.{AllBelow}
-use Rattle.lent.proofs.FillLaws.{tabulate-agree, get_or-map}
+use Rattle.std.proofs.lemmas.List.{get_or-map}
+use Rattle.lent.proofs.FillLaws.{tabulate-agree}
 
 tabulate_split : {B : Type 0} (f : ℕ → B) (a b : ℕ) → tabulate f (a + b) ≡ tabulate f a ++ tabulate (λ i. f (a + i)) b
 unfolding tabulate

@@ -14,7 +14,8 @@ pub fn copy<T: Copy>(src: &[T], out: &mut [T])
     out[..n].copy_from_slice(src);
 }
 
-// Sets each of the first n places to what f gives for it.
+// Sets each of the first n places to what f gives for it: the one loop that fills by the place. `iter_mut` with
+// `enumerate` is no plainer, as the proof goes by index, nor is `&mut out[..n]`, as the clause says all of the slice.
 pub fn by_place<T: Copy, F: Fn(usize) -> T>(n: usize, out: &mut [T], f: F)
     requires room { n ≤ length out.old }
     requires callable { (i : ℕ) → i < n → F.pre f i }
@@ -26,15 +27,16 @@ pub fn by_place<T: Copy, F: Fn(usize) -> T>(n: usize, out: &mut [T], f: F)
     }
 }
 
-// Sets the first n places to a value.
+// Sets the first n places to a value. `fill` would ask that a clone cannot fail, which no type parameter says.
 pub fn front<T: Copy>(s: &mut [T], n: usize, value: T)
     requires { n ≤ length s.old }
     ensures { s.new ≡ over (replicate n value) s.old }
 {
-    by_place(n, s, |_| value);
+    s[..n].fill_with(|| value);
 }
 
-// What the table has at each number, as numbers of the slice's width.
+// What the table has at each number, as numbers of the slice's width. Tried with `usize::from` for `as`: the proof
+// didn't close, since what `narrow` asks is not read through that call.
 pub fn gather<T: Narrow>(table: &[u16], idx: &[u16], out: &mut [T])
     requires room { length idx.now ≤ length out.old }
     requires inside { AllBelow idx.now (length table.now) }

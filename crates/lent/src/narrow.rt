@@ -1,4 +1,5 @@
-// The widths that a number of a table may have in the slice where it is looked up to.
+// The widths that a number of a table may have in the slice where it is looked up to. `TryFrom` would be no plainer:
+// its answer is a Result, and here the number is known to fit.
 ghost use Rattle.std.specs.Prelude.{◌≡◌, ℕ, ◌<◌, ⊤};
 
 pub trait Narrow: Copy {

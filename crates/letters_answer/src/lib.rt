@@ -2,7 +2,7 @@
 #![tactic(auto)]
 
 ghost use Rattle.std.specs.Prelude.{◌≡◌, ◌≤◌, [], Some, IfSome, length, drop};
-ghost use Rattle.letters_text.specs.Letters.{input_bytes};
+ghost use Rattle.letters_text.specs.Letters.{most_letters, input_bytes};
 ghost use Rattle.letters_text.specs.Lines.{lines};
 ghost use Rattle.letters_answer.specs.Output.{columns, letters_output, InputAnswered};
 
@@ -13,10 +13,10 @@ use letters_text::{Columns, MOST_LETTERS, TextError};
 use std::io::Read;
 
 // 1,024 letters, a line feed, and a byte more that tells a longer input.
-pub const INPUT_BYTES: usize = 1026;
+pub const INPUT_BYTES: usize = MOST_LETTERS + 2;
 
 // Five bytes a letter.
-pub const OUTPUT_BYTES: usize = 5120;
+pub const OUTPUT_BYTES: usize = 5 * MOST_LETTERS;
 
 // All that is printed for an input.
 pub type Output = ArrayString<OUTPUT_BYTES>;
@@ -26,7 +26,7 @@ const WORK: usize = 8 * MOST_LETTERS;
 
 // The lines of a text of letters, by the kinds of its letters.
 fn write_letters(kinds: &[u8], out: &mut Output)
-    requires { (length kinds.now ≤ 1024) × (out.old.bytes ≡ []) }
+    requires { (length kinds.now ≤ most_letters) × (out.old.bytes ≡ []) }
     ensures { out.new.bytes ≡ lines (columns kinds.now) }
 {
     let n = kinds.len();

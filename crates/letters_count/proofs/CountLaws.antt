@@ -1,7 +1,7 @@
 -- What the count at a place does to the reading: the byte there, and the one behind it, by the cases of `count_at`.
 use mathlib.Core.Path.{◌≡◌, refl, ◌∙◌}
 use mathlib.Core.Logic.{◌⊎◌, inl, inr}
-use mathlib.Core.Bool.{Bool, true, false, ◌||◌}
+use mathlib.Core.Bool.{Bool, true, false, ◌||◌, or-true}
 use mathlib.Core.List.{List}
 use Prim.Native.Nat.{ℕ, ◌+◌, ◌-◌, ◌*◌, ◌≤◌, ◌<◌}
 use native.Mathlib.Omega.{arith}
@@ -81,10 +81,6 @@ none_first s p (other h d) = rw (digit_behind s p) d
 one_first : (s : List ℕ) (p : ℕ) → Digit s p → digit_first (drop p s) ≡ true
 one_first s p x = rw (digit_behind s p) x.digit
 
-or_yes : (b : Bool) → (b || true) ≡ true
-or_yes true = refl
-or_yes false = refl
-
 -- ---- the five cases
 
 module _ (s : List ℕ) (at : ℕ) where
@@ -115,7 +111,7 @@ module _ (s : List ℕ) (at : ℕ) where
       two : Digit s (at + 1) → Means s at (Ok (Some (times (10 * (get_or s at 0 - 48) + (get_or s (at + 1) 0 - 48)) (at + 1))))
       unfolding Means
       two y =
-          let m : (eqb (get_or s at 0) 49 || digit_first (drop (at + 1) s)) ≡ true = rw (one_first s (at + 1) y) (or_yes (eqb (get_or s at 0) 49)) in
+          let m : (eqb (get_or s at 0) 49 || digit_first (drop (at + 1) s)) ≡ true = rw (one_first s (at + 1) y) (or-true (eqb (get_or s at 0) 49)) in
           let t : ℕ = get_or s at 0 - 48 in
           record {
             some = omega (arith, above);

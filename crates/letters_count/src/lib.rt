@@ -57,11 +57,8 @@ fn digit_at(s: &[u8], at: usize) -> Option<usize>
     ensures value { result ≡ digit_at s.now at }
     ensures small { IfSome result (λ d. d < 10) }
 {
-    if s.len() <= at {
-        return None;
-    }
-    match s[at] {
-        b @ b'0'..=b'9' => Some(usize::from(b - b'0')),
+    match s.get(at) {
+        Some(b @ b'0'..=b'9') => Some(usize::from(b - b'0')),
         _ => None,
     }
 }

@@ -1,7 +1,7 @@
 -- Every text of the grammar within the limits is good, with its objects: the reading of an item's text, with anything behind it that begins with no
 -- digit, goes on behind it with the item's objects added. By induction over the tree.
 use mathlib.Core.Path.{◌≡◌, refl, subst, ◌∙◌}
-use mathlib.Core.Bool.{Bool, true, false, not, ◌||◌}
+use mathlib.Core.Bool.{Bool, true, false, not, ◌||◌, or-true}
 use mathlib.Core.List.{List, [], ◌∷◌, ◌++◌, append_assoc, append-nil}
 use Prim.Native.Nat.{ℕ, zero, suc, ◌+◌, ◌-◌, ◌*◌, ◌/◌, ◌%◌, ◌≤◌, ◌<◌}
 use native.Mathlib.Nat.{suc-mul}
@@ -71,16 +71,12 @@ module _ (M D : ℕ) where
         let x : 10 * (u - 48) + (v - 48) ≡ n = omega arith in
         let y : p + 1 + 1 ≡ p + 2 = omega arith in
         let d : is_digit v ≡ true = digit_yes v (omega arith) (omega arith) in
-        let more : (eqb u 49 || is_digit v) ≡ true = rw d (or_yes (eqb u 49)) in
+        let more : (eqb u 49 || is_digit v) ≡ true = rw d (or-true (eqb u 49)) in
         let a = after_tens M D (is_digit v) u i fs ks (digit_yes u (omega arith) (omega (arith, c.few))) (λ e. omega arith) more in
         let w = tens_digit M D v i (u - 48) fs ks d in
         run-on M D u (v ∷ bs) p fs (after i) ks a
         ∙ run-on M D v bs (p + 1) fs (tens i (u - 48)) ks {gs = fs} {k = free} {ls = repeated n i ks} (w ∙ rw x (count-few M D n i fs ks small))
         ∙ rw y
-      where
-        or_yes : (b : Bool) → (b || true) ≡ true
-        or_yes true = refl
-        or_yes false = refl
 
     none_written : n ≡ 1 → Counted []
     none_written e =

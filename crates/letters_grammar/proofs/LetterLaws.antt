@@ -83,18 +83,6 @@ module _ (b : ℕ) where
 
 -- ---- a kind's letter
 
-pub letter_d : (k : ℕ) → k ≡ 0 → 100 ≡ letter_of k
-unfolding letter_of
-letter_d k e = rw e
-
-pub letter_k : (k : ℕ) → k ≡ 1 → 107 ≡ letter_of k
-unfolding letter_of
-letter_k k e = rw e
-
-pub letter_n : (k : ℕ) → (k ≡ 0 → ⊥) → (k ≡ 1 → ⊥) → 110 ≡ letter_of k
-unfolding letter_of
-letter_n k a b = rw (ne_eqb _ _ a, ne_eqb _ _ b)
-
 -- the letter of a letter's kind is that letter
 pub letter_again : (b : ℕ) → is_letter b ≡ true → letter_of (kind_of b) ≡ b
 unfolding is_letter kind_of letter_of

@@ -8,6 +8,7 @@ use native.Mathlib.Omega.{arith}
 use borrow.Author.Tests.{eqb-true, eqb-false, leb-true, leb-false}
 use lib.Dec.{eqb, leb}
 use lib.ListN.{length, length-append}
+use Rattle.std.proofs.lemmas.Bool.{or_parts}
 use Rattle.lent.proofs.NeverLaws.{never}
 use Rattle.letters_grammar.specs.Letters.{is_digit, exchanged_if}
 use Rattle.letters_grammar.specs.Grammar.{Letter, Item, letter, bracket, exchange, Sequence, none, then, Count, ItemCounts, Counts, letter_text, count_text}
@@ -24,10 +25,6 @@ use Rattle.letters_grammar.proofs.BoundLaws.{good_few}
 
 pub no_good : {X : Type 0} {n p : ℕ} {ks : List ℕ} → refused n p ≡ good ks → X
 no_good e = never (cc)
-
-or_none : (x y : Bool) → (x || y) ≡ false → x ≡ false
-or_none true y e = e
-or_none false y e = refl
 
 module _ (M D : ℕ) where
   -- ---- a byte of a good text moves on
@@ -105,7 +102,7 @@ module _ (M D : ℕ) where
     unfolding step at_count
     one_digit m =
         let h : b < 58 = (digit_range b d).1 in
-        let l : 50 ≤ b = above b 49 low (eqb-false b 49 (or_none (eqb b 49) (digit_first bs) m)) in
+        let l : 50 ≤ b = above b 49 low (eqb-false b 49 (or_parts (eqb b 49) (digit_first bs) m).0) in
         record {
           times = b - 48;
           counts = record { some = omega arith; few = omega arith };

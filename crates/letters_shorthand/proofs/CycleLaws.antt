@@ -25,9 +25,6 @@ module _ {s old new : List ℕ} {c : Cursor} {depth : ℕ} {q : Bool} {r : Read}
   pub item_later : Reached s 1 c d
   item_later = subst (Later s 1 c) e x.later
 
-  pub next_room : {b : Cursor} → Room s old b → length new ≡ length old → Room s new d
-  next_room w h = let y = item_later in record { place = y.place; few = y.few; room = omega (arith, w.room, h) }
-
 -- ---- a bracket
 
 -- the bracket that opens at c, and the brackets inside it
@@ -86,12 +83,6 @@ module _ {s old : List ℕ} {c : Cursor} {depth : ℕ} {q : Bool} (w : Room s ol
         }
 
         module _ (k : z.at < length s) where
-          pub bracket_asks : most_objects ≤ length next → Room s next (record { at = z.at + 1; count = z.count }) × (c.count ≤ z.count)
-          bracket_asks m =
-              let a = item_later x e in
-              let b = ended in
-              (record { place = omega arith; few = omega arith; room = m }, omega arith)
-
           pub bracket_read : {new : List ℕ} {u : Read} → CountRead s next new (record { at = z.at + 1; count = z.count }) c.count u
               → ItemRead s old new c depth q u
           unfolding opened

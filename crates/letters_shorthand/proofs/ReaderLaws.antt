@@ -5,7 +5,7 @@ use mathlib.Core.List.{List, [], ◌∷◌}
 use Prim.Native.Nat.{ℕ, ◌+◌, ◌≤◌, ◌<◌}
 use native.Mathlib.Numerals.{add-one}
 use native.Mathlib.Omega.{arith}
-use lib.ListN.{length, take, get_or, set, length-set}
+use lib.ListN.{length, take, get_or, set}
 use lib.Seq.{length-take-le, take-suc-set}
 use Rattle.letters_grammar.specs.Letters.{kind_of, exchanged_if}
 use Rattle.letters_grammar.proofs.LetterLaws.{Lettered, letter_cases, kind_d, kind_d_swapped, kind_k, kind_k_swapped, kind_n}
@@ -13,7 +13,7 @@ use Rattle.letters_grammar.proofs.ReadingLaws.{with_letter}
 use Rattle.letters_grammar.proofs.KindLaws.{length-letter}
 use Rattle.letters_grammar.proofs.PlaceLaws.{need-end, need_other, need_tilde, need-many, need-letter}
 use Rattle.letters_count.specs.declared.Cursor.{Cursor}
-use Rattle.std.proofs.Common.{Result, Ok, Err}
+use Rattle.std.proofs.Common.{Err}
 use Rattle.letters_count.specs.declared.Fault.TheVariants.{Misplaced, Crowded}
 use Rattle.letters_grammar.specs.Reading.{most_objects, most_brackets}
 use Rattle.letters_count.specs.passes.Counts.{Read, refusal, Room, CountRead}
@@ -41,9 +41,6 @@ module _ (s old : List ℕ) (c : Cursor) (q : Bool) (w : Room s old c) (a : AtLe
   }
 
   module _ (f : c.count < most_objects) (k : ℕ) where
-    pub letter_asks : Room s (set old c.count k) (record { at = c.at + 1; count = c.count + 1 }) × (c.count ≤ c.count + 1)
-    letter_asks = (record { place = omega arith; few = omega arith; room = rw (length-set old c.count k) w.room }, omega arith)
-
     pub letter_read : (new : List ℕ) (r : Read) → k ∷ [] ≡ exchanged_if q (kind_of (get_or s c.at 0) ∷ [])
         → CountRead s (set old c.count k) new (record { at = c.at + 1; count = c.count + 1 }) c.count r
         → (depth : ℕ) → ItemRead s old new c depth q r

@@ -1,17 +1,18 @@
 -- A whole text: one line feed at its end, what the sequence that was read says of it, and what is answered then.
 use mathlib.Core.Path.{◌≡◌, refl, sym, ap, subst, ◌∙◌}
-use mathlib.Core.Bool.{Bool, true, false, ◌&&◌}
+use mathlib.Core.Bool.{true, false}
 use mathlib.Core.List.{List, [], ◌∷◌}
-use Prim.Native.Nat.{ℕ, suc, ◌+◌, ◌-◌, ◌≤◌, ◌<◌}
+use Prim.Native.Nat.{ℕ, ◌+◌, ◌-◌, ◌≤◌, ◌<◌}
 use native.Mathlib.Omega.{arith}
 use denote.Ref.{Bor}
 use lib.Dec.{eqb}
-use lib.ListN.{length, take, drop, get_or, drop_of_length-le}
-use lib.Seq.{drop-cons, length-take-le}
-use Rattle.std.proofs.Common.{Option, Some, None, MatchOption}
+use lib.ListN.{length, take, drop}
+use lib.Seq.{length-take-le}
+use Rattle.std.proofs.Common.{Option, MatchOption}
 use Rattle.std.specs.Option.{unwrap_or}
 use Rattle.std.specs.Cmp.Lexicographic.{pointwise}
 use Rattle.lent.specs.Over.{over}
+use Rattle.lent.proofs.SuffixLaws.{stripped}
 use Rattle.lent.proofs.OverLaws.{put_front, put_nothing}
 use Rattle.letters_grammar.specs.Reading.{good, refused, shorthand}
 use Rattle.letters_grammar.proofs.ReadingLaws.{shorthand-run, exchanged_none}
@@ -31,26 +32,13 @@ use Rattle.letters_shorthand.specs.passes.Readers.{Stopped, SequenceRead, findin
 
 -- ---- one line feed at the end
 
-and_true : (a : Bool) → (a && true) ≡ a
-and_true true = refl
-and_true false = refl
-
--- whether the last byte is a line feed, as the library's `strip_suffix` tells it
-feed_last : (s : List ℕ) → pointwise eqb (drop (length s - 1) s) (10 ∷ []) ≡ eqb (get_or s (length s - 1) 0) 10
-feed_last [] = refl
-feed_last (b ∷ s) =
-    let h : length (b ∷ s) - 1 < length (b ∷ s) = omega arith in
-    rw (drop-cons (b ∷ s) (length (b ∷ s) - 1) 0 h, drop_of_length-le (b ∷ s) {i = suc (length (b ∷ s) - 1)} (omega arith))
-    (and_true (eqb (get_or (b ∷ s) (length (b ∷ s) - 1) 0) 10))
-
--- so what is left of a text without that suffix, or else the text, is the trimmed one
+-- what is left of a text without that suffix, or else the text, is the trimmed one
 pub trimmed_is : (s : Bor (List ℕ)) (r : Option (Bor (List ℕ)))
     → MatchOption r (pointwise eqb (drop (length s.now - 1) s.now) (10 ∷ []) ≡ false)
     (λ x. (pointwise eqb (drop (length s.now - 1) s.now) (10 ∷ []) ≡ true) × (x.now ≡ take (length s.now - 1) s.now) × (length x.now + 1 ≡ length s.now))
     → trimmed s.now ≡ (unwrap_or r s).now
 unfolding trimmed
-trimmed_is s None h = rw (sym (feed_last s.now) ∙ h)
-trimmed_is s (Some x) h = rw (sym (feed_last s.now) ∙ h.0) (sym h.1)
+trimmed_is s r h = stripped 10 (omega arith) s r h
 
 -- ---- the sequence that a text is
 

@@ -5,7 +5,8 @@ ghost use Rattle.letters_shorthand.specs.Input.{trimmed, ReadText};
 
 use crate::reader::read_text;
 use lent::fill;
-use letters_count::{MOST_OBJECTS, Refusal};
+pub use letters_count::MOST_OBJECTS;
+use letters_count::Refusal;
 
 mod reader;
 
@@ -31,7 +32,8 @@ impl From<Refusal> for InputError {
 }
 
 // How many objects the text has, but for one line feed at its end, or what is wrong with the input.
-// The kinds' front holds the objects of a good text; else the kinds are left as they are.
+// The kinds' front holds the objects of a good text; else the kinds are left as they are: lent, fixed memory, so the
+// objects' number is handed back.
 pub fn read_input(s: &[u8], kinds: &mut [u8; MOST_OBJECTS]) -> Result<usize, InputError>
     ensures { ReadText (trimmed s.now) kinds.old kinds.new result }
 {
@@ -39,7 +41,7 @@ pub fn read_input(s: &[u8], kinds: &mut [u8; MOST_OBJECTS]) -> Result<usize, Inp
     if MOST_BYTES < text.len() {
         return Err(InputError::Long);
     }
-    // a text that is refused in its midst has left objects here
+    // a text that is refused in its midst has left objects here; an array, since there is no heap
     let mut found = [0u8; MOST_OBJECTS];
     let count = read_text(text, &mut found)?.count;
     fill::copy(&found[..count], kinds);

@@ -35,12 +35,13 @@ impl Reader<'_> {
         requires { Room self.now.text.now kinds.old c }
         ensures { SequenceRead self.now.text.now kinds.old kinds.new c self.now.depth self.now.swapped result }
     {
-        let at = c.at;
-        if self.text.len() <= at || self.text[at] == b')' {
-            return Ok(c);
+        match self.text.get(c.at) {
+            Some(&b) if b != b')' => {
+                let next = self.item(kinds, c)?;
+                self.sequence(kinds, next)
+            }
+            _ => Ok(c),
         }
-        let next = self.item(kinds, c)?;
-        self.sequence(kinds, next)
     }
 
     // One item: `~` and an item, a bracket, or a letter.
@@ -50,10 +51,10 @@ impl Reader<'_> {
         ensures { ItemRead self.now.text.now kinds.old kinds.new c self.now.depth self.now.swapped result }
     {
         let at = c.at;
-        if self.text.len() <= at {
+        let Some(&b) = self.text.get(at) else {
             return refuse(Fault::Misplaced, at);
-        }
-        match self.text[at] {
+        };
+        match b {
             b'~' => {
                 let exchanged = Reader {
                     swapped: !self.swapped,
@@ -84,10 +85,11 @@ impl Reader<'_> {
         let next = inside.item(kinds, Cursor { at: at + 1, ..c })?;
         let end = inside.sequence(kinds, next)?;
         let to = end.at;
-        if self.text.len() <= to {
-            return refuse(Fault::Misplaced, to);
+        // a sequence stops at a closing bracket or at the end
+        match self.text.get(to) {
+            Some(_) => counted(self.text, kinds, Cursor { at: to + 1, ..end }, c.count),
+            None => refuse(Fault::Misplaced, to),
         }
-        counted(self.text, kinds, Cursor { at: to + 1, ..end }, c.count)
     }
 
     // A letter, and a count or none.
@@ -109,7 +111,8 @@ impl Reader<'_> {
     }
 }
 
-// The kind of a letter, with d and k exchanged or not.
+// The kind of a letter, with d and k exchanged or not. No From: the types of both sides are other crates'; and none of
+// letters_text's, whose letters are not exchanged: a third crate for three letters would be no plainer.
 #[tactic(auto, using(crate::proofs::ReaderLaws::kinds))]
 fn kind_of(b: u8, swapped: bool) -> Kind
     ensures { kind_number result ∷ [] ≡ exchanged_if swapped (kind_of b ∷ []) }

@@ -1,20 +1,21 @@
 -- The cases of what a text is, one law a case, and what is known of a text by its reading.
 use mathlib.Core.Path.{◌≡◌, refl, sym, ap, ◌∙◌}
 use mathlib.Core.List.{List, [], ◌∷◌}
-use mathlib.Core.Bool.{Bool, true, false, cond, not, ◌&&◌}
+use mathlib.Core.Bool.{Bool, true, false, cond, not}
 use Prim.Native.Nat.{ℕ, zero, suc, ◌+◌, ◌-◌, ◌≤◌, ◌<◌}
 use native.Mathlib.Omega.{arith}
 use borrow.Author.Tests.{lt-ltb, le-ltb, eqb-true, ltb-true, ltb-false}
 use denote.Ref.{Bor}
 use lib.Dec.{eqb, ltb}
-use lib.ListN.{length, take, drop, get_or, length-map, drop_of_length-le}
-use lib.Seq.{drop-cons, length-take-le}
+use lib.ListN.{length, take, drop, get_or, length-map}
+use lib.Seq.{length-take-le}
 use Rattle.std.proofs.Common.{Option, Some, None, Result, Ok, Err, MatchOption}
 use Rattle.std.specs.List.{position, position_or_len}
 use Rattle.std.specs.Option.{unwrap_or}
 use Rattle.std.specs.Cmp.Lexicographic.{pointwise}
 use Rattle.lent.specs.Over.{over}
-use Rattle.lent.proofs.FillLaws.{get_or-map}
+use Rattle.std.proofs.lemmas.List.{get_or-map}
+use Rattle.lent.proofs.SuffixLaws.{stripped}
 use Rattle.lent.proofs.NeverLaws.{never}
 use Rattle.letters_text.specs.declared.TextError.{TextError}
 use Rattle.letters_text.specs.declared.TextError.TheVariants.{Long, Bad}
@@ -22,26 +23,13 @@ use Rattle.letters_text.specs.Letters.{trimmed, is_letter, kind_of, letter_of, k
 
 -- ---- one line feed at the end
 
-and_true : (a : Bool) → (a && true) ≡ a
-and_true true = refl
-and_true false = refl
-
--- whether the last byte is a line feed, as the library's `strip_suffix` tells it
-feed_last : (s : List ℕ) → pointwise eqb (drop (length s - 1) s) (10 ∷ []) ≡ eqb (get_or s (length s - 1) 0) 10
-feed_last [] = refl
-feed_last (b ∷ s) =
-    let h : length (b ∷ s) - 1 < length (b ∷ s) = omega arith in
-    rw (drop-cons (b ∷ s) (length (b ∷ s) - 1) 0 h, drop_of_length-le (b ∷ s) {i = suc (length (b ∷ s) - 1)} (omega arith))
-    (and_true (eqb (get_or (b ∷ s) (length (b ∷ s) - 1) 0) 10))
-
--- so what is left of a text without that suffix, or else the text, is the trimmed one
+-- what is left of a text without that suffix, or else the text, is the trimmed one
 pub trimmed_is : (s : Bor (List ℕ)) (r : Option (Bor (List ℕ)))
     → MatchOption r (pointwise eqb (drop (length s.now - 1) s.now) (10 ∷ []) ≡ false)
     (λ x. (pointwise eqb (drop (length s.now - 1) s.now) (10 ∷ []) ≡ true) × (x.now ≡ take (length s.now - 1) s.now) × (length x.now + 1 ≡ length s.now))
     → trimmed s.now ≡ (unwrap_or r s).now
 unfolding trimmed
-trimmed_is s None h = rw (sym (feed_last s.now) ∙ h)
-trimmed_is s (Some x) h = rw (sym (feed_last s.now) ∙ h.0) (sym h.1)
+trimmed_is s r h = stripped 10 (omega arith) s r h
 
 pub length-trimmed : (s : List ℕ) → length s ≤ length (trimmed s) + 1
 unfolding trimmed

@@ -2,14 +2,18 @@
 -- after them one line feed that counts for nothing. A text that is too long is told as that, whatever its bytes are;
 -- else its first byte that is no letter is told.
 -- A text is a list of bytes.
-use Rattle.std.specs.Prelude.{◌≡◌, ℕ, suc, ◌-◌, Bool, true, cond, List, [], ◌∷◌, map, eqb, ltb, length, take, get_or}
-use Rattle.std.specs.Prelude.{Result, Ok, Err}
+use Rattle.std.specs.Prelude.{◌≡◌, ℕ, suc, ◌+◌, ◌-◌, Bool, true, cond, List, [], ◌∷◌, map, eqb, ltb, length, take}
+use Rattle.std.specs.Prelude.{get_or, Result, Ok, Err}
 use Rattle.lent.specs.Over.{over}
 use Rattle.letters_text.specs.declared.TextError.{TextError}
 use Rattle.letters_text.specs.declared.TextError.TheVariants.{Long, Bad}
 
 abbrev pub line_feed : ℕ
 line_feed = 10
+
+-- the most letters of a text
+abbrev pub most_letters : ℕ
+most_letters = 1024
 
 -- without one line feed at the end
 unfoldable pub trimmed : List ℕ → List ℕ
@@ -41,7 +45,7 @@ first_bad (b ∷ bs) = cond (is_letter b) (suc (first_bad bs)) 0
 unfoldable pub reading : List ℕ → Result ℕ TextError
 unfolding first_bad
 reading t =
-    cond (ltb 1024 (length t)) (Err Long)
+    cond (ltb most_letters (length t)) (Err Long)
     (cond (ltb (first_bad t) (length t)) (Err (Bad (first_bad t))) (Ok (length t)))
 
 -- what the lent kinds hold after a reading: the kinds of the letters over their front, or what they held
@@ -58,4 +62,4 @@ pub record ReadText (t old new : List ℕ) (r : Result ℕ TextError) : Type 0 w
 -- so many bytes of an input tell all that is printed for it: 1,024 letters, a line feed, and a byte more, which tells a
 -- longer one
 abbrev pub input_bytes : ℕ
-input_bytes = 1026
+input_bytes = most_letters + 2

@@ -5,7 +5,7 @@ ghost use Rattle.std.specs.Prelude.{◌≡◌, ◌++◌, [], ◌∷◌, ◌+◌,
 ghost use Rattle.lent.specs.Over.{over};
 ghost use Rattle.grouping_chart.specs.Object.{kind_number};
 ghost use Rattle.arrayvec.specs.ArrayString.{array_string_len};
-ghost use Rattle.letters_text.specs.Letters.{trimmed, is_letter, kind_of, letter_of, kinds_of, ReadText};
+ghost use Rattle.letters_text.specs.Letters.{most_letters, trimmed, is_letter, kind_of, letter_of, kinds_of, ReadText};
 ghost use Rattle.letters_text.specs.Lines.{columns_of, line_head, parting, first_letter, next_letter};
 ghost use Rattle.letters_text.specs.Lines.{lines, bad_line, long_line};
 ghost use Rattle.letters_text.specs.passes.Memory.{LinesFit};
@@ -34,6 +34,7 @@ fn is_letter(b: u8) -> bool
     matches!(b, b'd' | b'k' | b'n')
 }
 
+// A letter's kind; any other byte counts as n. No From here or at letter_of: Kind, u8 and char are all other crates'.
 #[tactic(auto, using(std::proofs::lemmas::Bool::Decides::nat_tests), unfolding(crate::specs::Letters::kind_of))]
 fn kind_of(b: u8) -> Kind
     ensures { kind_number result ≡ kind_of b }
@@ -72,7 +73,7 @@ fn fill_kinds(t: &[u8], kinds: &mut [u8])
 }
 
 fn read_text(t: &[u8], kinds: &mut [u8]) -> Result<usize, TextError>
-    requires { 1024 ≤ length kinds.old }
+    requires { most_letters ≤ length kinds.old }
     ensures { ReadText t.now kinds.old kinds.new result }
 {
     let n = t.len();
@@ -89,7 +90,7 @@ fn read_text(t: &[u8], kinds: &mut [u8]) -> Result<usize, TextError>
 // How many letters the text has, but for one line feed at its end, or what is wrong with it.
 // The kinds are filled where it is letters, else left as they are: lent, fixed memory, so their number is handed back.
 pub fn read_letters(s: &[u8], kinds: &mut [u8]) -> Result<usize, TextError>
-    requires { 1024 ≤ length kinds.old }
+    requires { most_letters ≤ length kinds.old }
     ensures { ReadText (trimmed s.now) kinds.old kinds.new result }
 {
     read_text(s.strip_suffix(b"\n").unwrap_or(s), kinds)
@@ -162,6 +163,7 @@ pub fn write_lines<const N: usize>(columns: &Columns, out: &mut ArrayString<N>)
     }
     let mut last = columns.object(0);
     put_first(out, last);
+    // by the place: an object has a number in each of five columns, so an iterator over the places is no plainer
     for i in 1..n {
         let next = columns.object(i);
         put_next(out, last, next);

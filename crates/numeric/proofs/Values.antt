@@ -3,14 +3,13 @@ use mathlib.Core.Path.{◌≡◌, refl, sym, ◌∙◌}
 use mathlib.Core.Logic.{inl, inr}
 use mathlib.Core.Bool.{true, false, not, ◌&&◌, ◌||◌}
 use Prim.Native.Nat.{ℕ, zero, suc, ◌*◌, ◌^◌, ◌≤◌, ◌<◌}
-use native.Mathlib.Nat.{zero-mul, mul-one, one-mul, mul-pos, zero-lt-suc, pow-succ', le_of_lt, le_of_eq, eq-or-lt_of_le}
+use native.Mathlib.Nat.{mul-one, one-mul, pow-succ', le_of_lt, le_of_eq, eq-or-lt_of_le}
 use native.Mathlib.Omega.{arith}
-use borrow.Author.Tests.{ltb-false}
 use lib.IntN.{ℤ, pos, negsuc}
 use lib.Dec.{T, ltb, eqb, ltb→lt, lt→ltb, eqb→eq}
 use lib.Pow.{pow_pos}
 use lib.Ieee.{Float, nan, inf, fin, binary64, up, down, fits, is_nan, le}
-use lib.Ieee.Fits.{and_l, and_i, up_pos, down_pos, eq→eqb}
+use lib.Ieee.Fits.{and_l, and_i, eq→eqb}
 use lib.Ieee.Scale.{finite}
 use mir.Facts.{or_yes}
 use Rattle.numeric.proofs.Tests.{or_l, or_r}
@@ -22,13 +21,6 @@ pub record Number (x : Float) : Type 0 where
 
 pub not_zero : (a : ℕ) → 0 < a → a ≡ 0 → ⊥
 not_zero a h e = omega arith
-
--- the products that a comparison makes: zero exactly where the digits are
-pub cross_pos : (m : ℕ) (e d : ℤ) → 0 < suc m * up e * down d
-cross_pos m e d = mul-pos (mul-pos (zero-lt-suc m) (up_pos e)) (down_pos d)
-
-pub cross_zero : (e d : ℤ) → 0 * up e * down d ≡ 0
-cross_zero e d = rw (zero-mul (up e), zero-mul (down d))
 
 two_up : (p : ℕ) → 0 < p → 2 * p ≡ 1 → ⊥
 two_up p h e = omega arith
@@ -53,9 +45,6 @@ of_at_most a b h =
 -- and of a size a / c with a whole number b, as the comparison with the value b tests it
 pub below-whole : (a b c : ℕ) → T (ltb (a * 1) (1 * b * c)) → a < b * c
 below-whole a b c t = omega (arith, ltb→lt (a * 1) (1 * b * c) t)
-
-pub from_whole : (a b c : ℕ) → ltb (a * 1) (1 * b * c) ≡ false → b * c ≤ a
-from_whole a b c e = omega (arith, ltb-false (a * 1) (1 * b * c) e)
 
 -- what lies between two finite values is finite
 pub finite-between : (lo x hi : Float) → T (finite lo) → T (finite hi) → T (le lo x) → T (le x hi) → T (finite x)

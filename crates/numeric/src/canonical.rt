@@ -7,7 +7,7 @@ ghost use Rattle.std.specs.Float.{binary64};
 pub fn canonical(x: f64) -> f64
     ensures { result ≡ x }
 {
-    if x.is_nan() { 0.0 / 0.0 } else { x }
+    if x.is_nan() { f64::NAN } else { x }
 }
 
 // The bits of x; of a NaN 7FF8000000000000, which is what `to_bits` gives.

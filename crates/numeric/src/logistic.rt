@@ -281,7 +281,7 @@ impl LogisticTable {
         LogisticTable { values: T }
     }
 
-    // T(n) for a step below 264, and +0.0 from there on.
+    // T(n) for a step below 264, and +0.0 from there on. By a match with ranges, as the scope asks, and not by `get`.
     pub fn at(&self, n: usize) -> f64
         ensures { result ≡ logistic_at n }
     {

@@ -8,7 +8,8 @@ ghost use Rattle.numeric_sort.specs.passes.Sort.{comparison};
 use numeric::order::total_order;
 use std::cmp::Ordering;
 
-// How two values stand in the total order. It has no place for a NaN, which stands last here.
+// How two values stand in the total order. It has no place for a NaN, which stands last here: `sort_unstable_by` asks
+// that any two values can be compared, and `total_cmp` that neither is a NaN.
 fn compare(a: &f64, b: &f64) -> Ordering
     ensures { result ≡ comparison a.now b.now }
 {

@@ -1,24 +1,8 @@
--- After a case that can't be read, or a file's end, no case may follow: fewer than were left.
-use Rattle.std.proofs.Common.{◌≡◌, ◌<◌, ◌≤◌, false, ap, ◌∙◌, arith}
-use Rattle.replay_cases.specs.Tally.{one_more}
-use Rattle.replay_cases.specs.Count.{at_start, ended_with, after_case, After}
-use Rattle.replay_cases.specs.declared.tally.Tally.{Tally}
+-- Where a case may follow: one may at the start, and none at a file's end.
+use Rattle.std.proofs.Common.{◌≡◌, ◌<◌, ◌≤◌, ap, arith}
+use Rattle.replay_cases.specs.Count.{at_start, ended_with, after_case}
 use Rattle.replay_cases.specs.declared.count.Replay.{Replay}
-use Rattle.replay_cases.specs.declared.count.Replayed.{Replayed}
-use Rattle.replay_cases.specs.declared.count.Replayed.TheVariants.{Broken, End}
-
-module _ {r : Replay} {c : Replayed} (some : 0 < r.left) where
-  ended : {s : Replay} (charts : Tally) → s ≡ ended_with r charts → ended_with r charts ≡ after_case r c → After r c s
-  unfolding ended_with
-  ended {s} charts q a = record { counted = q ∙ a; fewer = omega (arith, ap (λ (x : Replay). x.left) q) }
-
-  pub after_broken : {s : Replay} (charts : Tally) → c ≡ Broken → charts ≡ one_more r.charts false → s ≡ ended_with r charts → After r c s
-  unfolding after_case
-  after_broken charts e p q = ended charts q (rw (e, p))
-
-  pub after_end : {s : Replay} → c ≡ End → s ≡ ended_with r r.charts → After r c s
-  unfolding after_case
-  after_end e q = ended r.charts q (rw e)
+use Rattle.replay_cases.specs.declared.count.Replayed.TheVariants.{End}
 
 -- a million cases may follow at the start, so a first one may
 pub start_some : {r : Replay} → r ≡ at_start → 0 < r.left

@@ -17,7 +17,7 @@ ghost use Rattle.lent.specs.Over.{over};
 ghost use Rattle.letters_shorthand.specs.Input.{trimmed, input_of, objects_read, answer_of, told};
 ghost use Rattle.test_host.specs.Told.{told_of};
 
-use letters_shorthand::InputError;
+use letters_shorthand::{InputError, MOST_OBJECTS};
 
 #[unsafe(no_mangle)]
 pub extern "C" fn numeric_near(a: f64, b: f64, margin: f64) -> bool
@@ -91,40 +91,40 @@ pub extern "C" fn grouping_normal_of(deltas: &mut [f64], margin: f64, x: f64) ->
 
 // An input: 0, 1 for one that is too long, or the refusal's number; its place; how many objects were read.
 #[repr(C)]
-#[derive(Clone, Copy)]
+#[derive(Clone, Copy, Default)]
 pub struct LettersRead {
     pub number: u64,
     pub place: usize,
     pub objects: usize,
 }
 
-#[tactic(auto, unfolding(crate::specs::Told::told_of))]
-fn told(reading: Result<usize, InputError>) -> LettersRead
-    ensures { result ≡ told_of (told reading) }
-{
-    match reading {
-        Ok(objects) => LettersRead {
-            number: 0,
-            place: 0,
-            objects,
-        },
-        Err(InputError::Long) => LettersRead {
-            number: 1,
-            place: 0,
-            objects: 0,
-        },
-        Err(InputError::Refused(refusal)) => LettersRead {
-            number: u64::from(refusal.fault),
-            place: refusal.place,
-            objects: 0,
-        },
+impl From<Result<usize, InputError>> for LettersRead {
+    ghost from_gives = { λ reading told_as. told_as ≡ told_of (told reading) };
+
+    #[tactic(auto, unfolding(crate::specs::Told::told_of))]
+    fn from(reading: Result<usize, InputError>) -> LettersRead {
+        match reading {
+            Ok(objects) => LettersRead {
+                objects,
+                ..LettersRead::default()
+            },
+            Err(InputError::Long) => LettersRead {
+                number: 1,
+                ..LettersRead::default()
+            },
+            Err(InputError::Refused(refusal)) => LettersRead {
+                number: u64::from(refusal.fault),
+                place: refusal.place,
+                ..LettersRead::default()
+            },
+        }
     }
 }
 
 #[unsafe(no_mangle)]
-pub extern "C" fn letters_read(text: &[u8], kinds: &mut [u8; 1024]) -> LettersRead
+pub extern "C" fn letters_read(text: &[u8], kinds: &mut [u8; MOST_OBJECTS]) -> LettersRead
     ensures answer { result ≡ told_of (answer_of (input_of (trimmed text.now))) }
     ensures kinds { kinds.new ≡ over (objects_read (input_of (trimmed text.now))) kinds.old }
 {
-    told(letters_shorthand::read_input(text, kinds))
+    LettersRead::from(letters_shorthand::read_input(text, kinds))
 }

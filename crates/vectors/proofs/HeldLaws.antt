@@ -5,7 +5,7 @@ use borrow.Author.Tests.{ltb-true, ltb-false}
 use lib.ListN.{length-map, length-take, length-replicate, get_or-replicate, get_or-eq_default}
 use lib.Seq.{get_or-take, ext_get_or}
 use Rattle.lent.specs.Over.{over}
-use Rattle.lent.proofs.FillLaws.{get_or-map}
+use Rattle.std.proofs.lemmas.List.{get_or-map}
 use Rattle.lent.proofs.OverLaws.{front, length-over, put_front, get_or-put_after}
 use Rattle.vectors.specs.Held.{Tells, FrontHeld}
 use Rattle.vectors.proofs.TellsLaws.{denied, granted}

@@ -5,9 +5,9 @@ use mathlib.Core.Logic.{◌⊎◌}
 use mathlib.Core.List.{List}
 use Prim.Native.Nat.{ℕ}
 use native.Mathlib.Omega.{arith}
-use Rattle.std.specs.Prelude.{Option, Ok}
+use Rattle.std.specs.Prelude.{Ok}
 use Rattle.grouping_chart.specs.Chart.{Chart, size}
-use Rattle.grouping_chart.specs.Refusal.{accepted, verdict}
+use Rattle.grouping_chart.specs.Refusal.{Check, passed, accepted, verdict}
 use Rattle.grouping_chart.specs.declared.refusal.Reason.{Reason}
 use Rattle.grouping_chart.specs.Settings.{Settings}
 use Rattle.grouping_chart.proofs.AcceptedLaws.{accepted_good}
@@ -51,7 +51,7 @@ hits-alike e f e' f' k = record {
 module _ (s : Settings) (c c' : Chart) {m p p' : ℕ} (k : SameLast m c.kinds c'.kinds) (t : SameLast m c.ratios c'.ratios)
     (far : Counterparts (size c) (size c') p p') (landmark : ColourLandmark c.kinds m p ⊎ ColourLandmark c'.kinds m p') where
   -- two charts accepted by any calls
-  pub accepted_claim : (b b' : Option Reason) → verdict c b ≡ accepted → verdict c' b' ≡ accepted → ColourClaim s c c' p p'
+  pub accepted_claim : (b b' : Check) → verdict c b ≡ accepted → verdict c' b' ≡ accepted → ColourClaim s c c' p p'
   accepted_claim b b' x x' = colour_claim s c c' (accepted_good c b x).lengths.ratio (accepted_good c' b' x').lengths.ratio k t far landmark
 
   pub encode_claim : (lent lent' : encode.Memory) → encode.judged c lent ≡ accepted → encode.judged c' lent' ≡ accepted → EncodeClaim s c c' lent lent' p p'

@@ -13,7 +13,8 @@ use Rattle.agreement.specs.passes.Tests.{all_true}
 use Rattle.agreement.specs.colour.Landmark.{ColourLandmark}
 use Rattle.agreement.specs.passes.LandmarkTest.{levels_of, tail_note_before, object_serves, streak_serves, pattern_serves, plain, ends_at, pattern_found}
 use Rattle.agreement.specs.passes.LandmarkTest.{streak_found, landmark_found, is_landmark}
-use Rattle.agreement.proofs.TestLaws.{not_of, all_first, all_rest, all_none, all_more, any_found, found_any, none_found, found_none}
+use Rattle.std.proofs.lemmas.Bool.{not_from_false}
+use Rattle.agreement.proofs.TestLaws.{all_first, all_rest, all_none, all_more, any_found, found_any, none_found, found_none}
 
 module _ (kinds : List ℕ) (m position : ℕ) where
   -- the four tests of an object, a streak and a pattern
@@ -79,7 +80,7 @@ module _ (kinds : List ℕ) (m position : ℕ) where
     streak_test =
         all_more _ _ (le-leb _ _ x.streak_after)
         (all_more _ _ (lt-ltb _ _ x.streak_next)
-        (all_more _ _ (not_of _ (ne_eqb _ _ x.streak_unequal)) (all_more _ _ (eq-eqb _ _ x.streak-opens) all_none)))
+        (all_more _ _ (not_from_false _ (ne_eqb _ _ x.streak_unequal)) (all_more _ _ (eq-eqb _ _ x.streak-opens) all_none)))
 
     pattern_test : pattern_serves (levels_of kinds) x.streak x.pattern ≡ true
     unfolding levels_of pattern_serves
@@ -94,7 +95,7 @@ module _ (kinds : List ℕ) (m position : ℕ) where
         all_more _ _ (lt-ltb 0 position (omega (arith, x.just_after)))
         (all_more _ _ (le-leb position (length kinds) (omega (arith, x.just_after, x.last_there)))
         (all_more _ _ (eq-eqb _ _ (ap (λ (i : ℕ). get_or (alternating_of kinds) i 0) before ∙ x.last_of_second))
-        (all_more _ _ (not_of _ (none_found (length kinds) later none)) all_none)))
+        (all_more _ _ (not_from_false _ (none_found (length kinds) later none)) all_none)))
       where
         before : position - 1 ≡ x.last
         before = omega (arith, x.just_after)

@@ -7,7 +7,8 @@ use lib.Ieee.{Float}
 use borrow.Author.Tests.{ltb-true, leb-true, lt-ltb, le-leb, not-true}
 use Rattle.agreement.specs.rhythm.Landmark.{RhythmLandmark}
 use Rattle.agreement.specs.passes.RhythmLandmarkTest.{is_rhythm_landmark}
-use Rattle.agreement.proofs.TestLaws.{not_of, all_first, all_rest, all_none, all_more}
+use Rattle.std.proofs.lemmas.Bool.{not_from_false}
+use Rattle.agreement.proofs.TestLaws.{all_first, all_rest, all_none, all_more}
 
 module _ (margin : Float) (deltas : List Float) (t i : ℕ) where
   pub test_landmark : is_rhythm_landmark margin deltas t i ≡ true → RhythmLandmark margin deltas t i
@@ -29,4 +30,4 @@ module _ (margin : Float) (deltas : List Float) (t i : ℕ) where
   landmark_test m =
       all_more _ _ (lt-ltb _ _ m.before_there)
       (all_more _ _ (lt-ltb _ _ m.next_there)
-      (all_more _ _ (le-leb _ _ m.of_tail) (all_more _ _ m.near (all_more _ _ (not_of _ m.not_near) all_none))))
+      (all_more _ _ (le-leb _ _ m.of_tail) (all_more _ _ m.near (all_more _ _ (not_from_false _ m.not_near) all_none))))

@@ -1,5 +1,5 @@
 -- Each place takes its object's value, by tables that are those of the kinds.
-use Rattle.std.proofs.Common.{◌≡◌, ◌∙◌, rules}
+use Rattle.std.proofs.Common.{◌≡◌, ◌∙◌, arith, rules}
 use Rattle.grouping_preprocessor.proofs.LookUpsLaws.{tables_of}
 use Rattle.evaluator_values.specs.Colour.{colour_at, colour_values}
 use Rattle.evaluator_values.specs.passes.Tables.{looked_colour}
@@ -8,7 +8,7 @@ use Rattle.evaluator_values.proofs.fill_values.Goals as goal
 
 pub by_place-requires-clause-callable : goal.by_place-requires-clause-callable
 by_place-requires-clause-callable c = λ i h.
-    let o = object_in (tables_of {t = c.of-tables.result} c.requires.sources.tabled.tables c.of-tables.ensures) i h in
+    let o = object_in (tables_of {t = c.of-tables.result} c.requires.sources.tabled.tables c.of-tables.ensures) i (omega (arith, h)) in
     search rules
 
 pub returns : goal.returns

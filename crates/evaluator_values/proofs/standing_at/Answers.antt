@@ -1,4 +1,5 @@
 -- The object's numbers, what the tables have at them, and where a number differs from the object's before.
+use Rattle.std.proofs.Common.{◌∙◌}
 use Rattle.evaluator_values.specs.passes.Tables.{looked_up}
 use Rattle.evaluator_values.proofs.TablesLaws.{hit_in, place_in, interval_is, pattern-place_is, streak-place_is}
 use Rattle.evaluator_values.proofs.StandingLaws.{start_first, change_first, same_standing}
@@ -15,9 +16,9 @@ unfolding looked_up
 returns-then-i-eq0 c =
     let a = c.numbers_at-at.ensures in
     same_standing (record {
-      interval = interval_is c.requires a;
-      pattern_place = pattern-place_is c.requires a;
-      streak_place = streak-place_is c.requires a;
+      interval = c.from-interval.ensures ∙ interval_is c.requires a;
+      pattern_place = c.from-pattern_place.ensures ∙ pattern-place_is c.requires a;
+      streak_place = c.from-streak_place.ensures ∙ streak-place_is c.requires a;
       streak = start_first _ _ c.if-i-eq0.true;
       pattern = start_first _ _ c.if-i-eq0.true;
       hit = start_first _ _ c.if-i-eq0.true;
@@ -29,9 +30,9 @@ returns c =
     let a = c.numbers_at-at.ensures in
     let b = c.numbers_at-before.ensures in
     same_standing (record {
-      interval = interval_is c.requires a;
-      pattern_place = pattern-place_is c.requires a;
-      streak_place = streak-place_is c.requires a;
+      interval = c.from-interval.ensures ∙ interval_is c.requires a;
+      pattern_place = c.from-pattern_place.ensures ∙ pattern-place_is c.requires a;
+      streak_place = c.from-streak_place.ensures ∙ streak-place_is c.requires a;
       streak = change_first _ _ _ _ c.if-i-eq0.false a.streaks b.streaks;
       pattern = change_first _ _ _ _ c.if-i-eq0.false a.patterns b.patterns;
       hit = change_first _ _ _ _ c.if-i-eq0.false a.hits b.hits;

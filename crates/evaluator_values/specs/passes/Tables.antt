@@ -4,8 +4,8 @@ use Rattle.std.specs.Float.{nan, binary64}
 use Rattle.std.specs.Float.Ieee.{mul}
 use Rattle.grouping_preprocessor.specs.passes.Steps.{Regions}
 use Rattle.grouping_preprocessor.specs.passes.Steps as steps
-use Rattle.grouping_preprocessor.specs.passes.LookUps.{streaks, streak_places, patterns, pattern_places, hits, intervals}
-use Rattle.grouping_preprocessor.specs.passes.LookUps.{Linked}
+use Rattle.grouping_preprocessor.specs.passes.LookUps.{streaks, streak_places, patterns, pattern_places}
+use Rattle.grouping_preprocessor.specs.passes.LookUps.{hits, intervals, Linked}
 use Rattle.grouping_preprocessor.specs.declared.Levels.{Levels}
 use Rattle.grouping_preprocessor.specs.declared.tables.Tables.{Tables}
 use Rattle.evaluator_colour.specs.declared.Standing.{Standing}

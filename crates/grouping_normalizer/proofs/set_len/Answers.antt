@@ -1,16 +1,18 @@
--- The case of each test.
-use Rattle.std.proofs.Common.{sym, ◌∙◌}
-use Rattle.grouping_normalizer.proofs.SetLaws.{running-start, running_turn, running_stop, running-end}
+-- The values that are near the first one are counted, up to the first that is not.
+use Rattle.std.proofs.Common.{rules, tests, get_or}
+use lib.Ieee.{nan}
+use Rattle.std.proofs.lemmas.Iterator.{YieldsList-from_slice}
+use Rattle.std.proofs.lemmas.Iterator.Search.{YieldsList-from_take_while}
+use Rattle.std.proofs.lemmas.Iterator.Consumers.{count_from_yields_List}
+use Rattle.numeric.specs.Near.{is_near}
+use Rattle.grouping_normalizer.proofs.SetLaws.{set_counted}
 use Rattle.grouping_normalizer.proofs.set_len.Goals as goal
 
-pub loop-k-init : goal.loop-k-init
-loop-k-init c = running-start _ _ c.requires
-
-pub returns-then-not-near : goal.returns-then-not-near
-returns-then-not-near c = running_stop c.loop-k.invariant c.loop-k-test.true (sym c.near.ensures ∙ c.if-not-near.true)
-
-pub loop-k-preserved : goal.loop-k-preserved
-loop-k-preserved c = running_turn c.loop-k.invariant c.loop-k-test.true (sym c.near.ensures ∙ c.if-not-near.false)
-
 pub returns : goal.returns
-returns c = running-end c.loop-k.invariant c.loop-k-test.false
+returns c =
+    let values = c.args.values.now in
+    let others = c.iter.result.rest.now in
+    set_counted c.args.margin values others _ c.requires c.iter.ensures.rest
+    (count_from_yields_List c.take_while.result _ c.count.ensures.ran
+    (YieldsList-from_take_while {ys = others} _ (λ v. is_near c.args.margin v (get_or values 0 nan)) (YieldsList-from_slice others (cc)) c.take_while.ensures.closure c.take_while.ensures.done
+    (λ x b q k. search (rules, tests))))

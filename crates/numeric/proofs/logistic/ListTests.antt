@@ -1,8 +1,7 @@
 -- Tests of all elements of a list, or of each two neighbours, computed once over the whole list, and what they say at each place.
 -- And the value of a list that is mapped, at a place within it.
-use mathlib.Core.Path.{◌≡◌, refl}
 use mathlib.Core.Bool.{Bool, true, ◌&&◌}
-use mathlib.Core.List.{List, [], ◌∷◌, map}
+use mathlib.Core.List.{List, [], ◌∷◌}
 use Prim.Native.Nat.{ℕ, zero, suc, ◌+◌, ◌<◌}
 use native.Mathlib.Nat.{le_of_suc-le-suc, not-suc-le-zero, zero-add, add-zero, add-suc, suc-add}
 use lib.Dec.{T}
@@ -42,10 +41,3 @@ pairs_at f [] t k h = absurd (not-suc-le-zero h)
 pairs_at f (x ∷ []) t k h = absurd (not-suc-le-zero (le_of_suc-le-suc h))
 pairs_at f (x ∷ y ∷ ys) t zero h = and_l (f x y) (pairs f (y ∷ ys)) t
 pairs_at f (x ∷ y ∷ ys) t (suc k) h = pairs_at f (y ∷ ys) (and_r (f x y) (pairs f (y ∷ ys)) t) k (le_of_suc-le-suc h)
-
--- ---- a mapped list
-module _ {A B : Type 0} (f : A → B) (d : A) (e : B) where
-  pub mapped_at : (xs : List A) (k : ℕ) → k < length xs → get_or (map f xs) k e ≡ f (get_or xs k d)
-  mapped_at [] k h = absurd (not-suc-le-zero h)
-  mapped_at (x ∷ xs) zero h = refl
-  mapped_at (x ∷ xs) (suc k) h = mapped_at xs k (le_of_suc-le-suc h)

@@ -1,21 +1,18 @@
--- A turn is one step of the definition.
-use Rattle.std.proofs.Common.{refl, sym, ◌∙◌}
-use lib.Ieee.{nan}
-use Rattle.grouping_chart.proofs.RefusalLaws.{first_from, first_none}
+-- A turn tests the next object.
+use Rattle.grouping_chart.proofs.RefusalLaws.{none_checked, next_passed, next_refused}
+use Rattle.std.proofs.Common.{sym, ◌∙◌}
 use Rattle.grouping_chart.proofs.refusal.first_refused.Goals as goal
 
 pub loop-i-init : goal.loop-i-init
-loop-i-init c = refl
+loop-i-init g c checks gives = none_checked checks
+
+pub returns-in-Err : goal.returns-in-Err
+returns-in-Err g c checks gives =
+    let i = c.loop-i.i in
+    next_refused checks i _ c.loop-i-test.true (c.loop-i.invariant checks gives)
+    (sym c.in-Err.is ∙ gives i _ c.loop-i-test.true c.test.ensures)
 
 pub loop-i-preserved : goal.loop-i-preserved
-loop-i-preserved c =
-    let asked = sym c.in_default.is ∙ c.object_refusal.ensures in
-    sym (first_from _ _ _ _ c.loop-i.i nan c.requires _ c.loop-i-test.true asked) ∙ c.loop-i.invariant
-
-pub returns-in-Some : goal.returns-in-Some
-returns-in-Some c =
-    let asked = sym c.in-Some.is ∙ c.object_refusal.ensures in
-    sym (first_from _ _ _ _ c.loop-i.i nan c.requires _ c.loop-i-test.true asked) ∙ c.loop-i.invariant
-
-pub returns : goal.returns
-returns c = first_none _ _ _ _ c.loop-i.i c.loop-i-test.false ∙ c.loop-i.invariant
+loop-i-preserved g c checks gives =
+    let i = c.loop-i.i in
+    next_passed checks i (c.loop-i.invariant checks gives) (sym c.in_default.is ∙ gives i _ c.loop-i-test.true c.test.ensures)

@@ -1,11 +1,9 @@
--- The loop's invariant: the first refused object from i on is the first of all, so none before i is refused.
-use Rattle.std.proofs.Common.{◌≡◌, drop}
-use Rattle.grouping_chart.specs.Lent.{seen}
-use Rattle.grouping_chart.specs.Refusal.{first_refused, objects_verdict}
+-- The loop's invariant: of the first i objects each passes its test.
+use Rattle.std.proofs.Common.{◌≡◌, ℕ, ◌<◌}
+use Rattle.grouping_chart.specs.Refusal.{Check, accepted}
+use Rattle.grouping_chart.specs.passes.Good.{first_at}
 use Rattle.grouping_chart.proofs.refusal.first_refused.Given as goal
 
 abbrev pub invariant-loop-i : goal.invariant-loop-i
-invariant-loop-i l =
-    let c = l.fn.chart in
-    first_refused l.i (drop l.i c.kind.now) (drop l.i c.start.now) (drop l.i c.delta.now) (drop l.i c.ratio.now)
-    ≡ objects_verdict (seen c)
+invariant-loop-i g l =
+    (checks : ℕ → Check) → ((i : ℕ) (given : Check) → i < l.n → goal.F-post g l.fn.test i given → given ≡ checks i) → accepted ≡ first_at checks l.i

@@ -3,7 +3,8 @@ use Rattle.std.proofs.Common.{◌≡◌, sym, ap, ◌∙◌, map, arith, rules}
 use lib.ListN.{length-map, get_or}
 use Rattle.lent.specs.Over.{over}
 use Rattle.lent.specs.Scan.{gathered}
-use Rattle.lent.proofs.FillLaws.{length-gathered, get_or-gathered, get_or-map, tabulate_places}
+use Rattle.std.proofs.lemmas.List.{get_or-map}
+use Rattle.lent.proofs.FillLaws.{length-gathered, get_or-gathered, tabulate_places}
 use Rattle.lent.proofs.fill.gather.Goals as goal
 
 pub returns : goal.returns

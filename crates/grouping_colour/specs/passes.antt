@@ -1,0 +1,2 @@
+-- What only the passes and their proofs need.
+pub mod Streaks
