@@ -216,27 +216,24 @@ later_few None i f = _
 later_few (Some c) i f = record { groups_le = f.groups_le; notes_le = omega (arith, f) }
 
 module _ {margin : Float} {ks : List ℕ} {ds : List Float} {s : Option Counting} {i : ℕ} (x : Counts margin ks ds s i) where
-  module _ {k : ℕ} {d : Float} (h : i < length ks) (kind : k ≡ get_or ks i 0) (delta : d ≡ get_or ds i nan) where
-    pub counts_note : (r : Option Counting) → is_note k ≡ true → r ≡ counted margin s d → Counts margin ks ds r (i + 1)
-    counts_note r n e = record {
-      whole = x.whole;
-      left =
-          rw e
-          (sym (ap (end_state (counted margin) s) (of_notes-step ks i true ds h x.whole (ap is_note (sym kind) ∙ n))
-          ∙ ap (λ (d : Float). end_state (counted margin) s (d ∷ of_notes (drop (i + 1) ks) (drop (i + 1) ds))) (sym delta)
-          ∙ after_first (counted margin) s d _)
-          ∙ x.left);
-      few = rw e (more_few margin s d i x.few);
-      upto = omega arith;
-    }
+  pub counts_note : (r : Option Counting) → i < length ks → is_note (get_or ks i 0) ≡ true → r ≡ counted margin s (get_or ds i nan) → Counts margin ks ds r (i + 1)
+  counts_note r h n e = record {
+    whole = x.whole;
+    left =
+        rw e
+        (sym (ap (end_state (counted margin) s) (of_notes-step ks i true ds h x.whole n) ∙ after_first (counted margin) s (get_or ds i nan) _)
+        ∙ x.left);
+    few = rw e (more_few margin s (get_or ds i nan) i x.few);
+    upto = omega arith;
+  }
 
-    pub counts_pass : is_note k ≡ false → Counts margin ks ds s (i + 1)
-    counts_pass n = record {
-      whole = x.whole;
-      left = sym (ap (end_state (counted margin) s) (of_notes-step ks i false ds h x.whole (ap is_note (sym kind) ∙ n))) ∙ x.left;
-      few = later_few s i x.few;
-      upto = omega arith;
-    }
+  pub counts_pass : i < length ks → is_note (get_or ks i 0) ≡ false → Counts margin ks ds s (i + 1)
+  counts_pass h n = record {
+    whole = x.whole;
+    left = sym (ap (end_state (counted margin) s) (of_notes-step ks i false ds h x.whole n)) ∙ x.left;
+    few = later_few s i x.few;
+    upto = omega arith;
+  }
 
   pub counts-end : length ks ≤ i → groups_in_all margin s ≡ group_count (interval_marks margin (of_notes ks ds))
   counts-end h =
