@@ -41,7 +41,8 @@ over_first first later (x ∷ old) k h e =
 
 pub ratios_stored : (deltas old : List Float) {new : List Float} → 0 < length deltas → length deltas ≤ length old
     → let k : ℕ = length (set old 0 one64) - 1 in
-    new ≡ over (tabulate (ratio_after deltas) (length deltas - 1)) (mid_of 1 k (set old 0 one64)) → put_mid 1 k (set old 0 one64) new ≡ over (ratios_from deltas) old
+    new ≡ over (tabulate (ratio_after deltas) (length deltas - 1)) (mid_of 1 k (set old 0 one64))
+    → put_mid 1 k (set old 0 one64) new ≡ over (ratios_from deltas) old
 ratios_stored deltas old h r e =
     let n = length deltas - 1 in
     let whole : length deltas ≡ suc n = omega arith in

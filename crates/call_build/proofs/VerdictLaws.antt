@@ -70,7 +70,8 @@ not_ratio rate r short =
     let objects = objects_verdict (built_chart rate r) in
     let asked = beside_refusal short rate in
     let equal = eqb (length r.times) (length r.kinds) in
-    let later : NotRatio (refused_or asked 0 objects) = beside_not_ratio short (rate_good rate) objects (objects_not_ratio 0 _ _ _ _ (all_ratios_good rate r)) in
+    let later : NotRatio (refused_or asked 0 objects) =
+    beside_not_ratio short (rate_good rate) objects (objects_not_ratio 0 _ _ _ _ (all_ratios_good rate r)) in
     let lengths = neither_ratio equal (refused_or asked 0 objects) (refused UnequalLengths) later (λ e. never (cc)) in
     neither_ratio (ltb 16386 (length r.kinds)) (refused TooManyObjects) _ (λ e. never (cc)) lengths
 

@@ -23,6 +23,7 @@ module _ (s : Settings) (c : Chart) (lent : Memory) (good : judged c lent ≡ ac
       rw (← colour-done s c lent (filled s c.kinds c.ratios lent) good refl)
       (get_or-over (values_of s c) lent.value i nan (omega (arith, length-values s.limit s.tolerance c.kinds c.ratios)))
 
-  pub stretch-answered : (a b : ℕ) → GoodStretch c.kinds a b → (stretch_outcome s c a b lent).answer ≡ Ok (stretch_mean (chart_mean s c a b) (chart_tenths s c a b))
+  pub stretch-answered : (a b : ℕ) → GoodStretch c.kinds a b
+      → (stretch_outcome s c a b lent).answer ≡ Ok (stretch_mean (chart_mean s c a b) (chart_tenths s c a b))
   stretch-answered a b x =
       rw (← stretch-done s c lent a b _ _ (filled s c.kinds c.ratios lent) (nothing-refused _ good x) refl refl refl)

@@ -33,7 +33,8 @@ module _ (kinds : List ℕ) (a b : ℕ) where
       either_outside false = refl
 
   -- where it is the chart's, its notes decide
-  inside-refused : a < b → b ≤ length kinds → (noted : Bool) → has_note (from_to a b kinds) ≡ noted → stretch_refusal kinds a b ≡ cond noted passed (Err NoNotes)
+  inside-refused : a < b → b ≤ length kinds → (noted : Bool) → has_note (from_to a b kinds) ≡ noted
+      → stretch_refusal kinds a b ≡ cond noted passed (Err NoNotes)
   unfolding stretch_refusal
   inside-refused h k noted e = rw (lt-leb b a h, le-ltb (length kinds) b k, e)
 

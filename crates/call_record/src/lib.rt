@@ -45,8 +45,8 @@ fn window_good(window: f64) -> bool
     numeric::range::is_within(1.0, 1000.0, window)
 }
 
-// Whether window and group number are good for an accepted chart. A window that is not good is refused, then a number that
-// no group has.
+// Whether window and group number are good for an accepted chart. A window that is not good is refused, then a number
+// that no group has.
 fn record_refusal(
     kind: &[u8],
     delta: &[f64],

@@ -1,5 +1,5 @@
-// The calls for C and Rust. Each hands its slices on and turns the answer into a record of plain numbers. The records, the
-// lists of slices and one function for each call are what C asks for.
+// The calls for C and Rust. Each hands its slices on and turns the answer into a record of plain numbers. The records,
+// the lists of slices, and a function and a conversion for each call are the C interface, which has no generic ones.
 #![tactic(auto)]
 
 ghost use Rattle.std.specs.Prelude.{◌≡◌};

@@ -14,7 +14,8 @@ use Rattle.lent.proofs.NeverLaws.{never}
 use Rattle.std.specs.Prelude.{Ok, Err}
 use Rattle.grouping_chart.specs.declared.refusal.Reason.{Reason}
 use Rattle.grouping_chart.specs.Chart.{Chart, equally_long}
-use Rattle.grouping_chart.specs.Refusal.{Check, passed, kind_good, time_good, ratio_good, Verdict, accepted, refused, refused_or, object_refusal, first_refused, in_order, objects_verdict, verdict}
+use Rattle.grouping_chart.specs.Refusal.{Check, passed, kind_good, time_good, ratio_good, Verdict, accepted, refused, refused_or, object_refusal}
+use Rattle.grouping_chart.specs.Refusal.{first_refused, in_order, objects_verdict, verdict}
 use Rattle.grouping_chart.specs.passes.Good.{SameLengths, all, all_good}
 use Rattle.grouping_chart.proofs.AllLaws.{all_each}
 use Rattle.grouping_chart.proofs.RefusalLaws.{all_equal, verdict-objects}

@@ -17,7 +17,8 @@ use Rattle.std.proofs.lemmas.Bool.{and_parts}
 use Rattle.grouping_chart.specs.declared.refusal.Reason.{Reason}
 use Rattle.grouping_chart.specs.declared.refusal.Reason.TheVariants.{TooManyObjects, UnequalLengths, UnknownKind, BadStart, BadDelta, BadRatio}
 use Rattle.grouping_chart.specs.Chart.{Chart, equally_long}
-use Rattle.grouping_chart.specs.Refusal.{Check, passed, kind_good, time_good, ratio_good, Verdict, accepted, refusal, refused, refused_or, object_refusal, first_refused, objects_verdict, verdict}
+use Rattle.grouping_chart.specs.Refusal.{Check, passed, kind_good, time_good, ratio_good, Verdict, accepted, refusal, refused, refused_or}
+use Rattle.grouping_chart.specs.Refusal.{object_refusal, first_refused, objects_verdict, verdict}
 use Rattle.grouping_chart.specs.passes.Good.{SameLengths, all, or_later, first_at}
 
 -- a good ratio may stand for another
@@ -43,7 +44,8 @@ pub first_none : (kinds : List ℕ) (starts deltas ratios : List Float) (i : ℕ
 unfolding first_refused
 first_none kinds starts deltas ratios i h = rw (drop_of_length-le kinds h)
 
-later_step : (v : Verdict) (check : Check) (i : ℕ) (later : Verdict) → or_later (or_later v (refused_or check i accepted)) later ≡ or_later v (refused_or check i later)
+later_step : (v : Verdict) (check : Check) (i : ℕ) (later : Verdict)
+    → or_later (or_later v (refused_or check i accepted)) later ≡ or_later v (refused_or check i later)
 later_step (Ok done) (Ok good) i later = refl
 later_step (Ok done) (Err reason) i later = refl
 later_step (Err first) check i later = refl
@@ -106,7 +108,8 @@ other_reason true true false i later l = λ e. never (cc)
 other_reason true false d i later l = λ e. never (cc)
 other_reason false s d i later l = λ e. never (cc)
 
-object_not_ratio : (k : ℕ) (s d r : Float) → ratio_good r ≡ true → (i : ℕ) (later : Verdict) → NotRatio later → NotRatio (refused_or (object_refusal k s d r) i later)
+object_not_ratio : (k : ℕ) (s d r : Float) → ratio_good r ≡ true → (i : ℕ) (later : Verdict) → NotRatio later
+    → NotRatio (refused_or (object_refusal k s d r) i later)
 unfolding object_refusal
 object_not_ratio k s d r g i later l = rw g (other_reason (kind_good k) (time_good s) (time_good d) i later l)
 

@@ -1,6 +1,6 @@
 -- Why a call refuses, where, and the order of the tests for refusals 1 to 7 (scope: "Refused by number"): 1, 2, what is
 -- refused beside the chart, then 4 to 7 for one object after another. Room.antt alone says what is refused beside the
--- chart, and when. A refusal has a reason, whose number is what C is told, and a place: the object's for 4 to 7, else 0.
+-- chart, and when. A refusal has a reason, whose number C is told, and a place: the object's for 4 to 7, else 0.
 use Rattle.std.specs.Prelude.{ℕ, ◌+◌, Bool, cond, List, [], ◌∷◌, leb, ltb, Float, Result, Ok, Err}
 use Rattle.numeric.specs.Range.{within, earliest, latest, least_ratio, greatest_ratio}
 use Rattle.grouping_chart.specs.Chart.{Chart, size, largest, equally_long}

@@ -73,7 +73,8 @@ pub fn is_note(kind: u8) -> bool
     }
 }
 
-// The note number of an object of this kind, where `next` notes stand before it.
+// The note number of an object of this kind, where `next` notes stand before it: 0 where there is none, which is what
+// the source says and so no plainer as an Option.
 pub fn note_index(kind: u8, next: NoteIndex) -> NoteIndex
     ensures { result.0 ≡ cond (is_note kind) next.0 0 }
 {

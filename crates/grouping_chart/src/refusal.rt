@@ -142,7 +142,7 @@ fn equally_long(chart: Chart) -> bool
     chart.start.len() == n && chart.delta.len() == n && chart.ratio.len() == n
 }
 
-// Refusals 1 to 7 of a call on a chart; `beside` is the test of what is beside it, whose refusal comes straight after 2.
+// Refusals 1 to 7 of a call on a chart; `beside` is the test of what is beside it, which is refused straight after 2.
 pub fn check(chart: Chart, beside: Result<(), Reason>) -> Result<(), Refusal>
     ensures { result ≡ verdict (seen chart.entry) beside }
 {

@@ -216,7 +216,8 @@ later_few None i f = _
 later_few (Some c) i f = record { groups_le = f.groups_le; notes_le = omega (arith, f) }
 
 module _ {margin : Float} {ks : List ℕ} {ds : List Float} {s : Option Counting} {i : ℕ} (x : Counts margin ks ds s i) where
-  pub counts_note : (r : Option Counting) → i < length ks → is_note (get_or ks i 0) ≡ true → r ≡ counted margin s (get_or ds i nan) → Counts margin ks ds r (i + 1)
+  pub counts_note : (r : Option Counting) → i < length ks → is_note (get_or ks i 0) ≡ true → r ≡ counted margin s (get_or ds i nan)
+      → Counts margin ks ds r (i + 1)
   counts_note r h n e = record {
     whole = x.whole;
     left =

@@ -13,12 +13,14 @@ use Rattle.grouping_preprocessor.specs.passes.Steps as steps
 use Rattle.grouping_preprocessor.specs.passes.LookUps.{Cut, streak_places, patterns, pattern_places, hits, intervals, Linked, TablesOf}
 use Rattle.grouping_preprocessor.specs.declared.Levels.{Levels}
 use Rattle.grouping_preprocessor.specs.declared.tables.Tables.{Tables}
-use Rattle.grouping_preprocessor.proofs.BoundLaws.{length-patterns_open, length-hits_open, length-hit_intervals, length-alternating_of, length-hit_of, alternating_of-below, hit_of-below}
+use Rattle.grouping_preprocessor.proofs.BoundLaws.{length-patterns_open, length-hits_open, length-hit_intervals, length-alternating_of, length-hit_of}
+use Rattle.grouping_preprocessor.proofs.BoundLaws.{alternating_of-below, hit_of-below}
 use Rattle.grouping_preprocessor.proofs.BoundLaws.{streak_place_of_looked, alternating_of_looked, pattern_place_of_looked, hit_of_looked, interval_of_looked}
 
 -- ---- the tables that the encoder left, cut
 
-pub tables_of : {limit : ℕ} {kinds w₀ w : List ℕ} {k : Levels} {t : Tables} → steps.Tables limit kinds w₀ w k → Cut (length kinds) k w t → TablesOf limit kinds t
+pub tables_of : {limit : ℕ} {kinds w₀ w : List ℕ} {k : Levels} {t : Tables} → steps.Tables limit kinds w₀ w k
+    → Cut (length kinds) k w t → TablesOf limit kinds t
 tables_of e c = record {
   streak = c.streak ∙ e.streak;
   pattern = c.pattern ∙ e.pattern;

@@ -17,8 +17,8 @@ use lent::fill;
 
 pub mod tables;
 
-// How many streaks, alternating patterns and hit patterns there are, and the search limit of the intervals, by which the
-// clauses of whoever reads the tables say how they were made: to hand it over beside the counts would be no plainer.
+// How many streaks, alternating patterns and hit patterns there are, and the search limit of the intervals, by which
+// the clauses of whoever reads the tables say how they were made: to hand it over beside the counts would be no plainer.
 #[derive(Clone, Copy)]
 pub struct Levels {
     pub streaks: usize,

@@ -67,5 +67,6 @@ module _ (s : Settings) (c c' : Chart) {m p p' : ℕ} (k : SameLast m c.kinds c'
         done = stretch-answered s c lent x;
         stretch = λ a b a' b' y z from to.
             let same = claim.stretch a b a' b' y z from to in
-            stretch-answered s c lent x a b z ∙ (λ i. Ok (stretch_mean (same.mean i) (same.tenths i))) ∙ sym (stretch-answered s c' lent' x' a' b' same.accepted);
+            stretch-answered s c lent x a b z ∙ (λ i. Ok (stretch_mean (same.mean i) (same.tenths i)))
+            ∙ sym (stretch-answered s c' lent' x' a' b' same.accepted);
       }

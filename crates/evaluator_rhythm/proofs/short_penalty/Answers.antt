@@ -8,7 +8,9 @@ use Rattle.evaluator_rhythm.proofs.WalkLaws.{walked}
 use Rattle.evaluator_rhythm.proofs.short_penalty.Goals as goal
 
 pub returns-then-notes-lt6 : goal.returns-then-notes-lt6
-returns-then-notes-lt6 c = rw (lt-ltb c.args.notes 6 c.if-notes-lt6.true) (c.walk.ensures ∙ ap (penalty_among c.args.threshold) c.newest_four.ensures ∙ walked c.args.threshold 4 (newest_first c.args.owns))
+returns-then-notes-lt6 c =
+    rw (lt-ltb c.args.notes 6 c.if-notes-lt6.true)
+    (c.walk.ensures ∙ ap (penalty_among c.args.threshold) c.newest_four.ensures ∙ walked c.args.threshold 4 (newest_first c.args.owns))
 
 pub returns-else-notes-lt6 : goal.returns-else-notes-lt6
 unfolding of_bits

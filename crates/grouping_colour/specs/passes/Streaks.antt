@@ -1,5 +1,5 @@
--- The pass that marks streaks, by the kind of the last note so far, if there is one. The law that it makes the marks of the definition
--- is `streak_marks_passed`, in proofs/StreakLaws.antt.
+-- The pass that marks streaks, by the kind of the last note so far, if there is one. The law that it makes the marks of
+-- the definition is `streak_marks_passed`, in proofs/StreakLaws.antt.
 use Rattle.std.specs.Prelude.{ℕ, cond, eqb, Option, Some, None}
 use Rattle.grouping_chart.specs.Object.{is_note}
 

@@ -14,5 +14,6 @@ returns c =
     let others = c.iter.result.rest.now in
     set_counted c.args.margin values others _ c.requires c.iter.ensures.rest
     (count_from_yields_List c.take_while.result _ c.count.ensures.ran
-    (YieldsList-from_take_while {ys = others} _ (λ v. is_near c.args.margin v (get_or values 0 nan)) (YieldsList-from_slice others (cc)) c.take_while.ensures.closure c.take_while.ensures.done
+    (YieldsList-from_take_while {ys = others} _ (λ v. is_near c.args.margin v (get_or values 0 nan)) (YieldsList-from_slice others (cc))
+    c.take_while.ensures.closure c.take_while.ensures.done
     (λ x b q k. search (rules, tests))))

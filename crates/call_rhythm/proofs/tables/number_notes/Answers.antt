@@ -12,6 +12,7 @@ returns c =
     let apart = c.split_at_mut-objects.ensures in
     let again = c.split_at_mut-firsts.ensures in
     let r =
-    notes_numbered _ _ _ _ c.requires _ (marks_put _ _ _ _ c.requires c.mark_intervals.ensures) _ _ apart.front apart.back _ _ again.front again.back _ c.group_firsts.ensures _
+    notes_numbered _ _ _ _ c.requires _ (marks_put _ _ _ _ c.requires c.mark_intervals.ensures) _ _ apart.front apart.back _ _ again.front again.back _
+    c.group_firsts.ensures _
     c.group_numbers.ensures _ c.if-notes-eq0.false c.from.ensures in
     record { count = r.0; work = r.1 }
