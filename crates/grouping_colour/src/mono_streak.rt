@@ -23,7 +23,7 @@ fn last_after(last: Option<u8>, k: u8) -> Option<u8>
 }
 
 // Marks the objects that open a streak. The marks are written by index, as no proof knows writes through a zip with
-// `iter_mut`; and each turn chooses without a jump by the kind.
+// `iter_mut`. A turn stores and chooses only what, as the passes over marks do.
 pub fn mark_streaks(kind: &[u8], marks: &mut [u16])
     requires { length kind.now ≤ length marks.old }
     ensures { marks.new ≡ over (streak_marks kind.now) marks.old }

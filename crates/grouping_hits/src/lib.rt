@@ -90,8 +90,7 @@ pub fn second_lengths(lengths: &[u16], marks: &[u16], seconds: &mut [u16])
     fill::by_place(lengths.len(), seconds, |i| second_at(lengths, marks, i));
 }
 
-// k where it is found. A select under a name, so that the loop stores in each turn: a jump by what is found would often
-// be guessed wrong, as one by a mark is.
+// k where it is found. A choice under a name, so that the loop stores in each turn, as the passes over marks do.
 fn nearer(found: bool, k: u16, other: u16) -> u16
     ensures { result ≡ cond found k other }
 {
