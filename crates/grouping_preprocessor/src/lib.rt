@@ -18,8 +18,8 @@ use lent::fill;
 pub mod tables;
 
 // How many streaks, alternating patterns and hit patterns there are, and the search limit of the intervals, by which
-// the clauses of whoever reads the tables say how they were made: to hand it over beside the counts would be no plainer.
-#[derive(Clone, Copy)]
+// How many streaks, alternating patterns and hit patterns there are, and the search limit of the intervals. By it the
+// clauses of who reads the tables say how they were made; to hand it over beside the counts would be no plainer.
 pub struct Levels {
     pub streaks: usize,
     pub patterns: usize,
