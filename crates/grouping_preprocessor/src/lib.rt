@@ -17,9 +17,9 @@ use lent::fill;
 
 pub mod tables;
 
-// How many streaks, alternating patterns and hit patterns there are, and the search limit of the intervals, by which
 // How many streaks, alternating patterns and hit patterns there are, and the search limit of the intervals. By it the
 // clauses of who reads the tables say how they were made; to hand it over beside the counts would be no plainer.
+#[derive(Clone, Copy)]
 pub struct Levels {
     pub streaks: usize,
     pub patterns: usize,
