@@ -4,7 +4,7 @@ use mathlib.Core.Bool.{Bool}
 use mathlib.Core.List.{List}
 use Prim.Native.Nat.{ℕ}
 use native.Mathlib.Omega.{arith}
-use lib.ListN.{take, drop}
+use lib.ListN.{length, take, drop}
 use lib.Ieee.{Float}
 use Rattle.std.specs.Prelude.{Ok}
 use Rattle.lent.specs.Over.{over}
@@ -24,25 +24,23 @@ use Rattle.call_build.proofs.BuiltLaws.{ratios_of_built}
 use Rattle.call_build.proofs.ChartLaws.{built-size, built-lengths}
 use Rattle.call_build.proofs.VerdictLaws.{all_passed}
 
+-- an accepted call has room
+pub build_room : (rate : Float) (r : Raw) (m : Memory) → judged rate r m ≡ accepted → BuildRoom r m
+build_room rate r m h =
+    let p = all_passed rate r _ h in
+    let l = all_long (built_size r) (answer_lengths m) p.long in
+    record { kind = l.0; start = l.1.0; delta = l.1.1.0; ratio = l.1.1.1.0 }
+
+-- and as many times as kinds
+pub as-many-times : (rate : Float) (r : Raw) (m : Memory) → judged rate r m ≡ accepted → length r.times ≡ length r.kinds
+as-many-times rate r m h = (all_passed rate r _ h).times
+
 -- from whether an answer slice is short, and what `judge` answered
 pub judged-told : (rate : Float) (r : Raw) (m : Memory) {n : ℕ} {short : Bool} {v u : Verdict} → built_size r ≡ n → short ≡ any_short n (answer_lengths m)
     → v ≡ verdict_of rate r short → v ≡ u → judged rate r m ≡ u
 judged-told rate r m size e f g = rw (size, ← e) (sym f ∙ g)
 
 module _ (rate : Float) (r : Raw) (m : Memory) {n : ℕ} (size : built_size r ≡ n) where
-  -- an accepted call has room
-  pub build_room : judged rate r m ≡ accepted → BuildRoom r n m
-  build_room h =
-      let p = all_passed rate r _ h in
-      let l = all_long (built_size r) (answer_lengths m) p.long in
-      record {
-        raw = record { size = size; times = p.times };
-        kind = rw (← size) l.0;
-        start = rw (← size) l.1.0;
-        delta = rw (← size) l.1.1.0;
-        ratio = rw (← size) l.1.1.1.0;
-      }
-
   -- the four lists, as the passes leave them, are the built chart's
   pub chart-filled : {kind : List ℕ} {start delta ratio : List Float} → kind ≡ over (drop 2 r.kinds) m.kind
       → start ≡ over (built_starts rate r.times n) m.start → delta ≡ over (built_deltas rate r.times n) m.delta

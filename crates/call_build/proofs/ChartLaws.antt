@@ -1,12 +1,11 @@
 -- The built chart, object by object: its lists are of one length, no ratio is refused, and an object is refused as its raw object says.
-use mathlib.Core.Path.{◌≡◌, refl, sym, ◌∙◌}
+use mathlib.Core.Path.{◌≡◌, sym, ◌∙◌}
 use mathlib.Core.Bool.{Bool, true, ◌&&◌}
-use mathlib.Core.List.{List, [], ◌∷◌}
-use Prim.Native.Nat.{ℕ, zero, suc, ◌+◌, ◌-◌, ◌<◌}
+use Prim.Native.Nat.{ℕ, zero, suc, ◌+◌, ◌<◌}
 use native.Mathlib.Nat.{add_comm}
 use native.Mathlib.Omega.{arith}
-use lib.ListN.{length, take, drop, get_or, length-drop}
-use lib.Seq.{get_or-drop, drop-nil, take_all}
+use lib.ListN.{length, drop, get_or, length-drop}
+use lib.Seq.{get_or-drop}
 use lib.Ieee.{Float, nan, le}
 use Rattle.std.proofs.lemmas.Bool.{and_parts}
 use Rattle.lent.proofs.FillLaws.{length-tabulate, get_or-tabulate}
@@ -29,17 +28,6 @@ ratio_good_lem : (rate : Float) (r : Raw) (i : ℕ) → ratio_good (ratio_at rat
 unfolding ratio_at
 ratio_good_lem rate r zero = one_good
 ratio_good_lem rate r (suc i) = common_good (nearest_common _)
-
--- the raw kinds behind the first two, as code lends them: from so far that n are left
-kinds_left : (kinds : List ℕ) (n : ℕ) → length kinds - 2 ≡ n → drop (length kinds - n) kinds ≡ drop 2 kinds
-kinds_left [] n e = drop-nil (0 - n)
-kinds_left (k ∷ []) n e = rw (← e) refl
-kinds_left (k ∷ (l ∷ ks)) n e = let two : suc (suc (length ks)) - n ≡ 2 = omega arith in rw two refl
-
-pub lent-kinds : (kinds : List ℕ) (n : ℕ) → length kinds - 2 ≡ n → take (length kinds - (length kinds - n)) (drop (length kinds - n) kinds) ≡ drop 2 kinds
-lent-kinds kinds n e =
-    let from = length kinds - n in
-    take_all (length kinds - from) (drop from kinds) (omega (arith, length-drop from kinds)) ∙ kinds_left kinds n e
 
 module _ (rate : Float) (r : Raw) where
   pub built-size : size (built_chart rate r) ≡ built_size r

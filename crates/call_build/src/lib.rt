@@ -10,6 +10,7 @@ ghost use Rattle.call_build.specs.passes.Room.{BuildRoom};
 
 use grouping_chart::refusal::Refusal;
 use lent::fill;
+use objects::Timed;
 
 pub mod objects;
 pub mod ratio;
@@ -25,31 +26,32 @@ pub struct Raw<'a> {
     pub time: &'a [f64],
 }
 
-// How many objects are built of the raw ones.
-fn built_size(raw: Raw) -> usize
-    ensures { result ≡ length raw.entry.kind.now - 2 }
-{
-    raw.kind.len().saturating_sub(2)
+impl Raw<'_> {
+    // How many objects are built.
+    pub(crate) fn size(self) -> usize
+        ensures { result ≡ length self.entry.kind.now - 2 }
+    {
+        self.kind.len().saturating_sub(2)
+    }
 }
 
 // What the call does with accepted objects: the ratios are made of the deltas that were filled.
 fn fill_chart(
-    raw: Raw,
-    rate: f64,
-    n: usize,
+    timed: Timed,
     built_kind: &mut [u8],
     start: &mut [f64],
     delta: &mut [f64],
     ratio: &mut [f64],
 )
-    requires { BuildRoom (seen raw) n (memory built_kind.old start.old delta.old ratio.old) }
+    requires { BuildRoom (seen timed.raw) (memory built_kind.old start.old delta.old ratio.old) }
     ensures { memory built_kind.new start.new delta.new ratio.new
-        ≡ filled (built_chart rate (seen raw.entry)) (memory built_kind.old start.old delta.old ratio.old) }
+        ≡ filled (built_chart timed.entry.rate (seen timed.entry.raw))
+        (memory built_kind.old start.old delta.old ratio.old) }
 {
-    let from = raw.kind.len() - n;
-    fill::copy(&raw.kind[from..], built_kind);
-    objects::fill_starts(raw.time, rate, n, start);
-    objects::fill_deltas(raw.time, rate, n, delta);
+    let n = timed.raw.size();
+    fill::copy(timed.kinds(), built_kind);
+    fill::by_place(n, start, |i| timed.start(i));
+    fill::by_place(n, delta, |i| timed.delta(i));
     objects::fill_ratios(&delta[..n], ratio);
 }
 
@@ -65,9 +67,9 @@ pub fn build(
     ensures { outcome result (memory built_kind.new start.new delta.new ratio.new)
         ≡ build_outcome rate (seen raw.entry) (memory built_kind.old start.old delta.old ratio.old) }
 {
-    let n = built_size(raw);
+    let n = raw.size();
     let short = (built_kind.len() < n) | (start.len() < n) | (delta.len() < n) | (ratio.len() < n);
-    verdict::judge(raw, rate, n, short)?;
-    fill_chart(raw, rate, n, built_kind, start, delta, ratio);
+    verdict::judge(raw, rate, short)?;
+    fill_chart(Timed { raw, rate }, built_kind, start, delta, ratio);
     Ok(n)
 }

@@ -7,4 +7,5 @@ use Rattle.call_build.proofs.verdict.built_refusal.Goals as goal
 pub returns : goal.returns
 unfolding of_bits
 returns c =
-    reason_found c.args.rate (seen c.args.raw) c.args.i c.requires.inside c.start_at-start.ensures c.delta_at-delta.ensures c.object_refusal.ensures
+    let t = c.args.timed in
+    reason_found t.rate (seen t.raw) c.args.i c.requires c.start-start.ensures c.delta-delta.ensures c.object_refusal.ensures
