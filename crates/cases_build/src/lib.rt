@@ -16,11 +16,14 @@ use vectors::case::Head;
 use vectors::column::Column;
 use vectors::form::formed;
 use vectors::room::{Room, Spare};
-use vectors::sentinel::{BYTE_SENTINEL, FLOAT_SENTINEL, MOST_PLACES};
+use vectors::sentinel::{BYTE_SENTINEL, FLOAT_SENTINEL, MOST_OBJECTS, MOST_PLACES};
 use vectors::{case, table};
 
 // The most raw objects: the first two build none.
-const MOST_RAW: usize = 16386;
+const MOST_RAW: usize = MOST_OBJECTS + 2;
+
+// The most bytes of a body, which has the raw objects and the largest chart.
+pub const MOST_BODY: usize = 10 + 9 * MOST_RAW + 25 * MOST_OBJECTS;
 
 // How many raw objects the body has.
 #[tactic(auto, unfolding(crate::specs::Build::raw_size))]
@@ -83,7 +86,7 @@ fn call_holds(m: usize, room: Room, body: &[u8]) -> bool
         (build_outcome (stored_rate body.now) (stored_raw m body.now) (build_lent n room.spare))) }
 {
     let n = room.head.objects;
-    let places = n + room.spare;
+    let places = room.places();
     let rate = stored_rate(body);
     let mut times = [0.0; MOST_RAW];
     table::read(body, 10 + m, 0, 0, m, &mut times);

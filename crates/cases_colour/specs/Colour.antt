@@ -46,8 +46,11 @@ stretch_of stored =
 -- ---- what is compared
 
 -- the mean by its bits, and the tenths
+abbrev pub FoundIs : StoredStretch → StretchMean → Type 0
+FoundIs s found = (to_bits binary64 found.mean ≡ s.mean) × (found.tenths ≡ signed_of s.tenths)
+
 unfoldable pub MeanIs : StoredStretch → Result StretchMean Refusal → Type 0
-MeanIs s (Ok found) = (to_bits binary64 found.mean ≡ s.mean) × (found.tenths ≡ signed_of s.tenths)
+MeanIs s (Ok found) = FoundIs s found
 MeanIs s (Err first) = ⊥
 
 -- the call that is asked accepts the chart, and answers as the original did

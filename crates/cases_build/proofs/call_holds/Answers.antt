@@ -3,4 +3,4 @@ use Rattle.cases_build.proofs.BuildLaws.{made_told}
 use Rattle.cases_build.proofs.call_holds.Goals as goal
 
 pub returns : goal.returns
-returns c = made_told c.args.room.few _ _ c.read.ensures c.stored_rate-rate.ensures c.lent_holds.ensures
+returns c = made_told c.args.room.few _ _ c.read.ensures c.stored_rate-rate.ensures (rw c.places-places.ensures at c.lent_holds.ensures)
