@@ -129,9 +129,11 @@ fn call_holds(asked: Asked, room: Room, body: &[u8]) -> bool
 {
     let n = room.head.objects;
     let places = room.places();
-    let table = 2 + n + room.column_size() + 8 * n;
+    let at = 2 + n + room.column_size() + 8 * n;
+    let table = Column::words(body, at, usize::from(case::pair_at(body, 0)));
+    let names = Column::numbers(body, 2 + n, room.head.width, n);
     let mut ratios = [0.0; MOST_OBJECTS];
-    vectors::table::read(body, table, 2 + n, room.head.width, n, &mut ratios);
+    vectors::table::read_named(&table, &names, &mut ratios);
     let ones = [1.0; MOST_OBJECTS];
     let chart = Chart {
         kind: &body[2..2 + n],

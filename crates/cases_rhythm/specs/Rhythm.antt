@@ -9,9 +9,9 @@ use Rattle.grouping_chart.specs.Settings.{base_settings}
 use Rattle.grouping_chart.specs.declared.refusal.Refusal.{Refusal}
 use Rattle.call_rhythm.specs.Call.{Memory, rhythm_outcome}
 use Rattle.call_rhythm.specs.declared.GroupTotals.{GroupTotals}
-use Rattle.vectors.specs.Case.{pair_at, column}
+use Rattle.vectors.specs.Case.{pair_at, column, words}
 use Rattle.vectors.specs.Held.{FrontHeld}
-use Rattle.vectors.specs.Table.{entries}
+use Rattle.vectors.specs.Table.{floats}
 use Rattle.vectors.specs.declared.call.Call.TheVariants.{Rhythm}
 use Rattle.vectors.specs.declared.case.Head.{Head}
 use Rattle.vectors.specs.Form.{Formed, Holds}
@@ -24,8 +24,8 @@ use Rattle.vectors.specs.Sentinel.{number_sentinel, numbers_lent, floats_lent, w
 unfoldable pub rhythm_chart : ℕ → List ℕ → Chart
 rhythm_chart n body = record {
   kinds = part 4 n body;
-  starts = entries body (4 + n) 0 0 n;
-  deltas = entries body (4 + 9 * n) 0 0 n;
+  starts = floats (words body (4 + n) n);
+  deltas = floats (words body (4 + 9 * n) n);
   ratios = replicate n one64;
 }
 

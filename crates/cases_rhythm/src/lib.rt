@@ -27,8 +27,8 @@ pub fn read_times(n: usize, body: &[u8], start: &mut [f64], delta: &mut [f64])
     requires { TimesRoom n start.old delta.old }
     ensures { TimesRead n body.now start.old start.new delta.old delta.new }
 {
-    table::read(body, 4 + n, 0, 0, n, start);
-    table::read(body, 4 + 9 * n, 0, 0, n, delta);
+    table::read(&Column::words(body, 4 + n, n), start);
+    table::read(&Column::words(body, 4 + 9 * n, n), delta);
 }
 
 // Whether the chart is accepted, with as many groups and pattern groups as the body's first two numbers say.

@@ -13,9 +13,9 @@ use Rattle.vectors.specs.declared.column.Width.{Width}
 use Rattle.vectors.specs.declared.column.Width.TheVariants.{One, Two, Eight}
 
 module _ (s : List ℕ) (at : ℕ) (width : Width) (n : ℕ) where
-  pub length-values : length (values s at width n) ≡ n
+  pub long : length (values s at width n) ≡ n
   unfolding values
-  length-values = length-tabulate (value_at s at width) n
+  long = length-tabulate (value_at s at width) n
 
   pub get_or-values : (i d : ℕ) → i < n → get_or (values s at width n) i d ≡ value_at s at width i
   unfolding values
@@ -24,8 +24,8 @@ module _ (s : List ℕ) (at : ℕ) (width : Width) (n : ℕ) where
   -- any list of so many values
   same_values : (xs : List ℕ) → length xs ≡ n → ((i : ℕ) → i < n → value_at s at width i ≡ get_or xs i 0) → values s at width n ≡ xs
   same_values xs e f =
-      ext_get_or 0 (values s at width n) xs (length-values ∙ sym e)
-      (λ i h. let l : i < n = omega (arith, length-values) in get_or-values i 0 l ∙ f i l)
+      ext_get_or 0 (values s at width n) xs (long ∙ sym e)
+      (λ i h. let l : i < n = omega (arith, long) in get_or-values i 0 l ∙ f i l)
 
 pub values_bytes : (s : List ℕ) (at n : ℕ) → at + n ≤ length s → values s at One n ≡ part at n s
 unfolding value_at
@@ -61,7 +61,7 @@ values_zeros n = same_values [] 0 One n (replicate n 0) (length-replicate n 0) (
 -- what a caller sees of a column, as the list of its values
 module _ (s : List ℕ) (at : ℕ) (width : Width) (n : ℕ) (xs : List ℕ) (e : values s at width n ≡ xs) where
   pub counted : n ≡ length xs
-  counted = sym (length-values s at width n) ∙ ap length e
+  counted = sym (long s at width n) ∙ ap length e
 
   pub read : {v : ℕ} (i : ℕ) → i < n → v ≡ value_at s at width i → Some v ≡ slice_get xs i
   read {v} i h q =

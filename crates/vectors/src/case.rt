@@ -3,7 +3,7 @@ ghost use Rattle.std.specs.Prelude.{◌≡◌, ◌+◌, ◌*◌, ◌^◌, ◌<�
 ghost use Rattle.std.specs.Float.Ieee as Ieee;
 ghost use Rattle.lent.specs.Scan.{tabulate};
 ghost use Rattle.std.specs.Float.{binary64};
-ghost use Rattle.vectors.specs.Case.{pair_at, column_size, number_at, quad_at, word_at, head_of};
+ghost use Rattle.vectors.specs.Case.{pair_at, column_size, quad_at, word_at, head_of};
 
 use crate::call::Call;
 use std::array;
@@ -80,18 +80,6 @@ pub fn column_size(n: usize, width: u8) -> usize
     ensures { (result ≡ column_size n width) × (result ≤ 2 * n) }
 {
     if width == 1 { n } else { 2 * n }
-}
-
-// Number i of a column that begins at a place.
-#[tactic(auto, unfolding(crate::specs::Case::number_at))]
-pub fn number_at(s: &[u8], at: usize, width: u8, i: usize) -> u16
-    requires { at + 2 * i + 1 < 2 ^ 64 }
-    ensures { result ≡ number_at s.now at width i }
-{
-    if width == 1 {
-        return u16::from(byte_at(s, at + i));
-    }
-    pair_at(s, at + 2 * i)
 }
 
 // The float that has these bits.

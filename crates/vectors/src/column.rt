@@ -51,10 +51,11 @@ impl<'a> Model for Column<'a> {
 
 impl<'a> Column<'a> {
     // Numbers of the width that a head says.
-    #[tactic(auto, using(crate::proofs::ColumnLaws::values_numbers))]
+    #[tactic(auto, using(crate::proofs::ColumnLaws::values_numbers, crate::proofs::ColumnLaws::long))]
     pub fn numbers(bytes: &'a [u8], at: usize, width: u8, count: usize) -> Column<'a>
         requires { at + 2 * count < 2 ^ 64 }
-        ensures { result ≡ column bytes.now at width count }
+        ensures values { result ≡ column bytes.now at width count }
+        ensures long { length result ≡ count }
     {
         Column {
             bytes,
@@ -78,10 +79,11 @@ impl<'a> Column<'a> {
     }
 
     // Words of eight bytes, as the bits of floats are.
-    #[tactic(auto, using(crate::proofs::ColumnLaws::values_words))]
+    #[tactic(auto, using(crate::proofs::ColumnLaws::values_words, crate::proofs::ColumnLaws::long))]
     pub fn words(bytes: &'a [u8], at: usize, count: usize) -> Column<'a>
         requires { at + 8 * count < 2 ^ 64 }
-        ensures { result ≡ words bytes.now at count }
+        ensures values { result ≡ words bytes.now at count }
+        ensures long { length result ≡ count }
     {
         Column {
             bytes,
