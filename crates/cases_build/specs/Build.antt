@@ -1,6 +1,6 @@
 -- When a stored case of build holds: on the raw objects that its bytes say and slices full of sentinels
 -- the call's definition gives the original's answer.
-use Rattle.std.specs.Prelude.{◌≡◌, List, map, ℕ, ◌+◌, ◌-◌, ◌*◌, length, replicate, Float, Result, Ok}
+use Rattle.std.specs.Prelude.{◌≡◌, List, map, ℕ, ◌+◌, ◌-◌, ◌*◌, length, drop, replicate, Float, Result, Ok}
 use Rattle.std.specs.Float.{binary64}
 use Rattle.std.specs.Float.Ieee.{to_bits, of_bits}
 use Rattle.lent.specs.Over.{part}
@@ -10,7 +10,7 @@ use Rattle.call_build.specs.Build.{Raw}
 use Rattle.call_build.specs.Call.{Memory, build_outcome}
 use Rattle.vectors.specs.Case.{pair_at, word_at, words}
 use Rattle.vectors.specs.Held.{FrontHeld}
-use Rattle.vectors.specs.Table.{entries}
+use Rattle.vectors.specs.Table.{floats}
 use Rattle.vectors.specs.declared.call.Call.TheVariants.{Build}
 use Rattle.vectors.specs.declared.case.Head.{Head}
 use Rattle.vectors.specs.Form.{Formed, Holds}
@@ -28,7 +28,7 @@ stored_rate body = of_bits binary64 (word_at body 2)
 
 -- and behind that the m kinds and the m times, in turn
 unfoldable pub stored_raw : ℕ → List ℕ → Raw
-stored_raw m body = record { kinds = part 10 m body; times = entries body (10 + m) 0 0 m }
+stored_raw m body = record { kinds = part 10 m body; times = floats (words body (10 + m) m) }
 
 -- ---- what is compared
 
@@ -43,19 +43,19 @@ build_lent n spare = record {
 
 -- n floats from a place on, by their bits, and the sentinel past them
 abbrev pub FloatsHeld : List ℕ → ℕ → ℕ → List Float → Type 0
-FloatsHeld body at n got = FrontHeld (words body at n) (to_bits binary64 float_sentinel) (map (to_bits binary64) got)
+FloatsHeld stored at n got = FrontHeld (words stored at n) (to_bits binary64 float_sentinel) (map (to_bits binary64) got)
 
--- the chart of n objects that begins at a place: kinds, starts, deltas and ratios
-pub record ChartHeld (at n : ℕ) (body : List ℕ) (m : Memory) : Type 0 where
-  pub kinds : FrontHeld (part at n body) byte_sentinel m.kind
-  pub starts : FloatsHeld body (at + n) n m.start
-  pub deltas : FloatsHeld body (at + 9 * n) n m.delta
-  pub ratios : FloatsHeld body (at + 17 * n) n m.ratio
+-- the stored chart of n objects: kinds, starts, deltas and ratios
+pub record ChartHeld (n : ℕ) (stored : List ℕ) (m : Memory) : Type 0 where
+  pub kinds : FrontHeld (part 0 n stored) byte_sentinel m.kind
+  pub starts : FloatsHeld stored n n m.start
+  pub deltas : FloatsHeld stored (9 * n) n m.delta
+  pub ratios : FloatsHeld stored (17 * n) n m.ratio
 
 -- n objects are built, and the slices hold the chart
-pub record BuildStored (at n : ℕ) (body : List ℕ) (o : Outcome (Result ℕ Refusal) Memory) : Type 0 where
+pub record BuildStored (n : ℕ) (stored : List ℕ) (o : Outcome (Result ℕ Refusal) Memory) : Type 0 where
   pub answer : o.answer ≡ Ok n
-  pub chart : ChartHeld at n body o.memory
+  pub chart : ChartHeld n stored o.memory
 
 -- ---- the case
 
@@ -69,4 +69,4 @@ BuildHolds h body spare =
     let n : ℕ = h.objects in
     let m : ℕ = raw_size body in
     Holds n (BuildForm m h body)
-    (BuildStored (10 + 9 * m) n body (build_outcome (stored_rate body) (stored_raw m body) (build_lent n spare)))
+    (BuildStored n (drop (10 + 9 * m) body) (build_outcome (stored_rate body) (stored_raw m body) (build_lent n spare)))

@@ -1,7 +1,7 @@
 // A stored case of build.
 #![tactic(auto)]
 
-ghost use Rattle.std.specs.Prelude.{◌≡◌, ◌+◌, ◌*◌, ◌≤◌, ◌<◌, length};
+ghost use Rattle.std.specs.Prelude.{◌≡◌, ◌+◌, ◌*◌, ◌≤◌, ◌<◌, drop, length};
 ghost use Rattle.call_build.specs.Call.{memory, build_outcome};
 ghost use Rattle.call_build.specs.Lent.{seen};
 ghost use Rattle.vectors.specs.Held.{Tells};
@@ -16,11 +16,14 @@ use vectors::case::Head;
 use vectors::column::Column;
 use vectors::form::formed;
 use vectors::room::{Room, Spare};
-use vectors::sentinel::{BYTE_SENTINEL, FLOAT_SENTINEL, MOST_PLACES};
+use vectors::sentinel::{BYTE_SENTINEL, FLOAT_SENTINEL, MOST_OBJECTS, MOST_PLACES};
 use vectors::{case, table};
 
 // The most raw objects: the first two build none.
-const MOST_RAW: usize = 16386;
+const MOST_RAW: usize = MOST_OBJECTS + 2;
+
+// The most bytes of a body, which has the raw objects and the largest chart.
+pub const MOST_BODY: usize = 10 + 9 * MOST_RAW + 25 * MOST_OBJECTS;
 
 // How many raw objects the body has.
 #[tactic(auto, unfolding(crate::specs::Build::raw_size))]
@@ -38,23 +41,22 @@ fn stored_rate(body: &[u8]) -> f64
     case::float_of(case::word_at(body, 2))
 }
 
-// Whether slices hold the chart that begins at a place of the body.
-fn chart_held(at: usize, n: usize, body: &[u8], chart: Chart) -> bool
-    requires { at + 25 * n ≤ length body.now }
-    ensures { Tells result (ChartHeld at n body.now
+// Whether slices hold the chart that is stored.
+fn chart_held(n: usize, stored: &[u8], chart: Chart) -> bool
+    requires { 25 * n ≤ length stored.now }
+    ensures { Tells result (ChartHeld n stored.now
         (memory chart.entry.kind.now chart.entry.start.now chart.entry.delta.now chart.entry.ratio.now)) }
 {
-    Column::bytes(body, at, n).held(BYTE_SENTINEL, chart.kind)
-        && Column::words(body, at + n, n).held(FLOAT_SENTINEL, chart.start)
-        && Column::words(body, at + 9 * n, n).held(FLOAT_SENTINEL, chart.delta)
-        && Column::words(body, at + 17 * n, n).held(FLOAT_SENTINEL, chart.ratio)
+    Column::bytes(stored, 0, n).held(BYTE_SENTINEL, chart.kind)
+        && Column::words(stored, n, n).held(FLOAT_SENTINEL, chart.start)
+        && Column::words(stored, 9 * n, n).held(FLOAT_SENTINEL, chart.delta)
+        && Column::words(stored, 17 * n, n).held(FLOAT_SENTINEL, chart.ratio)
 }
 
-// Build in lent slices, held to the chart that begins at a place of the body.
+// Build in lent slices, held to the chart that is stored.
 fn lent_holds(
-    at: usize,
     n: usize,
-    body: &[u8],
+    stored: &[u8],
     raw: Raw,
     rate: f64,
     built_kind: &mut [u8],
@@ -62,8 +64,8 @@ fn lent_holds(
     delta: &mut [f64],
     ratio: &mut [f64],
 ) -> bool
-    requires { at + 25 * n ≤ length body.now }
-    ensures { Tells result (BuildStored at n body.now
+    requires { 25 * n ≤ length stored.now }
+    ensures { Tells result (BuildStored n stored.now
         (build_outcome rate (seen raw.entry) (memory built_kind.old start.old delta.old ratio.old))) }
 {
     let answer = call_build::build(raw, rate, built_kind, start, delta, ratio);
@@ -73,28 +75,26 @@ fn lent_holds(
         delta,
         ratio,
     };
-    answer == Ok(n) && chart_held(at, n, body, chart)
+    answer == Ok(n) && chart_held(n, stored, chart)
 }
 
 // Build of m raw objects in slices full of sentinels, held to the body.
 fn call_holds(m: usize, room: Room, body: &[u8]) -> bool
     requires { BuildRoom m room.head.objects body.now }
-    ensures { let n = room.head.objects in Tells result (BuildStored (10 + 9 * m) n body.now
+    ensures { let n = room.head.objects in Tells result (BuildStored n (drop (10 + 9 * m) body.now)
         (build_outcome (stored_rate body.now) (stored_raw m body.now) (build_lent n room.spare))) }
 {
-    let n = room.head.objects;
-    let places = n + room.spare;
+    let places = room.places();
     let rate = stored_rate(body);
     let mut times = [0.0; MOST_RAW];
-    table::read(body, 10 + m, 0, 0, m, &mut times);
+    table::read(&Column::words(body, 10 + m, m), &mut times);
     let raw = Raw {
         kind: &body[10..10 + m],
         time: &times[..m],
     };
     lent_holds(
-        10 + 9 * m,
-        n,
-        body,
+        room.head.objects,
+        &body[10 + 9 * m..],
         raw,
         rate,
         &mut [BYTE_SENTINEL; MOST_PLACES][..places],

@@ -16,6 +16,7 @@ use Rattle.grouping_chart.specs.Settings.{base_settings}
 use Rattle.grouping_chart.specs.declared.refusal.Refusal.{Refusal}
 use Rattle.call_colour.specs.Call.{Memory, colour_outcome, stretch_outcome}
 use Rattle.call_colour.specs.declared.StretchMean.{StretchMean}
+use Rattle.vectors.specs.Case.{pair_at, column, words}
 use Rattle.vectors.specs.Held.{Tells}
 use Rattle.vectors.specs.Table.{entries}
 use Rattle.vectors.specs.declared.call.Call.TheVariants.{Colour as ColourCall, Stretch}
@@ -57,7 +58,7 @@ module _ {call : Asked} {c : Chart} {m : Memory} {r : Bool} where
 
 -- the table's floats, read over zeros
 abbrev read_ratios : ℕ → ℕ → ℕ → List ℕ → List Float
-read_ratios size width n body = over (entries body (2 + n + size + 8 * n) (2 + n) width n) (replicate largest (of_bits binary64 0))
+read_ratios size width n body = over (entries (words body (2 + n + size + 8 * n) (pair_at body 0)) (column body (2 + n) width n)) (replicate largest (of_bits binary64 0))
 
 abbrev made_chart : ℕ → List ℕ → List Float → Chart
 made_chart n body ratios =
@@ -75,8 +76,8 @@ module _ {n spare : ℕ} (few : Few n spare) (size width : ℕ) (body : List ℕ
   chart_is : made_chart n body ratios ≡ colour_chart size width n body
   unfolding colour_chart
   chart_is =
-      let read : take n ratios ≡ entries body (2 + n + size + 8 * n) (2 + n) width n =
-      ap (take n) e ∙ entries_front body (2 + n + size + 8 * n) (2 + n) width n _ in
+      let read : take n ratios ≡ entries (words body (2 + n + size + 8 * n) (pair_at body 0)) (column body (2 + n) width n) =
+      ap (take n) e ∙ entries_front body (2 + n) n _ _ width in
       rw (lent-part 2 n body, ones_lent few, read)
 
   memory_is : made_memory n spare ≡ colour_lent n spare

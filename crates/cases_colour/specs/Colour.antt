@@ -11,7 +11,7 @@ use Rattle.grouping_chart.specs.declared.refusal.Refusal.{Refusal}
 use Rattle.grouping_chart.specs.Settings.{base_settings}
 use Rattle.call_colour.specs.Call.{Memory, colour_outcome, stretch_outcome}
 use Rattle.call_colour.specs.declared.StretchMean.{StretchMean}
-use Rattle.vectors.specs.Case.{pair_at, quad_at, word_at, column_size, words}
+use Rattle.vectors.specs.Case.{pair_at, quad_at, word_at, column_size, column, words}
 use Rattle.vectors.specs.Held.{FrontHeld}
 use Rattle.vectors.specs.Table.{entries}
 use Rattle.vectors.specs.declared.call.Call.TheVariants.{Colour as ColourCall, Stretch}
@@ -25,13 +25,13 @@ use Rattle.cases_colour.specs.declared.Asked.TheVariants as asked
 -- ---- what is stored
 
 -- behind a number and the kinds stand a column of so many bytes, the values, and the table of ratios that the column
--- names; starts and deltas are not stored, since no value looks at them
+-- names, which has as many as the number says; starts and deltas are not stored, since no value looks at them
 unfoldable pub colour_chart : ℕ → ℕ → ℕ → List ℕ → Chart
 colour_chart size width n body = record {
   kinds = part 2 n body;
   starts = replicate n one64;
   deltas = replicate n one64;
-  ratios = entries body (2 + n + size + 8 * n) (2 + n) width n;
+  ratios = entries (words body (2 + n + size + 8 * n) (pair_at body 0)) (column body (2 + n) width n);
 }
 
 -- four bytes as a number with a sign
@@ -46,8 +46,11 @@ stretch_of stored =
 -- ---- what is compared
 
 -- the mean by its bits, and the tenths
+abbrev pub FoundIs : StoredStretch → StretchMean → Type 0
+FoundIs s found = (to_bits binary64 found.mean ≡ s.mean) × (found.tenths ≡ signed_of s.tenths)
+
 unfoldable pub MeanIs : StoredStretch → Result StretchMean Refusal → Type 0
-MeanIs s (Ok found) = (to_bits binary64 found.mean ≡ s.mean) × (found.tenths ≡ signed_of s.tenths)
+MeanIs s (Ok found) = FoundIs s found
 MeanIs s (Err first) = ⊥
 
 -- the call that is asked accepts the chart, and answers as the original did

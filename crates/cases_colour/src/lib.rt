@@ -6,7 +6,7 @@ ghost use Rattle.grouping_chart.specs.Lent.{seen};
 ghost use Rattle.call_colour.specs.Call.{memory};
 ghost use Rattle.vectors.specs.Case.{column_size};
 ghost use Rattle.vectors.specs.Held.{Tells};
-ghost use Rattle.cases_colour.specs.Colour.{colour_chart, colour_lent, signed_of, stretch_of, MeanIs};
+ghost use Rattle.cases_colour.specs.Colour.{colour_chart, colour_lent, signed_of, stretch_of, FoundIs, MeanIs};
 ghost use Rattle.cases_colour.specs.Colour.{ValuesHeld, CallStored, ColourForm, ColourHolds, StretchHolds};
 ghost use Rattle.cases_colour.specs.passes.Told.{CallTold};
 
@@ -58,14 +58,19 @@ fn read_stretch(part: &[u8]) -> StoredStretch
     }
 }
 
-// Whether the stretch is accepted, with the mean and the tenths that are stored.
+// Whether the mean and the tenths are those that are stored.
+fn found_holds(s: StoredStretch, found: StretchMean) -> bool
+    ensures { Tells result (FoundIs s found) }
+{
+    found.tenths == signed(s.tenths) && bits(found.mean) == s.mean
+}
+
+// Whether the stretch is accepted, with them.
+#[tactic(auto, unfolding(crate::specs::Colour::MeanIs))]
 fn mean_holds(s: StoredStretch, answer: Result<StretchMean, Refusal>) -> bool
     ensures { Tells result (MeanIs s answer) }
 {
-    match answer {
-        Ok(found) => found.tenths == signed(s.tenths) && bits(found.mean) == s.mean,
-        Err(_) => false,
-    }
+    answer.is_ok_and(|found| found_holds(s, found))
 }
 
 // Whether the call that is asked answers as the original did.
@@ -123,10 +128,12 @@ fn call_holds(asked: Asked, room: Room, body: &[u8]) -> bool
         (colour_chart size room.head.width n body.now) (colour_lent n room.spare)) }
 {
     let n = room.head.objects;
-    let places = n + room.spare;
-    let table = 2 + n + room.column_size() + 8 * n;
+    let places = room.places();
+    let at = 2 + n + room.column_size() + 8 * n;
+    let table = Column::words(body, at, usize::from(case::pair_at(body, 0)));
+    let names = Column::numbers(body, 2 + n, room.head.width, n);
     let mut ratios = [0.0; MOST_OBJECTS];
-    vectors::table::read(body, table, 2 + n, room.head.width, n, &mut ratios);
+    vectors::table::read_named(&table, &names, &mut ratios);
     let ones = [1.0; MOST_OBJECTS];
     let chart = Chart {
         kind: &body[2..2 + n],
@@ -140,7 +147,7 @@ fn call_holds(asked: Asked, room: Room, body: &[u8]) -> bool
         body,
         chart,
         &mut [FLOAT_SENTINEL; MOST_PLACES][..places],
-        &mut [NUMBER_SENTINEL; MOST_WORK][..8 * n + room.spare],
+        &mut [NUMBER_SENTINEL; MOST_WORK][..room.work()],
         &mut [FLOAT_SENTINEL; MOST_PLACES][..places],
     )
 }

@@ -34,14 +34,19 @@ encode_lent n spare = record {
   scratch = floats_lent n spare;
 }
 
--- the number of hit patterns, five columns of numbers with so many bytes each, a row of bytes, and cleared work slices
+-- five columns of numbers, one right after the other, behind the kinds; each has so many bytes
+pub record NumbersStored (size width n : ℕ) (body streak streak_place pattern pattern_place hit : List ℕ) : Type 0 where
+  pub streaks : FrontHeld (column body (2 + n) width n) number_sentinel streak
+  pub streak_places : FrontHeld (column body (2 + n + size) width n) number_sentinel streak_place
+  pub patterns : FrontHeld (column body (2 + n + 2 * size) width n) number_sentinel pattern
+  pub pattern_places : FrontHeld (column body (2 + n + 3 * size) width n) number_sentinel pattern_place
+  pub hits : FrontHeld (column body (2 + n + 4 * size) width n) number_sentinel hit
+
+-- the number of hit patterns, the columns, a row of bytes, and cleared work slices
 pub record EncodeStored (size width n : ℕ) (body : List ℕ) (o : Outcome (Result ℕ Refusal) Memory) : Type 0 where
   pub answer : o.answer ≡ Ok (pair_at body 0)
-  pub streak : FrontHeld (column body (2 + n) width n) number_sentinel o.memory.streak
-  pub streak_place : FrontHeld (column body (2 + n + size) width n) number_sentinel o.memory.streak_place
-  pub pattern : FrontHeld (column body (2 + n + 2 * size) width n) number_sentinel o.memory.pattern
-  pub pattern_place : FrontHeld (column body (2 + n + 2 * size + size) width n) number_sentinel o.memory.pattern_place
-  pub hit : FrontHeld (column body (2 + n + 4 * size) width n) number_sentinel o.memory.hit
+  pub numbers : NumbersStored size width n body o.memory.streak o.memory.streak_place o.memory.pattern
+      o.memory.pattern_place o.memory.hit
   pub interval : FrontHeld (part (2 + n + 5 * size) n body) byte_sentinel o.memory.interval
   pub cleared : Cleared n o.memory.work o.memory.scratch
 

@@ -8,7 +8,7 @@ ghost use Rattle.grouping_chart.specs.Lent.{seen};
 ghost use Rattle.call_encode.specs.Call.{memory, encode_outcome};
 ghost use Rattle.vectors.specs.Case.{column_size};
 ghost use Rattle.vectors.specs.Held.{Tells};
-ghost use Rattle.cases_encode.specs.Encode.{encode_chart, encode_lent, EncodeStored, EncodeHolds};
+ghost use Rattle.cases_encode.specs.Encode.{encode_chart, encode_lent, NumbersStored, EncodeStored, EncodeHolds};
 ghost use Rattle.cases_encode.specs.passes.Room.{EncodeBody};
 
 use grouping_chart::chart::Chart;
@@ -23,35 +23,54 @@ use vectors::sentinel::{
     BYTE_SENTINEL, FLOAT_SENTINEL, MOST_OBJECTS, MOST_PLACES, MOST_WORK, NUMBER_SENTINEL,
 };
 
-// Whether an answer and slices are those of the body, each of whose columns has so many bytes.
-// The slices stay parameters, as `encode` lends them: a struct of them, made for this one call, is no plainer.
-fn outcome_holds(
-    room: Room,
-    body: &[u8],
-    answer: Result<usize, Refusal>,
-    streak: &[u16],
-    streak_place: &[u16],
-    pattern: &[u16],
-    pattern_place: &[u16],
-    hit: &[u16],
-    interval: &[u8],
-    work: &[u16],
-    scratch: &[f64],
-) -> bool
+// The answers of encode in lent slices.
+#[derive(Clone, Copy)]
+struct Encoded<'a> {
+    streak: &'a [u16],
+    streak_place: &'a [u16],
+    pattern: &'a [u16],
+    pattern_place: &'a [u16],
+    hit: &'a [u16],
+    interval: &'a [u8],
+}
+
+// Whether the columns of numbers, each of so many bytes, are those of the body.
+fn numbers_hold(room: Room, body: &[u8], got: Encoded) -> bool
     requires { EncodeBody room.head body.now }
-    ensures { let h = room.head in Tells result (EncodeStored (column_size h.objects h.width) h.width h.objects body.now
-        (outcome answer
-        (memory streak.now streak_place.now pattern.now pattern_place.now hit.now interval.now work.now scratch.now))) }
+    ensures { let h = room.head in let e = got.entry in
+        Tells result (NumbersStored (column_size h.objects h.width) h.width h.objects body.now
+        e.streak.now e.streak_place.now e.pattern.now e.pattern_place.now e.hit.now) }
 {
     let n = room.head.objects;
     let width = room.head.width;
     let size = room.column_size();
     let at = 2 + n;
+    Column::numbers(body, at, width, n).held(NUMBER_SENTINEL, got.streak)
+        && Column::numbers(body, at + size, width, n).held(NUMBER_SENTINEL, got.streak_place)
+        && Column::numbers(body, at + 2 * size, width, n).held(NUMBER_SENTINEL, got.pattern)
+        && Column::numbers(body, at + 3 * size, width, n).held(NUMBER_SENTINEL, got.pattern_place)
+        && Column::numbers(body, at + 4 * size, width, n).held(NUMBER_SENTINEL, got.hit)
+}
+
+// Whether an answer and slices are those of the body.
+fn outcome_holds(
+    room: Room,
+    body: &[u8],
+    answer: Result<usize, Refusal>,
+    got: Encoded,
+    work: &[u16],
+    scratch: &[f64],
+) -> bool
+    requires { EncodeBody room.head body.now }
+    ensures { let h = room.head in let e = got.entry in
+        Tells result (EncodeStored (column_size h.objects h.width) h.width h.objects body.now (outcome answer
+        (memory e.streak.now e.streak_place.now e.pattern.now e.pattern_place.now e.hit.now e.interval.now
+        work.now scratch.now))) }
+{
+    let n = room.head.objects;
     answer == Ok(usize::from(pair_at(body, 0)))
-        && sentinel::columns_held(body, at, size, width, n, streak, streak_place)
-        && sentinel::columns_held(body, at + 2 * size, size, width, n, pattern, pattern_place)
-        && Column::numbers(body, at + 4 * size, width, n).held(NUMBER_SENTINEL, hit)
-        && Column::bytes(body, at + 5 * size, n).held(BYTE_SENTINEL, interval)
+        && numbers_hold(room, body, got)
+        && Column::bytes(body, 2 + n + 5 * room.column_size(), n).held(BYTE_SENTINEL, got.interval)
         && sentinel::work_cleared(n, work, scratch)
 }
 
@@ -74,7 +93,7 @@ fn lent_holds(
         (encode_outcome base_settings (seen chart.entry)
         (memory streak.old streak_place.old pattern.old pattern_place.old hit.old interval.old work.old scratch.old))) }
 {
-    let got = call_encode::encode(
+    let answer = call_encode::encode(
         chart,
         streak,
         streak_place,
@@ -85,19 +104,15 @@ fn lent_holds(
         work,
         scratch,
     );
-    outcome_holds(
-        room,
-        body,
-        got,
+    let got = Encoded {
         streak,
         streak_place,
         pattern,
         pattern_place,
         hit,
         interval,
-        work,
-        scratch,
-    )
+    };
+    outcome_holds(room, body, answer, got, work, scratch)
 }
 
 // Encode in slices full of sentinels, held to the body.
@@ -107,7 +122,7 @@ fn call_holds(room: Room, body: &[u8]) -> bool
         (encode_outcome base_settings (encode_chart h.objects body.now) (encode_lent h.objects room.spare))) }
 {
     let n = room.head.objects;
-    let places = n + room.spare;
+    let places = room.places();
     let ones = &[1.0; MOST_OBJECTS][..n];
     let chart = Chart {
         kind: &body[2..2 + n],
@@ -125,7 +140,7 @@ fn call_holds(room: Room, body: &[u8]) -> bool
         &mut [NUMBER_SENTINEL; MOST_PLACES][..places],
         &mut [NUMBER_SENTINEL; MOST_PLACES][..places],
         &mut [BYTE_SENTINEL; MOST_PLACES][..places],
-        &mut [NUMBER_SENTINEL; MOST_WORK][..8 * n + room.spare],
+        &mut [NUMBER_SENTINEL; MOST_WORK][..room.work()],
         &mut [FLOAT_SENTINEL; MOST_PLACES][..places],
     )
 }

@@ -23,6 +23,9 @@ use vectors::room::{Room, Spare};
 use vectors::sentinel::{FLOAT_SENTINEL, MOST_OBJECTS, MOST_PLACES, MOST_WORK, NUMBER_SENTINEL};
 use vectors::{case, sentinel};
 
+// How many bytes a record has.
+pub const PART_SIZE: usize = 58;
+
 // Whether a float has the bits that stand at a place.
 fn bits_hold(part: &[u8], at: usize, x: f64) -> bool
     requires { at + 8 < 2 ^ 32 }
@@ -75,10 +78,7 @@ fn scores_hold(part: &[u8], r: GroupRecord) -> bool
 fn fields_hold(part: &[u8], answer: Result<GroupRecord, Refusal>) -> bool
     ensures { Tells result (RecordIs part.now answer) }
 {
-    match answer {
-        Ok(r) => places_hold(part, r) && scores_hold(part, r),
-        Err(_) => false,
-    }
+    answer.is_ok_and(|r| places_hold(part, r) && scores_hold(part, r))
 }
 
 // Record in lent slices, held to the part.
@@ -114,8 +114,8 @@ fn call_holds(room: Room, body: &[u8], part: &[u8]) -> bool
         room,
         part,
         chart,
-        &mut [NUMBER_SENTINEL; MOST_WORK][..8 * n + room.spare],
-        &mut [FLOAT_SENTINEL; MOST_PLACES][..n + room.spare],
+        &mut [NUMBER_SENTINEL; MOST_WORK][..room.work()],
+        &mut [FLOAT_SENTINEL; MOST_PLACES][..room.places()],
     )
 }
 
@@ -128,6 +128,6 @@ pub fn holds(chart: Head, body: &[u8], h: Head, part: &[u8], spare: Spare) -> bo
         return false;
     };
     cases_rhythm::rhythm_formed(room, body)
-        && part_formed(h, Call::Record, 2, 58, chart.objects, part.len())
+        && part_formed(h, Call::Record, 2, PART_SIZE, chart.objects, part.len())
         && call_holds(room, body, part)
 }

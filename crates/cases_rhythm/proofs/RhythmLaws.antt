@@ -11,13 +11,14 @@ use Rattle.lent.proofs.OverLaws.{lent-part}
 use Rattle.grouping_chart.specs.Chart.{Chart, largest}
 use Rattle.grouping_chart.specs.Settings.{base_settings}
 use Rattle.call_rhythm.specs.Call.{Memory, rhythm_outcome}
+use Rattle.vectors.specs.Case.{words}
 use Rattle.vectors.specs.Held.{Tells}
-use Rattle.vectors.specs.Table.{entries}
+use Rattle.vectors.specs.Table.{floats}
 use Rattle.vectors.specs.declared.call.Call.TheVariants.{Rhythm}
 use Rattle.vectors.specs.declared.case.Head.{Head}
 use Rattle.vectors.specs.Sentinel.{number_sentinel, float_sentinel}
 use Rattle.vectors.specs.passes.Room.{most_places, most_work, Few}
-use Rattle.vectors.proofs.TableLaws.{entries_front}
+use Rattle.vectors.proofs.TableLaws.{floats_front}
 use Rattle.vectors.proofs.TellsLaws.{tells_of}
 use Rattle.vectors.proofs.SentinelLaws.{code_one, ones_lent, numbers-lent, work-lent, floats-lent}
 use Rattle.cases_rhythm.specs.Rhythm.{rhythm_chart, rhythm_lent, RhythmStored, RhythmForm, RhythmHolds}
@@ -44,8 +45,8 @@ module _ {n spare : ℕ} (few : Few n spare) (body : List ℕ) {starts deltas : 
   pub chart_is : made_chart n body starts deltas ≡ rhythm_chart n body
   unfolding rhythm_chart
   chart_is =
-      let s : take n starts ≡ entries body (4 + n) 0 0 n = ap (take n) x.starts ∙ entries_front body (4 + n) 0 0 n zeros in
-      let d : take n deltas ≡ entries body (4 + 9 * n) 0 0 n = ap (take n) x.deltas ∙ entries_front body (4 + 9 * n) 0 0 n zeros in
+      let s : take n starts ≡ floats (words body (4 + n) n) = ap (take n) x.starts ∙ floats_front body (4 + n) n zeros in
+      let d : take n deltas ≡ floats (words body (4 + 9 * n) n) = ap (take n) x.deltas ∙ floats_front body (4 + 9 * n) n zeros in
       rw (lent-part 4 n body, ones_lent few, s, d)
 
   memory_is : made_memory n spare ≡ rhythm_lent n spare

@@ -9,12 +9,13 @@ use Rattle.grouping_chart.specs.Settings.{base_settings}
 use Rattle.grouping_chart.specs.declared.refusal.Refusal.{Refusal}
 use Rattle.call_rhythm.specs.Call.{Memory, rhythm_outcome}
 use Rattle.call_rhythm.specs.declared.GroupTotals.{GroupTotals}
-use Rattle.vectors.specs.Case.{pair_at}
-use Rattle.vectors.specs.Table.{entries}
+use Rattle.vectors.specs.Case.{pair_at, column, words}
+use Rattle.vectors.specs.Held.{FrontHeld}
+use Rattle.vectors.specs.Table.{floats}
 use Rattle.vectors.specs.declared.call.Call.TheVariants.{Rhythm}
 use Rattle.vectors.specs.declared.case.Head.{Head}
 use Rattle.vectors.specs.Form.{Formed, Holds}
-use Rattle.vectors.specs.Sentinel.{numbers_lent, floats_lent, work_lent, ColumnsHeld, Cleared}
+use Rattle.vectors.specs.Sentinel.{number_sentinel, numbers_lent, floats_lent, work_lent, Cleared}
 
 -- ---- what is stored
 
@@ -23,8 +24,8 @@ use Rattle.vectors.specs.Sentinel.{numbers_lent, floats_lent, work_lent, Columns
 unfoldable pub rhythm_chart : ℕ → List ℕ → Chart
 rhythm_chart n body = record {
   kinds = part 4 n body;
-  starts = entries body (4 + n) 0 0 n;
-  deltas = entries body (4 + 9 * n) 0 0 n;
+  starts = floats (words body (4 + n) n);
+  deltas = floats (words body (4 + 9 * n) n);
   ratios = replicate n one64;
 }
 
@@ -46,7 +47,8 @@ totals_at body = record { groups = pair_at body 0; patterns = pair_at body 2 }
 -- both counts, the numbers of each object, which have two bytes, and cleared work slices
 pub record RhythmStored (n : ℕ) (body : List ℕ) (o : Outcome (Result GroupTotals Refusal) Memory) : Type 0 where
   pub answer : o.answer ≡ Ok (totals_at body)
-  pub numbers : ColumnsHeld body (4 + 17 * n) (2 * n) 2 n o.memory.group o.memory.pattern
+  pub groups : FrontHeld (column body (4 + 17 * n) 2 n) number_sentinel o.memory.group
+  pub patterns : FrontHeld (column body (4 + 19 * n) 2 n) number_sentinel o.memory.pattern
   pub cleared : Cleared n o.memory.work o.memory.scratch
 
 -- the bytes of a rhythm case

@@ -16,6 +16,7 @@ use grouping_chart::chart::Chart;
 use grouping_chart::refusal::Refusal;
 use vectors::call::Call;
 use vectors::case::Head;
+use vectors::column::Column;
 use vectors::form::formed;
 use vectors::room::{Room, Spare};
 use vectors::sentinel::{FLOAT_SENTINEL, MOST_OBJECTS, MOST_PLACES, MOST_WORK, NUMBER_SENTINEL};
@@ -26,21 +27,18 @@ pub fn read_times(n: usize, body: &[u8], start: &mut [f64], delta: &mut [f64])
     requires { TimesRoom n start.old delta.old }
     ensures { TimesRead n body.now start.old start.new delta.old delta.new }
 {
-    table::read(body, 4 + n, 0, 0, n, start);
-    table::read(body, 4 + 9 * n, 0, 0, n, delta);
+    table::read(&Column::words(body, 4 + n, n), start);
+    table::read(&Column::words(body, 4 + 9 * n, n), delta);
 }
 
 // Whether the chart is accepted, with as many groups and pattern groups as the body's first two numbers say.
 fn counts_hold(body: &[u8], answer: Result<GroupTotals, Refusal>) -> bool
     ensures { Tells result (answer ≡ Ok (totals_at body.now)) }
 {
-    match answer {
-        Ok(k) => {
-            k.groups == usize::from(case::pair_at(body, 0))
-                && k.patterns == usize::from(case::pair_at(body, 2))
-        }
-        Err(_) => false,
-    }
+    answer.is_ok_and(|k| {
+        k.groups == usize::from(case::pair_at(body, 0))
+            && k.patterns == usize::from(case::pair_at(body, 2))
+    })
 }
 
 // Whether an answer and slices are those of the body.
@@ -58,7 +56,8 @@ fn outcome_holds(
 {
     let n = room.head.objects;
     counts_hold(body, answer)
-        && sentinel::columns_held(body, 4 + 17 * n, 2 * n, 2, n, group, pattern)
+        && Column::numbers(body, 4 + 17 * n, 2, n).held(NUMBER_SENTINEL, group)
+        && Column::numbers(body, 4 + 19 * n, 2, n).held(NUMBER_SENTINEL, pattern)
         && sentinel::work_cleared(n, work, scratch)
 }
 
@@ -86,7 +85,7 @@ fn call_holds(room: Room, body: &[u8]) -> bool
         (rhythm_outcome base_settings (rhythm_chart n body.now) (rhythm_lent n room.spare))) }
 {
     let n = room.head.objects;
-    let places = n + room.spare;
+    let places = room.places();
     let mut starts = [0.0; MOST_OBJECTS];
     let mut deltas = [0.0; MOST_OBJECTS];
     read_times(n, body, &mut starts, &mut deltas);
@@ -103,7 +102,7 @@ fn call_holds(room: Room, body: &[u8]) -> bool
         chart,
         &mut [NUMBER_SENTINEL; MOST_PLACES][..places],
         &mut [NUMBER_SENTINEL; MOST_PLACES][..places],
-        &mut [NUMBER_SENTINEL; MOST_WORK][..8 * n + room.spare],
+        &mut [NUMBER_SENTINEL; MOST_WORK][..room.work()],
         &mut [FLOAT_SENTINEL; MOST_PLACES][..places],
     )
 }

@@ -6,6 +6,9 @@ use crate::tally::Tally;
 use vectors::case::Head;
 use vectors::room::Spare;
 
+// The most cases of a file.
+const MOST_CASES: u64 = 1_000_000;
+
 // How many cases may follow, the objects of the charts, a tally of the cases with a chart and of those on one, and the
 // head of the last chart.
 #[derive(Clone, Copy)]
@@ -27,13 +30,13 @@ pub enum Replayed {
 }
 
 impl Replay {
-    // At a file's start. At most a million cases may follow.
+    // At a file's start.
     #[tactic(auto, unfolding(crate::specs::Count::at_start, crate::specs::Tally::no_cases))]
     pub fn start() -> Replay
         ensures { result ≡ at_start }
     {
         Replay {
-            left: 1000000,
+            left: MOST_CASES,
             objects: 0,
             charts: Tally::default(),
             parts: Tally::default(),

@@ -12,6 +12,11 @@ use vectors::room::Spare;
 pub mod count;
 pub mod tally;
 
+// The most bytes of a case with a chart, and of one on a chart: build's and record's have most.
+pub const MOST_BODY: usize = cases_build::MOST_BODY;
+
+pub const MOST_PART: usize = cases_record::PART_SIZE;
+
 // What follows a head: the body of a case with a chart, a part of the case before it, or nothing that belongs there.
 #[derive(Clone, Copy)]
 pub enum Next {
@@ -25,19 +30,15 @@ pub enum Next {
 pub fn follows(call: Call, h: Head) -> Next
     ensures { result ≡ follows_in call h }
 {
-    if h.call == Some(call) {
-        return Next::Body;
+    match (call, h.call) {
+        (asked, Some(own)) if asked == own => Next::Body,
+        (Call::Colour, Some(Call::Stretch)) | (Call::Rhythm, Some(Call::Record)) => Next::Part,
+        _ => Next::Nothing,
     }
-    if call == Call::Colour && h.call == Some(Call::Stretch) {
-        return Next::Part;
-    }
-    if call == Call::Rhythm && h.call == Some(Call::Record) {
-        return Next::Part;
-    }
-    Next::Nothing
 }
 
 // Whether a case with a chart of its own, or with what one is built of, holds, in slices with so many places to spare.
+// Tried as one match on `Some(Call::Build)` and so on: the proof of its last arm did not close.
 pub fn chart_holds(h: Head, body: &[u8], spare: Spare) -> bool
     ensures { Tells result (ChartHolds h body.now spare.places) }
 {
@@ -53,7 +54,7 @@ pub fn chart_holds(h: Head, body: &[u8], spare: Spare) -> bool
     }
 }
 
-// Whether a case on the chart of another one holds.
+// Whether a case on the chart of another one holds. Two matches, as above.
 pub fn part_holds(chart: Head, body: &[u8], h: Head, part: &[u8], spare: Spare) -> bool
     ensures { Tells result (PartHolds chart body.now h part.now spare.places) }
 {

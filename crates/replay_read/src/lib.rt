@@ -7,8 +7,8 @@
 ghost use Rattle.vectors.specs.declared.call.Call.{Call};
 ghost use Rattle.replay_read.specs.Read.{ChartRead, PartRead, CaseRead, FileRead};
 
-use replay_cases::Next;
 use replay_cases::count::{Replay, Replayed};
+use replay_cases::{MOST_BODY, MOST_PART, Next};
 use std::fs::File;
 use vectors::call::Call;
 use vectors::case::Head;
@@ -87,8 +87,8 @@ pub fn replay_all(file: &mut File, call: Call) -> Replay
     ensures { FileRead call result }
 {
     let mut head = [0u8; 8];
-    let mut body = [0u8; 557084];
-    let mut part = [0u8; 58];
+    let mut body = [0u8; MOST_BODY];
+    let mut part = [0u8; MOST_PART];
     let mut r = Replay::start();
     while r.left > 0 {
         let c = next_case(file, call, r, &mut head, &mut body, &mut part);

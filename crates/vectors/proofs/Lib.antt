@@ -3,6 +3,7 @@ pub mod CallLaws
 pub mod ColumnLaws
 pub mod FloatLaws
 pub mod HeldLaws
+pub mod MadeLaws
 pub mod SentinelLaws
 pub mod TableLaws
 pub mod TellsLaws

@@ -2,7 +2,6 @@
 use Rattle.std.specs.Prelude.{List, map, ℕ, ◌+◌, ◌*◌, replicate, Float}
 use Rattle.std.specs.Float.{binary64}
 use Rattle.std.specs.Float.Ieee.{to_bits, of_bits}
-use Rattle.vectors.specs.Case.{column}
 use Rattle.vectors.specs.Held.{FrontHeld}
 
 -- ---- sentinels, which are no answers
@@ -33,11 +32,6 @@ abbrev pub work_lent : ℕ → ℕ → List ℕ
 work_lent n spare = replicate (8 * n + spare) number_sentinel
 
 -- ---- what is left
-
--- two columns of numbers, one right after the other; each has so many bytes
-pub record ColumnsHeld (s : List ℕ) (at size width n : ℕ) (a b : List ℕ) : Type 0 where
-  pub first : FrontHeld (column s at width n) number_sentinel a
-  pub second : FrontHeld (column s (at + size) width n) number_sentinel b
 
 -- the work slices: 8n zeros and n times +0.0, and every place past them holds the sentinel
 pub record Cleared (n : ℕ) (work : List ℕ) (scratch : List Float) : Type 0 where

@@ -1,18 +1,21 @@
--- Floats that a column names by their numbers in a table of distinct ones, or that stand in turn.
-use Rattle.std.specs.Prelude.{cond, List, ℕ, eqb, Float}
+-- Floats that are stored by their bits: in turn, or named by their numbers in a table of distinct ones.
+use Rattle.std.specs.Prelude.{List, ℕ, get_or, length, Float}
 use Rattle.std.specs.Float.{binary64}
 use Rattle.std.specs.Float.Ieee.{of_bits}
 use Rattle.lent.specs.Scan.{tabulate}
-use Rattle.vectors.specs.Case.{number_at, column_word}
 
--- which float of the table is meant at i: the one that number i of the column names or,
--- for a column whose numbers have no bytes, the next
-unfoldable pub entry_number : List ℕ → ℕ → ℕ → ℕ → ℕ
-entry_number s column width i = cond (eqb width 0) i (number_at s column width i)
+-- float i of a list of bits
+unfoldable pub float_at : List ℕ → ℕ → Float
+float_at bits i = of_bits binary64 (get_or bits i 0)
 
-unfoldable pub entry_at : List ℕ → ℕ → ℕ → ℕ → ℕ → Float
-entry_at s table column width i = of_bits binary64 (column_word s table (entry_number s column width i))
+-- all of them
+unfoldable pub floats : List ℕ → List Float
+floats bits = tabulate (float_at bits) (length bits)
 
--- n of them
-unfoldable pub entries : List ℕ → ℕ → ℕ → ℕ → ℕ → List Float
-entries s table column width n = tabulate (entry_at s table column width) n
+-- the one of a table of bits that name i means
+unfoldable pub entry_at : List ℕ → List ℕ → ℕ → Float
+entry_at table names i = float_at table (get_or names i 0)
+
+-- one for each name
+unfoldable pub entries : List ℕ → List ℕ → List Float
+entries table names = tabulate (entry_at table names) (length names)

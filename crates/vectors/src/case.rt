@@ -1,10 +1,12 @@
 // A stored case as bytes, low byte first: a head of 8 bytes, then a body that begins with a number and the kinds.
 ghost use Rattle.std.specs.Prelude.{◌≡◌, ◌+◌, ◌*◌, ◌^◌, ◌<◌, ◌≤◌, get_or};
 ghost use Rattle.std.specs.Float.Ieee as Ieee;
+ghost use Rattle.lent.specs.Scan.{tabulate};
 ghost use Rattle.std.specs.Float.{binary64};
-ghost use Rattle.vectors.specs.Case.{pair_at, column_size, number_at, quad_at, word_at, head_of};
+ghost use Rattle.vectors.specs.Case.{pair_at, column_size, quad_at, word_at, head_of};
 
 use crate::call::Call;
+use std::array;
 use std::convert::TryFrom;
 
 // Which call, if its number names one, how many bytes a number of its columns has, how many objects, and how many bytes
@@ -24,31 +26,39 @@ pub fn byte_at(s: &[u8], at: usize) -> u8
     s.get(at).copied().unwrap_or(0)
 }
 
+// N bytes from a place on.
+fn bytes_at<const N: usize>(s: &[u8], at: usize) -> [u8; N]
+    requires { at + N ≤ 2 ^ 64 }
+    ensures { result ≡ tabulate (λ k. get_or s.now (at + k) 0) N }
+{
+    array::from_fn(|k| byte_at(s, at + k))
+}
+
 // The number of two bytes at a place.
-#[tactic(auto, unfolding(crate::specs::Case::pair_at, crate::specs::Case::pair))]
+#[tactic(auto, unfolding(crate::specs::Case::pair_at, crate::specs::Case::pair, lent::specs::Scan::tabulate))]
 pub fn pair_at(s: &[u8], at: usize) -> u16
     requires { at + 1 < 2 ^ 64 }
     ensures { result ≡ pair_at s.now at }
 {
-    u16::from_le_bytes([byte_at(s, at), byte_at(s, at + 1)])
+    u16::from_le_bytes(bytes_at(s, at))
 }
 
 // The number of four bytes at a place.
-#[tactic(auto, unfolding(crate::specs::Case::quad_at))]
+#[tactic(auto, unfolding(crate::specs::Case::quad_at, crate::specs::Case::pair_at, crate::specs::Case::pair, lent::specs::Scan::tabulate))]
 pub fn quad_at(s: &[u8], at: usize) -> u32
     requires { at + 3 < 2 ^ 64 }
     ensures { result ≡ quad_at s.now at }
 {
-    u32::from(pair_at(s, at)) + 65536 * u32::from(pair_at(s, at + 2))
+    u32::from_le_bytes(bytes_at(s, at))
 }
 
 // The number of eight bytes at a place.
-#[tactic(auto, unfolding(crate::specs::Case::word_at))]
+#[tactic(auto, unfolding(crate::specs::Case::word_at, crate::specs::Case::quad_at, crate::specs::Case::pair_at, crate::specs::Case::pair, lent::specs::Scan::tabulate))]
 pub fn word_at(s: &[u8], at: usize) -> u64
     requires { at + 7 < 2 ^ 64 }
     ensures { result ≡ word_at s.now at }
 {
-    u64::from(quad_at(s, at)) + 4294967296 * u64::from(quad_at(s, at + 4))
+    u64::from_le_bytes(bytes_at(s, at))
 }
 
 #[tactic(auto, unfolding(crate::specs::Case::head_of))]
@@ -70,18 +80,6 @@ pub fn column_size(n: usize, width: u8) -> usize
     ensures { (result ≡ column_size n width) × (result ≤ 2 * n) }
 {
     if width == 1 { n } else { 2 * n }
-}
-
-// Number i of a column that begins at a place.
-#[tactic(auto, unfolding(crate::specs::Case::number_at))]
-pub fn number_at(s: &[u8], at: usize, width: u8, i: usize) -> u16
-    requires { at + 2 * i + 1 < 2 ^ 64 }
-    ensures { result ≡ number_at s.now at width i }
-{
-    if width == 1 {
-        return u16::from(byte_at(s, at + i));
-    }
-    pair_at(s, at + 2 * i)
 }
 
 // The float that has these bits.

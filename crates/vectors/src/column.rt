@@ -1,5 +1,5 @@
 // A column of a stored case, which contracts see as the list of its values.
-ghost use Rattle.std.specs.Prelude.{◌≡◌, ◌+◌, ◌*◌, ◌^◌, ◌<◌, ◌≤◌, replicate, get_or, length};
+ghost use Rattle.std.specs.Prelude.{◌≡◌, ◌+◌, ◌*◌, ◌^◌, ◌<◌, ◌≤◌, replicate, slice_get, length};
 ghost use Rattle.lent.specs.Over.{part};
 ghost use Rattle.vectors.specs.Case.{column, words};
 
@@ -12,6 +12,21 @@ enum Width {
     One,
     Two,
     Eight,
+}
+
+// The width of a case's numbers, by what its head says: one byte each or, for any other width, two.
+impl From<u8> for Width {
+    ghost use Rattle.vectors.specs.passes.Values.{width_of};
+
+    ghost from_gives = { λ said width. width ≡ width_of said };
+
+    #[tactic(auto, unfolding(crate::specs::passes::Values::width_of))]
+    fn from(said: u8) -> Width {
+        match said {
+            1 => Width::One,
+            _ => Width::Two,
+        }
+    }
 }
 
 // So many values, from a place of a case on.
@@ -35,17 +50,17 @@ impl<'a> Model for Column<'a> {
 }
 
 impl<'a> Column<'a> {
-    // Numbers of one byte each or, for any other width, of two.
-    #[tactic(auto, using(crate::proofs::ColumnLaws::values_one, crate::proofs::ColumnLaws::values_two))]
+    // Numbers of the width that a head says.
+    #[tactic(auto, using(crate::proofs::ColumnLaws::values_numbers, crate::proofs::ColumnLaws::long))]
     pub fn numbers(bytes: &'a [u8], at: usize, width: u8, count: usize) -> Column<'a>
         requires { at + 2 * count < 2 ^ 64 }
-        ensures { result ≡ column bytes.now at width count }
+        ensures values { result ≡ column bytes.now at width count }
+        ensures long { length result ≡ count }
     {
-        let width = if width == 1 { Width::One } else { Width::Two };
         Column {
             bytes,
             at,
-            width,
+            width: Width::from(width),
             count,
         }
     }
@@ -64,10 +79,11 @@ impl<'a> Column<'a> {
     }
 
     // Words of eight bytes, as the bits of floats are.
-    #[tactic(auto, using(crate::proofs::ColumnLaws::values_words))]
+    #[tactic(auto, using(crate::proofs::ColumnLaws::values_words, crate::proofs::ColumnLaws::long))]
     pub fn words(bytes: &'a [u8], at: usize, count: usize) -> Column<'a>
         requires { at + 8 * count < 2 ^ 64 }
-        ensures { result ≡ words bytes.now at count }
+        ensures values { result ≡ words bytes.now at count }
+        ensures long { length result ≡ count }
     {
         Column {
             bytes,
@@ -96,17 +112,17 @@ impl<'a> Column<'a> {
         self.count
     }
 
-    // Value i, or past the last one another.
-    pub(crate) fn value_or(&self, i: usize, past: u64) -> u64
-        ensures { result ≡ get_or self.now i past }
+    // Value i, if there is one.
+    pub(crate) fn get(&self, i: usize) -> Option<u64>
+        ensures { result ≡ slice_get self.now i }
     {
         if i >= self.count {
-            return past;
+            return None;
         }
-        match self.width {
+        Some(match self.width {
             Width::One => u64::from(case::byte_at(self.bytes, self.at + i)),
             Width::Two => u64::from(case::pair_at(self.bytes, self.at + 2 * i)),
             Width::Eight => case::word_at(self.bytes, self.at + 8 * i),
-        }
+        })
     }
 }

@@ -62,14 +62,10 @@ impl<'a> Column<'a> {
         ensures { Tells result (FrontHeld self.now (T.bits_of sentinel) (T.all_bits got.now)) }
     {
         let past = sentinel.bits();
-        if got.len() < self.count() {
-            return false;
-        }
-        for (i, x) in got.iter().enumerate() {
-            if x.bits() != self.value_or(i, past) {
-                return false;
-            }
-        }
-        true
+        self.count() <= got.len()
+            && got
+                .iter()
+                .enumerate()
+                .all(|(i, x)| x.bits() == self.get(i).unwrap_or(past))
     }
 }

@@ -1,5 +1,5 @@
 // How many places the slices of a case have.
-ghost use Rattle.std.specs.Prelude.{◌≡◌, ◌*◌, ◌<◌, ◌≤◌, MatchOption};
+ghost use Rattle.std.specs.Prelude.{◌≡◌, ◌+◌, ◌*◌, ◌<◌, ◌≤◌, MatchOption};
 ghost use Rattle.grouping_chart.specs.Chart.{largest};
 ghost use Rattle.vectors.specs.Case.{column_size};
 ghost use Rattle.vectors.specs.passes.Room.{Few};
@@ -36,6 +36,20 @@ impl Room {
             head: h,
             spare: spare.places,
         })
+    }
+
+    // How many places a slice has for each object, and to spare.
+    pub fn places(self) -> usize
+        ensures { result ≡ self.head.objects + self.spare }
+    {
+        self.head.objects + self.spare
+    }
+
+    // And a work slice, with eight for each object.
+    pub fn work(self) -> usize
+        ensures { result ≡ 8 * self.head.objects + self.spare }
+    {
+        8 * self.head.objects + self.spare
     }
 
     // How many bytes a column has that holds a number for each object.

@@ -1,7 +1,7 @@
 // What slices are lent with, and whether a call left in them what it must.
-ghost use Rattle.std.specs.Prelude.{◌≤◌, ◌<◌, ◌+◌, ◌*◌, ◌^◌};
+ghost use Rattle.std.specs.Prelude.{◌<◌, ◌*◌, ◌^◌};
 ghost use Rattle.vectors.specs.Held.{Tells};
-ghost use Rattle.vectors.specs.Sentinel.{ColumnsHeld, Cleared};
+ghost use Rattle.vectors.specs.Sentinel.{Cleared};
 
 use crate::column::Column;
 
@@ -18,28 +18,10 @@ pub const FLOAT_SENTINEL: f64 = -1.0e300;
 pub const MOST_OBJECTS: usize = 16384;
 
 // The most places of a slice: one for each object, and 7 to spare.
-pub const MOST_PLACES: usize = 16391;
+pub const MOST_PLACES: usize = MOST_OBJECTS + 7;
 
 // The most places of a work slice: eight for each object, and 7 to spare.
-pub const MOST_WORK: usize = 131079;
-
-// Whether two slices hold two columns of n numbers, the first of which begins at a place and has so many bytes.
-pub fn columns_held(
-    s: &[u8],
-    at: usize,
-    size: usize,
-    width: u8,
-    n: usize,
-    a: &[u16],
-    b: &[u16],
-) -> bool
-    requires { at + size + 2 * n < 2 ^ 64 }
-    ensures { Tells result (ColumnsHeld s.now at size width n a.now b.now) }
-{
-    let first = Column::numbers(s, at, width, n);
-    let second = Column::numbers(s, at + size, width, n);
-    first.held(NUMBER_SENTINEL, a) && second.held(NUMBER_SENTINEL, b)
-}
+pub const MOST_WORK: usize = 8 * MOST_OBJECTS + 7;
 
 // Whether a call on n objects left 8n zeros and n times +0.0, and every place past them as it was lent.
 pub fn work_cleared(n: usize, work: &[u16], scratch: &[f64]) -> bool

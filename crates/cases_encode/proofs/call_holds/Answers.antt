@@ -8,4 +8,4 @@ pub slice_bounds-lent_holds-end-14 : goal.slice_bounds-lent_holds-end-14
 slice_bounds-lent_holds-end-14 c = front_counts _ _ (omega arith)
 
 pub returns : goal.returns
-returns c = made_told c.args.room.few c.lent_holds.ensures
+returns c = made_told c.args.room.few (rw (c.places-places.ensures, c.work.ensures) at c.lent_holds.ensures)

@@ -8,4 +8,4 @@ pub slice_bounds-lent_holds-end-6 : goal.slice_bounds-lent_holds-end-6
 slice_bounds-lent_holds-end-6 c = front_counts _ _ (omega arith)
 
 pub returns : goal.returns
-returns c = made_told c.args.room.few _ c.read_times.ensures c.lent_holds.ensures
+returns c = made_told c.args.room.few _ c.read_times.ensures (rw (c.places-places.ensures, c.work.ensures) at c.lent_holds.ensures)
