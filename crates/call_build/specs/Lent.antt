@@ -2,5 +2,5 @@
 use Rattle.call_build.specs.Build.{Raw, raw}
 use Rattle.call_build.specs.declared.Raw as lent
 
-abbrev pub seen : lent.Raw → Raw
-seen r = raw r.kind.now r.time.now
+abbrev pub raw_seen : lent.Raw → Raw
+raw_seen r = raw r.kind.now r.time.now

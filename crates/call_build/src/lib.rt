@@ -5,7 +5,7 @@ ghost use Rattle.std.specs.Prelude.{◌≡◌, ◌-◌, length};
 ghost use Rattle.grouping_chart.specs.Outcome.{outcome};
 ghost use Rattle.call_build.specs.Build.{built_chart};
 ghost use Rattle.call_build.specs.Call.{memory, filled, build_outcome};
-ghost use Rattle.call_build.specs.Lent.{seen};
+ghost use Rattle.call_build.specs.Lent.{raw_seen};
 ghost use Rattle.call_build.specs.passes.Room.{BuildRoom};
 
 use grouping_chart::refusal::Refusal;
@@ -43,9 +43,9 @@ fn fill_chart(
     delta: &mut [f64],
     ratio: &mut [f64],
 )
-    requires { BuildRoom (seen timed.raw) (memory built_kind.old start.old delta.old ratio.old) }
+    requires { BuildRoom (raw_seen timed.raw) (memory built_kind.old start.old delta.old ratio.old) }
     ensures { memory built_kind.new start.new delta.new ratio.new
-        ≡ filled (built_chart timed.entry.rate (seen timed.entry.raw))
+        ≡ filled (built_chart timed.entry.rate (raw_seen timed.entry.raw))
         (memory built_kind.old start.old delta.old ratio.old) }
 {
     let n = timed.raw.size();
@@ -65,7 +65,7 @@ pub fn build(
     ratio: &mut [f64],
 ) -> Result<usize, Refusal>
     ensures { outcome result (memory built_kind.new start.new delta.new ratio.new)
-        ≡ build_outcome rate (seen raw.entry) (memory built_kind.old start.old delta.old ratio.old) }
+        ≡ build_outcome rate (raw_seen raw.entry) (memory built_kind.old start.old delta.old ratio.old) }
 {
     let n = raw.size();
     let short = (built_kind.len() < n) | (start.len() < n) | (delta.len() < n) | (ratio.len() < n);

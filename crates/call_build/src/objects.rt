@@ -2,7 +2,7 @@
 ghost use Rattle.std.specs.Prelude.{◌≡◌, ◌≤◌, ◌<◌, drop, length};
 ghost use Rattle.lent.specs.Over.{over};
 ghost use Rattle.call_build.specs.Build.{built_size, start_at, delta_at};
-ghost use Rattle.call_build.specs.Lent.{seen};
+ghost use Rattle.call_build.specs.Lent.{raw_seen};
 ghost use Rattle.call_build.specs.passes.Ratios.{ratios_from};
 
 use crate::Raw;
@@ -27,7 +27,7 @@ impl<'a> Timed<'a> {
 
     #[tactic(auto, unfolding(crate::specs::Build::start_at))]
     pub(crate) fn start(self, i: usize) -> f64
-        requires { i < built_size (seen self.raw) }
+        requires { i < built_size (raw_seen self.raw) }
         ensures { result ≡ start_at self.entry.rate self.entry.raw.time.now i }
     {
         self.raw.time[i + 2] / self.rate
@@ -35,7 +35,7 @@ impl<'a> Timed<'a> {
 
     #[tactic(auto, unfolding(crate::specs::Build::delta_at))]
     pub(crate) fn delta(self, i: usize) -> f64
-        requires { i < built_size (seen self.raw) }
+        requires { i < built_size (raw_seen self.raw) }
         ensures { result ≡ delta_at self.entry.rate self.entry.raw.time.now i }
     {
         (self.raw.time[i + 2] - self.raw.time[i + 1]) / self.rate

@@ -4,7 +4,7 @@ ghost use Rattle.std.specs.Float.{nan};
 ghost use Rattle.grouping_chart.specs.Refusal.{object_refusal, objects_verdict};
 ghost use Rattle.call_build.specs.Build.{built_size, built_chart};
 ghost use Rattle.call_build.specs.Call.{rate_good, beside_refusal, verdict_of};
-ghost use Rattle.call_build.specs.Lent.{seen};
+ghost use Rattle.call_build.specs.Lent.{raw_seen};
 
 use crate::objects::Timed;
 use crate::{MOST_RAW, Raw};
@@ -14,8 +14,8 @@ use numeric::range;
 
 // Whether a built object is good. Its ratio is one of the common ones, so 1.0 serves for it: none of them is refused.
 fn built_refusal(timed: Timed, i: usize) -> Result<(), Reason>
-    requires { i < built_size (seen timed.raw) }
-    ensures { let c = built_chart timed.entry.rate (seen timed.entry.raw) in result
+    requires { i < built_size (raw_seen timed.raw) }
+    ensures { let c = built_chart timed.entry.rate (raw_seen timed.entry.raw) in result
         ≡ object_refusal (get_or c.kinds i 0) (get_or c.starts i nan) (get_or c.deltas i nan) (get_or c.ratios i nan) }
 {
     let start = timed.start(i);
@@ -25,7 +25,7 @@ fn built_refusal(timed: Timed, i: usize) -> Result<(), Reason>
 
 // Most charts are good, which is told without a jump for each object.
 fn check_objects(timed: Timed) -> Result<(), Refusal>
-    ensures { result ≡ objects_verdict (built_chart timed.entry.rate (seen timed.entry.raw)) }
+    ensures { result ≡ objects_verdict (built_chart timed.entry.rate (raw_seen timed.entry.raw)) }
 {
     let n = timed.raw.size();
     let kinds = kinds_good(timed.kinds());
@@ -60,7 +60,7 @@ fn beside_refusal(short: bool, rate: f64) -> Result<(), Reason>
 
 // The verdict on raw objects; `short` says that an answer slice is too short for those that they build.
 pub fn judge(raw: Raw, rate: f64, short: bool) -> Result<(), Refusal>
-    ensures { result ≡ verdict_of rate (seen raw.entry) short }
+    ensures { result ≡ verdict_of rate (raw_seen raw.entry) short }
 {
     if MOST_RAW < raw.kind.len() {
         return Err(Refusal::from(Reason::TooManyObjects));

@@ -3,7 +3,7 @@
 
 ghost use Rattle.std.specs.Prelude.{◌≡◌, ◌+◌, ◌*◌, ◌≤◌, ◌<◌, drop, length};
 ghost use Rattle.call_build.specs.Call.{memory, build_outcome};
-ghost use Rattle.call_build.specs.Lent.{seen};
+ghost use Rattle.call_build.specs.Lent.{raw_seen};
 ghost use Rattle.vectors.specs.Held.{Tells};
 ghost use Rattle.cases_build.specs.Build.{raw_size, stored_rate, stored_raw, build_lent};
 ghost use Rattle.cases_build.specs.Build.{ChartHeld, BuildStored, BuildForm, BuildHolds};
@@ -66,7 +66,7 @@ fn lent_holds(
 ) -> bool
     requires { 25 * n ≤ length stored.now }
     ensures { Tells result (BuildStored n stored.now
-        (build_outcome rate (seen raw.entry) (memory built_kind.old start.old delta.old ratio.old))) }
+        (build_outcome rate (raw_seen raw.entry) (memory built_kind.old start.old delta.old ratio.old))) }
 {
     let answer = call_build::build(raw, rate, built_kind, start, delta, ratio);
     let chart = Chart {

@@ -6,13 +6,13 @@ use Rattle.std.proofs.Common.{rules}
 use Rattle.lent.specs.Over.{over}
 use Rattle.call_build.specs.Build.{start_at, delta_at}
 use Rattle.call_build.specs.Call.{memory}
-use Rattle.call_build.specs.Lent.{seen}
+use Rattle.call_build.specs.Lent.{raw_seen}
 use Rattle.call_build.proofs.CallLaws.{chart-filled}
 use Rattle.call_build.proofs.fill_chart.Goals as goal
 
 pub returns : goal.returns
 returns c =
-    let r = seen c.args.timed.raw in
+    let r = raw_seen c.args.timed.raw in
     let m = memory c.args.built_kind.now c.args.start.now c.args.delta.now c.args.ratio.now in
     chart-filled _ r m (sym c.size-n.ensures)
     (c.copy.ensures ∙ ap (λ (l : List ℕ). over l c.args.built_kind.now) c.kinds.ensures)

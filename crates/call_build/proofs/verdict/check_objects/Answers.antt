@@ -7,13 +7,13 @@ use Rattle.grouping_chart.specs.passes.Good.{all, first_at}
 use Rattle.grouping_chart.proofs.AllLaws.{places_tabulated}
 use Rattle.grouping_chart.proofs.RefusalLaws.{first-places}
 use Rattle.call_build.specs.Build.{start_at, delta_at, built_chart}
-use Rattle.call_build.specs.Lent.{seen}
+use Rattle.call_build.specs.Lent.{raw_seen}
 use Rattle.call_build.proofs.ChartLaws.{built-size, built-lengths, good_built}
 use Rattle.call_build.proofs.verdict.check_objects.Goals as goal
 
 pub returns-then-kinds-starts : goal.returns-then-kinds-starts
 returns-then-kinds-starts c =
-    let r = seen c.args.timed.raw in
+    let r = raw_seen c.args.timed.raw in
     let start = start_at c.args.timed.rate r.times in
     let delta = delta_at c.args.timed.rate r.times in
     let n = c.size-n.result in
@@ -24,7 +24,7 @@ returns-then-kinds-starts c =
 
 pub returns : goal.returns
 returns c =
-    let r = seen c.args.timed.raw in
+    let r = raw_seen c.args.timed.raw in
     let b = built_chart c.args.timed.rate r in
     let checks : ℕ → Check = λ i. object_refusal (get_or b.kinds i 0) (get_or b.starts i nan) (get_or b.deltas i nan) (get_or b.ratios i nan) in
     let size = built-size c.args.timed.rate r ∙ sym c.size-n.ensures in
