@@ -43,7 +43,8 @@ fn fill_chart(chart: Chart, s: Settings, value: &mut [f64], work: &mut [u16], sc
     fill::front(scratch, n, 0.0);
 }
 
-// Fills the values.
+// Fills the values. The slices that are written are no struct: a clause on a struct that holds a `&mut` also has to say
+// which borrow it is.
 pub fn colour(
     chart: Chart,
     value: &mut [f64],

@@ -49,8 +49,8 @@ fn average(kind: &[u8], value: &[f64]) -> f64
 {
     let mut sum: f64 = 0.0;
     let mut notes = 0;
-    for (i, k) in kind.iter().enumerate() {
-        sum += addend(*k, value[i]);
+    for (k, v) in kind.iter().zip(value) {
+        sum += addend(*k, *v);
         notes += usize::from(is_note(*k));
     }
     sum / (notes as f64)

@@ -76,7 +76,6 @@ module _ (margin : Float) (deltas : List Float) (n : ℕ) (work₀ : List ℕ) (
   -- ---- taken apart, with the marks in region 2: the objects, region 1, the marks and what follows
   module _ (work₁ : List ℕ) (marked : work₁ ≡ put (2 * n) marks work₀) (front back : List ℕ) (o : front ≡ take n work₁) (b : back ≡ drop n work₁)
       (region rest : List ℕ) (f : region ≡ take n back) (t : rest ≡ drop n back) where
-
     front_is : front ≡ take n work₀
     front_is = o ∙ ap (take n) marked ∙ take-put n (2 * n) marks work₀ (omega arith) (omega (arith, r))
 

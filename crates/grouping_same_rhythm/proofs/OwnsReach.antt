@@ -121,8 +121,12 @@ module _ {margin : Float} {deltas₀ deltas : List Float} {g : ℕ} {recent : Re
         known = known_turn (rw u at x.known) own (m.own ∙ ap (modal_delta margin) o.notes) newest r;
         left = λ j.
             let n : suc k + j ≡ k + suc j = omega arith in
-            rw n (x.left (suc j) ∙ rw (u, f, take-put_mid end (new - end) deltas group new (omega (arith, o.on, size)) (omega (arith, o.on, o.upto)),
-            append_assoc));
+            rw n (x.left (suc j) ∙ rw (
+              u,
+              f,
+              take-put_mid end (new - end) deltas group new (omega (arith, o.on, size)) (omega (arith, o.on, o.upto)),
+              append_assoc,
+            ));
         alone = λ j e.
             let n : j ≡ k = omega arith in
             rw (n, f, settled) (put_pieces end (new - end) group deltas size);
