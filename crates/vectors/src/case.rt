@@ -19,6 +19,13 @@ pub struct Head {
     pub size: usize,
 }
 
+// A case: its head and the bytes of its body.
+#[derive(Clone, Copy)]
+pub struct Case<'a> {
+    pub head: Head,
+    pub bytes: &'a [u8],
+}
+
 // The byte at a place, 0 past the end.
 pub fn byte_at(s: &[u8], at: usize) -> u8
     ensures { result ≡ get_or s.now at 0 }
