@@ -31,7 +31,8 @@ pub struct StoredStretch {
     pub tenths: u32,
 }
 
-// The call that a case is of.
+// The call that a case is of. As an `Option` of a stretch, or as a closure that makes the call, whose promise would
+// speak of three `&mut` slices, it would be no plainer.
 #[derive(Clone, Copy)]
 enum Asked {
     Colour,

@@ -34,7 +34,8 @@ struct Encoded<'a> {
     interval: &'a [u8],
 }
 
-// Whether the columns of numbers, each of so many bytes, are those of the body.
+// Whether the columns of numbers, each of so many bytes, are those of the body. That it is whole is asked of each
+// function here: a struct that holds this fact would be no plainer, as a second one beside `Room`.
 fn numbers_hold(room: Room, got: Encoded) -> bool
     requires { EncodeBody room.case.head room.case.bytes.now }
     ensures { let h = room.entry.case.head in let e = got.entry in
@@ -62,8 +63,8 @@ fn outcome_holds(
     scratch: &[f64],
 ) -> bool
     requires { EncodeBody room.case.head room.case.bytes.now }
-    ensures { let h = room.entry.case.head in let e = got.entry in
-        Tells result (EncodeStored (column_size h.objects h.width) h.width h.objects room.entry.case.bytes.now (outcome answer
+    ensures { let h = room.entry.case.head in let body = room.entry.case.bytes.now in let e = got.entry in
+        Tells result (EncodeStored (column_size h.objects h.width) h.width h.objects body (outcome answer
         (memory e.streak.now e.streak_place.now e.pattern.now e.pattern_place.now e.hit.now e.interval.now
         work.now scratch.now))) }
 {
@@ -89,7 +90,8 @@ fn lent_holds(
     scratch: &mut [f64],
 ) -> bool
     requires { EncodeBody room.case.head room.case.bytes.now }
-    ensures { let h = room.entry.case.head in Tells result (EncodeStored (column_size h.objects h.width) h.width h.objects room.entry.case.bytes.now
+    ensures { let h = room.entry.case.head in let body = room.entry.case.bytes.now in
+        Tells result (EncodeStored (column_size h.objects h.width) h.width h.objects body
         (encode_outcome base_settings (seen chart.entry)
         (memory streak.old streak_place.old pattern.old pattern_place.old hit.old interval.old work.old scratch.old))) }
 {
@@ -118,8 +120,9 @@ fn lent_holds(
 // Encode in slices full of sentinels, held to the body.
 fn call_holds(room: Room) -> bool
     requires { EncodeBody room.case.head room.case.bytes.now }
-    ensures { let h = room.entry.case.head in Tells result (EncodeStored (column_size h.objects h.width) h.width h.objects room.entry.case.bytes.now
-        (encode_outcome base_settings (encode_chart h.objects room.entry.case.bytes.now) (encode_lent h.objects room.entry.spare))) }
+    ensures { let h = room.entry.case.head in let body = room.entry.case.bytes.now in
+        Tells result (EncodeStored (column_size h.objects h.width) h.width h.objects body
+        (encode_outcome base_settings (encode_chart h.objects body) (encode_lent h.objects room.entry.spare))) }
 {
     let body = room.case.bytes;
     let n = room.case.head.objects;

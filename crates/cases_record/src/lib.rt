@@ -93,7 +93,7 @@ fn lent_holds(room: Room, part: &[u8], chart: Chart, work: &mut [u16], scratch: 
     fields_hold(part, answer) && sentinel::work_cleared(room.case.head.objects, work, scratch)
 }
 
-// Record in slices full of sentinels, held to the part.
+// Record in slices full of sentinels, held to the part; the chart is made as cases_rhythm makes it, which says why.
 fn call_holds(room: Room, part: &[u8]) -> bool
     requires { 4 + room.case.head.objects ≤ length room.case.bytes.now }
     ensures { let n = room.entry.case.head.objects in Tells result (RecordStored n part.now

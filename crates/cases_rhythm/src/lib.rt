@@ -79,7 +79,8 @@ fn lent_holds(
     outcome_holds(room, answer, group, pattern, work, scratch)
 }
 
-// Rhythm in slices full of sentinels, held to the body.
+// Rhythm in slices full of sentinels, held to the body. cases_record makes the same chart in as many lines: one call
+// that takes a closure of what to do with it would be no plainer, since its promise would have to name the closure.
 fn call_holds(room: Room) -> bool
     requires { 4 + room.case.head.objects ≤ length room.case.bytes.now }
     ensures { let n = room.entry.case.head.objects in let body = room.entry.case.bytes.now in

@@ -18,6 +18,7 @@ pub const MOST_BODY: usize = cases_build::MOST_BODY;
 pub const MOST_PART: usize = cases_record::PART_SIZE;
 
 // What follows a head: the body of a case with a chart, a part of the case before it, or nothing that belongs there.
+// An `Option` of an enum of the first two would be no plainer: who asks takes all three apart in one match.
 #[derive(Clone, Copy)]
 pub enum Next {
     Body,

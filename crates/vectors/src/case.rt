@@ -89,7 +89,7 @@ pub fn column_size(n: usize, width: u8) -> usize
     if width == 1 { n } else { 2 * n }
 }
 
-// The float that has these bits.
+// The float that has these bits. `f64::from_bits` asks that they are no NaN's, which stored ones may be.
 #[tactic(auto, using(crate::proofs::FloatLaws::a_nan, crate::proofs::FloatLaws::no_nan))]
 pub fn float_of(bits: u64) -> f64
     ensures { result ≡ Ieee.of_bits binary64 bits }
