@@ -43,7 +43,8 @@ build_lent n spare = record {
 
 -- n floats from a place on, by their bits, and the sentinel past them
 abbrev pub FloatsHeld : List ℕ → ℕ → ℕ → List Float → Type 0
-FloatsHeld stored at n got = FrontHeld (words stored at n) (to_bits binary64 float_sentinel) (map (to_bits binary64) got)
+FloatsHeld stored at n got =
+    FrontHeld (words stored at n) (to_bits binary64 float_sentinel) (map (to_bits binary64) got)
 
 -- the stored chart of n objects: kinds, starts, deltas and ratios
 pub record ChartHeld (n : ℕ) (stored : List ℕ) (m : Memory) : Type 0 where

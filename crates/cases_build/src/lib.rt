@@ -12,7 +12,7 @@ ghost use Rattle.cases_build.specs.passes.Room.{BuildRoom};
 use call_build::Raw;
 use grouping_chart::chart::Chart;
 use vectors::call::Call;
-use vectors::case::Head;
+use vectors::case::Case;
 use vectors::column::Column;
 use vectors::form::formed;
 use vectors::room::{Room, Spare};
@@ -79,11 +79,13 @@ fn lent_holds(
 }
 
 // Build of m raw objects in slices full of sentinels, held to the body.
-fn call_holds(m: usize, room: Room, body: &[u8]) -> bool
-    requires { BuildRoom m room.head.objects body.now }
-    ensures { let n = room.head.objects in Tells result (BuildStored n (drop (10 + 9 * m) body.now)
-        (build_outcome (stored_rate body.now) (stored_raw m body.now) (build_lent n room.spare))) }
+fn call_holds(m: usize, room: Room) -> bool
+    requires { BuildRoom m room.case.head.objects room.case.bytes.now }
+    ensures { let n = room.entry.case.head.objects in let body = room.entry.case.bytes.now in
+        Tells result (BuildStored n (drop (10 + 9 * m) body)
+        (build_outcome (stored_rate body) (stored_raw m body) (build_lent n room.entry.spare))) }
 {
+    let body = room.case.bytes;
     let places = room.places();
     let rate = stored_rate(body);
     let mut times = [0.0; MOST_RAW];
@@ -93,7 +95,7 @@ fn call_holds(m: usize, room: Room, body: &[u8]) -> bool
         time: &times[..m],
     };
     lent_holds(
-        room.head.objects,
+        room.case.head.objects,
         &body[10 + 9 * m..],
         raw,
         rate,
@@ -105,23 +107,22 @@ fn call_holds(m: usize, room: Room, body: &[u8]) -> bool
 }
 
 // Whether the bytes have the form of a build case of m raw objects.
-fn build_formed(m: usize, room: Room, body: &[u8]) -> bool
+fn build_formed(m: usize, room: Room) -> bool
     requires { m < 65536 }
-    ensures { Tells result (BuildForm m room.head body.now) }
+    ensures { Tells result (BuildForm m room.entry.case.head room.entry.case.bytes.now) }
 {
-    let size = 10 + 9 * m + 25 * room.head.objects;
-    formed(room.head, Call::Build, 8, 8, size, body.len())
-        && room.head.objects == m.saturating_sub(2)
+    let n = room.case.head.objects;
+    formed(room.case, Call::Build, 8, 8, 10 + 9 * m + 25 * n) && n == m.saturating_sub(2)
 }
 
 // Whether build answers as the case has it, in slices with so many places to spare.
 #[tactic(auto, unfolding(crate::specs::Build::BuildHolds))]
-pub fn holds(h: Head, body: &[u8], spare: Spare) -> bool
-    ensures { Tells result (BuildHolds h body.now spare.places) }
+pub fn holds(case: Case, spare: Spare) -> bool
+    ensures { Tells result (BuildHolds case.entry.head case.entry.bytes.now spare.places) }
 {
-    let Some(room) = Room::of(h, spare) else {
+    let Some(room) = Room::of(case, spare) else {
         return false;
     };
-    let m = raw_size(body);
-    build_formed(m, room, body) && call_holds(m, room, body)
+    let m = raw_size(case.bytes);
+    build_formed(m, room) && call_holds(m, room)
 }

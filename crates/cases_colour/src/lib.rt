@@ -15,7 +15,7 @@ use grouping_chart::chart::Chart;
 use grouping_chart::refusal::Refusal;
 use numeric::canonical::bits;
 use vectors::call::Call;
-use vectors::case::Head;
+use vectors::case::Case;
 use vectors::column::Column;
 use vectors::form::{formed, part_formed};
 use vectors::room::{Room, Spare};
@@ -31,7 +31,8 @@ pub struct StoredStretch {
     pub tenths: u32,
 }
 
-// The call that a case is of.
+// The call that a case is of. As an `Option` of a stretch, or as a closure that makes the call, whose promise would
+// speak of three `&mut` slices, it would be no plainer.
 #[derive(Clone, Copy)]
 enum Asked {
     Colour,
@@ -94,12 +95,13 @@ fn answer_holds(
 }
 
 // Whether the values are those of the body, and the work slices are cleared.
-fn values_hold(room: Room, body: &[u8], value: &[f64], work: &[u16], scratch: &[f64]) -> bool
-    ensures { let n = room.head.objects in let size = column_size n room.head.width in
-        Tells result (ValuesHeld size n body.now (memory value.now work.now scratch.now)) }
+fn values_hold(room: Room, value: &[f64], work: &[u16], scratch: &[f64]) -> bool
+    ensures { let h = room.entry.case.head in let size = column_size h.objects h.width in
+        Tells result (ValuesHeld size h.objects room.entry.case.bytes.now (memory value.now work.now scratch.now)) }
 {
-    let n = room.head.objects;
-    Column::words(body, 2 + n + room.column_size(), n).held(FLOAT_SENTINEL, value)
+    let n = room.case.head.objects;
+    let at = 2 + n + room.column_size();
+    Column::words(room.case.bytes, at, n).held(FLOAT_SENTINEL, value)
         && sentinel::work_cleared(n, work, scratch)
 }
 
@@ -107,31 +109,32 @@ fn values_hold(room: Room, body: &[u8], value: &[f64], work: &[u16], scratch: &[
 fn lent_holds(
     asked: Asked,
     room: Room,
-    body: &[u8],
     chart: Chart,
     value: &mut [f64],
     work: &mut [u16],
     scratch: &mut [f64],
 ) -> bool
-    ensures { let n = room.head.objects in Tells result (CallStored asked (column_size n room.head.width) n body.now
+    ensures { let h = room.entry.case.head in
+        Tells result (CallStored asked (column_size h.objects h.width) h.objects room.entry.case.bytes.now
         (seen chart.entry) (memory value.old work.old scratch.old)) }
 {
-    answer_holds(asked, chart, value, work, scratch)
-        && values_hold(room, body, value, work, scratch)
+    answer_holds(asked, chart, value, work, scratch) && values_hold(room, value, work, scratch)
 }
 
 // The call that is asked, in slices full of sentinels, held to the body, whose column of ratios has so many bytes.
-fn call_holds(asked: Asked, room: Room, body: &[u8]) -> bool
-    requires { 2 + room.head.objects ≤ length body.now }
-    ensures { let n = room.head.objects in let size = column_size n room.head.width in
-        Tells result (CallStored asked size n body.now
-        (colour_chart size room.head.width n body.now) (colour_lent n room.spare)) }
+fn call_holds(asked: Asked, room: Room) -> bool
+    requires { 2 + room.case.head.objects ≤ length room.case.bytes.now }
+    ensures { let h = room.entry.case.head in let n = h.objects in let size = column_size n h.width in
+        let body = room.entry.case.bytes.now in
+        Tells result (CallStored asked size n body
+        (colour_chart size h.width n body) (colour_lent n room.entry.spare)) }
 {
-    let n = room.head.objects;
+    let body = room.case.bytes;
+    let n = room.case.head.objects;
     let places = room.places();
     let at = 2 + n + room.column_size() + 8 * n;
     let table = Column::words(body, at, usize::from(case::pair_at(body, 0)));
-    let names = Column::numbers(body, 2 + n, room.head.width, n);
+    let names = Column::numbers(body, 2 + n, room.case.head.width, n);
     let mut ratios = [0.0; MOST_OBJECTS];
     vectors::table::read_named(&table, &names, &mut ratios);
     let ones = [1.0; MOST_OBJECTS];
@@ -144,7 +147,6 @@ fn call_holds(asked: Asked, room: Room, body: &[u8]) -> bool
     lent_holds(
         asked,
         room,
-        body,
         chart,
         &mut [FLOAT_SENTINEL; MOST_PLACES][..places],
         &mut [NUMBER_SENTINEL; MOST_WORK][..room.work()],
@@ -154,34 +156,36 @@ fn call_holds(asked: Asked, room: Room, body: &[u8]) -> bool
 
 // Whether the bytes have the form of a colour case.
 #[tactic(auto, unfolding(crate::specs::Colour::ColourForm))]
-fn colour_formed(room: Room, body: &[u8]) -> bool
-    ensures { let h = room.head in Tells result (ColourForm (column_size h.objects h.width) h body.now) }
+fn colour_formed(room: Room) -> bool
+    ensures { let h = room.entry.case.head in
+        Tells result (ColourForm (column_size h.objects h.width) h room.entry.case.bytes.now) }
 {
-    let table = 8 * usize::from(case::pair_at(body, 0));
-    let size = 2 + 9 * room.head.objects + room.column_size() + table;
-    formed(room.head, Call::Colour, 1, 2, size, body.len())
+    let table = 8 * usize::from(case::pair_at(room.case.bytes, 0));
+    let size = 2 + 9 * room.case.head.objects + room.column_size() + table;
+    formed(room.case, Call::Colour, 1, 2, size)
 }
 
 // Whether colour answers as the case has it, in slices with so many places to spare.
 #[tactic(auto, unfolding(crate::specs::Colour::ColourHolds, crate::specs::Colour::ColourForm))]
-pub fn holds(h: Head, body: &[u8], spare: Spare) -> bool
-    ensures { Tells result (ColourHolds h body.now spare.places) }
-{
-    let Some(room) = Room::of(h, spare) else {
-        return false;
-    };
-    colour_formed(room, body) && call_holds(Asked::Colour, room, body)
-}
-
-// Whether the stretch with this head and these bytes, of the chart of a colour case, is answered as they have it.
-#[tactic(auto, unfolding(crate::specs::Colour::StretchHolds, crate::specs::Colour::ColourForm))]
-pub fn stretch_holds(chart: Head, body: &[u8], h: Head, part: &[u8], spare: Spare) -> bool
-    ensures { Tells result (StretchHolds chart body.now h part.now spare.places) }
+pub fn holds(chart: Case, spare: Spare) -> bool
+    ensures { Tells result (ColourHolds chart.entry.head chart.entry.bytes.now spare.places) }
 {
     let Some(room) = Room::of(chart, spare) else {
         return false;
     };
-    colour_formed(room, body)
-        && part_formed(h, Call::Stretch, 1, 16, chart.objects, part.len())
-        && call_holds(Asked::Stretched(read_stretch(part)), room, body)
+    colour_formed(room) && call_holds(Asked::Colour, room)
+}
+
+// Whether a stretch of the chart of a colour case is answered as its own case has it.
+#[tactic(auto, unfolding(crate::specs::Colour::StretchHolds, crate::specs::Colour::ColourForm))]
+pub fn stretch_holds(chart: Case, part: Case, spare: Spare) -> bool
+    ensures { Tells result (StretchHolds chart.entry.head chart.entry.bytes.now
+        part.entry.head part.entry.bytes.now spare.places) }
+{
+    let Some(room) = Room::of(chart, spare) else {
+        return false;
+    };
+    colour_formed(room)
+        && part_formed(part, Call::Stretch, 1, 16, chart.head.objects)
+        && call_holds(Asked::Stretched(read_stretch(part.bytes)), room)
 }

@@ -14,7 +14,7 @@ ghost use Rattle.cases_encode.specs.passes.Room.{EncodeBody};
 use grouping_chart::chart::Chart;
 use grouping_chart::refusal::Refusal;
 use vectors::call::Call;
-use vectors::case::{Head, pair_at};
+use vectors::case::{Case, pair_at};
 use vectors::column::Column;
 use vectors::form::formed;
 use vectors::room::{Room, Spare};
@@ -34,15 +34,17 @@ struct Encoded<'a> {
     interval: &'a [u8],
 }
 
-// Whether the columns of numbers, each of so many bytes, are those of the body.
-fn numbers_hold(room: Room, body: &[u8], got: Encoded) -> bool
-    requires { EncodeBody room.head body.now }
-    ensures { let h = room.head in let e = got.entry in
-        Tells result (NumbersStored (column_size h.objects h.width) h.width h.objects body.now
+// Whether the columns of numbers, each of so many bytes, are those of the body. That it is whole is asked of each
+// function here: a struct that holds this fact would be no plainer, as a second one beside `Room`.
+fn numbers_hold(room: Room, got: Encoded) -> bool
+    requires { EncodeBody room.case.head room.case.bytes.now }
+    ensures { let h = room.entry.case.head in let e = got.entry in
+        Tells result (NumbersStored (column_size h.objects h.width) h.width h.objects room.entry.case.bytes.now
         e.streak.now e.streak_place.now e.pattern.now e.pattern_place.now e.hit.now) }
 {
-    let n = room.head.objects;
-    let width = room.head.width;
+    let body = room.case.bytes;
+    let n = room.case.head.objects;
+    let width = room.case.head.width;
     let size = room.column_size();
     let at = 2 + n;
     Column::numbers(body, at, width, n).held(NUMBER_SENTINEL, got.streak)
@@ -55,21 +57,21 @@ fn numbers_hold(room: Room, body: &[u8], got: Encoded) -> bool
 // Whether an answer and slices are those of the body.
 fn outcome_holds(
     room: Room,
-    body: &[u8],
     answer: Result<usize, Refusal>,
     got: Encoded,
     work: &[u16],
     scratch: &[f64],
 ) -> bool
-    requires { EncodeBody room.head body.now }
-    ensures { let h = room.head in let e = got.entry in
-        Tells result (EncodeStored (column_size h.objects h.width) h.width h.objects body.now (outcome answer
+    requires { EncodeBody room.case.head room.case.bytes.now }
+    ensures { let h = room.entry.case.head in let body = room.entry.case.bytes.now in let e = got.entry in
+        Tells result (EncodeStored (column_size h.objects h.width) h.width h.objects body (outcome answer
         (memory e.streak.now e.streak_place.now e.pattern.now e.pattern_place.now e.hit.now e.interval.now
         work.now scratch.now))) }
 {
-    let n = room.head.objects;
+    let body = room.case.bytes;
+    let n = room.case.head.objects;
     answer == Ok(usize::from(pair_at(body, 0)))
-        && numbers_hold(room, body, got)
+        && numbers_hold(room, got)
         && Column::bytes(body, 2 + n + 5 * room.column_size(), n).held(BYTE_SENTINEL, got.interval)
         && sentinel::work_cleared(n, work, scratch)
 }
@@ -77,7 +79,6 @@ fn outcome_holds(
 // Encode in lent slices, held to the body.
 fn lent_holds(
     room: Room,
-    body: &[u8],
     chart: Chart,
     streak: &mut [u16],
     streak_place: &mut [u16],
@@ -88,8 +89,9 @@ fn lent_holds(
     work: &mut [u16],
     scratch: &mut [f64],
 ) -> bool
-    requires { EncodeBody room.head body.now }
-    ensures { let h = room.head in Tells result (EncodeStored (column_size h.objects h.width) h.width h.objects body.now
+    requires { EncodeBody room.case.head room.case.bytes.now }
+    ensures { let h = room.entry.case.head in let body = room.entry.case.bytes.now in
+        Tells result (EncodeStored (column_size h.objects h.width) h.width h.objects body
         (encode_outcome base_settings (seen chart.entry)
         (memory streak.old streak_place.old pattern.old pattern_place.old hit.old interval.old work.old scratch.old))) }
 {
@@ -112,16 +114,18 @@ fn lent_holds(
         hit,
         interval,
     };
-    outcome_holds(room, body, answer, got, work, scratch)
+    outcome_holds(room, answer, got, work, scratch)
 }
 
 // Encode in slices full of sentinels, held to the body.
-fn call_holds(room: Room, body: &[u8]) -> bool
-    requires { EncodeBody room.head body.now }
-    ensures { let h = room.head in Tells result (EncodeStored (column_size h.objects h.width) h.width h.objects body.now
-        (encode_outcome base_settings (encode_chart h.objects body.now) (encode_lent h.objects room.spare))) }
+fn call_holds(room: Room) -> bool
+    requires { EncodeBody room.case.head room.case.bytes.now }
+    ensures { let h = room.entry.case.head in let body = room.entry.case.bytes.now in
+        Tells result (EncodeStored (column_size h.objects h.width) h.width h.objects body
+        (encode_outcome base_settings (encode_chart h.objects body) (encode_lent h.objects room.entry.spare))) }
 {
-    let n = room.head.objects;
+    let body = room.case.bytes;
+    let n = room.case.head.objects;
     let places = room.places();
     let ones = &[1.0; MOST_OBJECTS][..n];
     let chart = Chart {
@@ -132,7 +136,6 @@ fn call_holds(room: Room, body: &[u8]) -> bool
     };
     lent_holds(
         room,
-        body,
         chart,
         &mut [NUMBER_SENTINEL; MOST_PLACES][..places],
         &mut [NUMBER_SENTINEL; MOST_PLACES][..places],
@@ -147,12 +150,12 @@ fn call_holds(room: Room, body: &[u8]) -> bool
 
 // Whether encode answers as the case has it, in slices with so many places to spare.
 #[tactic(auto, unfolding(crate::specs::Encode::EncodeHolds))]
-pub fn holds(h: Head, body: &[u8], spare: Spare) -> bool
-    ensures { Tells result (EncodeHolds h body.now spare.places) }
+pub fn holds(case: Case, spare: Spare) -> bool
+    ensures { Tells result (EncodeHolds case.entry.head case.entry.bytes.now spare.places) }
 {
-    let Some(room) = Room::of(h, spare) else {
+    let Some(room) = Room::of(case, spare) else {
         return false;
     };
-    let size = 2 + 2 * h.objects + 5 * room.column_size();
-    formed(h, Call::Encode, 1, 2, size, body.len()) && call_holds(room, body)
+    let size = 2 + 2 * case.head.objects + 5 * room.column_size();
+    formed(case, Call::Encode, 1, 2, size) && call_holds(room)
 }

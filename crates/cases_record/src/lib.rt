@@ -17,7 +17,7 @@ use grouping_chart::chart::Chart;
 use grouping_chart::refusal::Refusal;
 use numeric::canonical::bits;
 use vectors::call::Call;
-use vectors::case::Head;
+use vectors::case::Case;
 use vectors::form::part_formed;
 use vectors::room::{Room, Spare};
 use vectors::sentinel::{FLOAT_SENTINEL, MOST_OBJECTS, MOST_PLACES, MOST_WORK, NUMBER_SENTINEL};
@@ -84,22 +84,23 @@ fn fields_hold(part: &[u8], answer: Result<GroupRecord, Refusal>) -> bool
 // Record in lent slices, held to the part.
 #[tactic(auto, unfolding(crate::specs::Record::asked_outcome))]
 fn lent_holds(room: Room, part: &[u8], chart: Chart, work: &mut [u16], scratch: &mut [f64]) -> bool
-    ensures { Tells result (RecordStored room.head.objects part.now
+    ensures { Tells result (RecordStored room.entry.case.head.objects part.now
         (asked_outcome part.now (seen chart.entry) (memory work.old scratch.old))) }
 {
     let group = usize::from(case::pair_at(part, 0));
     let window = case::float_of(case::word_at(part, 10));
     let answer = call_record::record(chart, group, window, work, scratch);
-    fields_hold(part, answer) && sentinel::work_cleared(room.head.objects, work, scratch)
+    fields_hold(part, answer) && sentinel::work_cleared(room.case.head.objects, work, scratch)
 }
 
-// Record in slices full of sentinels, held to the part.
-fn call_holds(room: Room, body: &[u8], part: &[u8]) -> bool
-    requires { 4 + room.head.objects ≤ length body.now }
-    ensures { let n = room.head.objects in Tells result (RecordStored n part.now
-        (asked_outcome part.now (rhythm_chart n body.now) (record_lent n room.spare))) }
+// Record in slices full of sentinels, held to the part; the chart is made as cases_rhythm makes it, which says why.
+fn call_holds(room: Room, part: &[u8]) -> bool
+    requires { 4 + room.case.head.objects ≤ length room.case.bytes.now }
+    ensures { let n = room.entry.case.head.objects in Tells result (RecordStored n part.now
+        (asked_outcome part.now (rhythm_chart n room.entry.case.bytes.now) (record_lent n room.entry.spare))) }
 {
-    let n = room.head.objects;
+    let body = room.case.bytes;
+    let n = room.case.head.objects;
     let mut starts = [0.0; MOST_OBJECTS];
     let mut deltas = [0.0; MOST_OBJECTS];
     cases_rhythm::read_times(n, body, &mut starts, &mut deltas);
@@ -119,15 +120,16 @@ fn call_holds(room: Room, body: &[u8], part: &[u8]) -> bool
     )
 }
 
-// Whether the record with this head and these bytes, of the chart of a rhythm case, is answered as they have it.
+// Whether a record of the chart of a rhythm case is answered as its own case has it.
 #[tactic(auto, unfolding(crate::specs::Record::RecordHolds), using(cases_rhythm::proofs::RhythmLaws::form_room))]
-pub fn holds(chart: Head, body: &[u8], h: Head, part: &[u8], spare: Spare) -> bool
-    ensures { Tells result (RecordHolds chart body.now h part.now spare.places) }
+pub fn holds(chart: Case, part: Case, spare: Spare) -> bool
+    ensures { Tells result (RecordHolds chart.entry.head chart.entry.bytes.now
+        part.entry.head part.entry.bytes.now spare.places) }
 {
     let Some(room) = Room::of(chart, spare) else {
         return false;
     };
-    cases_rhythm::rhythm_formed(room, body)
-        && part_formed(h, Call::Record, 2, PART_SIZE, chart.objects, part.len())
-        && call_holds(room, body, part)
+    cases_rhythm::rhythm_formed(room)
+        && part_formed(part, Call::Record, 2, PART_SIZE, chart.head.objects)
+        && call_holds(room, part.bytes)
 }

@@ -15,7 +15,7 @@ use call_rhythm::GroupTotals;
 use grouping_chart::chart::Chart;
 use grouping_chart::refusal::Refusal;
 use vectors::call::Call;
-use vectors::case::Head;
+use vectors::case::Case;
 use vectors::column::Column;
 use vectors::form::formed;
 use vectors::room::{Room, Spare};
@@ -44,17 +44,18 @@ fn counts_hold(body: &[u8], answer: Result<GroupTotals, Refusal>) -> bool
 // Whether an answer and slices are those of the body.
 fn outcome_holds(
     room: Room,
-    body: &[u8],
     answer: Result<GroupTotals, Refusal>,
     group: &[u16],
     pattern: &[u16],
     work: &[u16],
     scratch: &[f64],
 ) -> bool
-    ensures { Tells result (RhythmStored room.head.objects body.now (outcome answer
+    ensures { let h = room.entry.case.head in
+        Tells result (RhythmStored h.objects room.entry.case.bytes.now (outcome answer
         (memory group.now pattern.now work.now scratch.now))) }
 {
-    let n = room.head.objects;
+    let body = room.case.bytes;
+    let n = room.case.head.objects;
     counts_hold(body, answer)
         && Column::numbers(body, 4 + 17 * n, 2, n).held(NUMBER_SENTINEL, group)
         && Column::numbers(body, 4 + 19 * n, 2, n).held(NUMBER_SENTINEL, pattern)
@@ -64,27 +65,30 @@ fn outcome_holds(
 // Rhythm in lent slices, held to the body.
 fn lent_holds(
     room: Room,
-    body: &[u8],
     chart: Chart,
     group: &mut [u16],
     pattern: &mut [u16],
     work: &mut [u16],
     scratch: &mut [f64],
 ) -> bool
-    ensures { Tells result (RhythmStored room.head.objects body.now
+    ensures { let h = room.entry.case.head in
+        Tells result (RhythmStored h.objects room.entry.case.bytes.now
         (rhythm_outcome base_settings (seen chart.entry) (memory group.old pattern.old work.old scratch.old))) }
 {
     let answer = call_rhythm::rhythm(chart, group, pattern, work, scratch);
-    outcome_holds(room, body, answer, group, pattern, work, scratch)
+    outcome_holds(room, answer, group, pattern, work, scratch)
 }
 
-// Rhythm in slices full of sentinels, held to the body.
-fn call_holds(room: Room, body: &[u8]) -> bool
-    requires { 4 + room.head.objects ≤ length body.now }
-    ensures { let n = room.head.objects in Tells result (RhythmStored n body.now
-        (rhythm_outcome base_settings (rhythm_chart n body.now) (rhythm_lent n room.spare))) }
+// Rhythm in slices full of sentinels, held to the body. cases_record makes the same chart in as many lines: one call
+// that takes a closure of what to do with it would be no plainer, since its promise would have to name the closure.
+fn call_holds(room: Room) -> bool
+    requires { 4 + room.case.head.objects ≤ length room.case.bytes.now }
+    ensures { let n = room.entry.case.head.objects in let body = room.entry.case.bytes.now in
+        Tells result (RhythmStored n body
+        (rhythm_outcome base_settings (rhythm_chart n body) (rhythm_lent n room.entry.spare))) }
 {
-    let n = room.head.objects;
+    let body = room.case.bytes;
+    let n = room.case.head.objects;
     let places = room.places();
     let mut starts = [0.0; MOST_OBJECTS];
     let mut deltas = [0.0; MOST_OBJECTS];
@@ -98,7 +102,6 @@ fn call_holds(room: Room, body: &[u8]) -> bool
     };
     lent_holds(
         room,
-        body,
         chart,
         &mut [NUMBER_SENTINEL; MOST_PLACES][..places],
         &mut [NUMBER_SENTINEL; MOST_PLACES][..places],
@@ -109,20 +112,20 @@ fn call_holds(room: Room, body: &[u8]) -> bool
 
 // Whether the bytes have the form of a rhythm case.
 #[tactic(auto, unfolding(crate::specs::Rhythm::RhythmForm))]
-pub fn rhythm_formed(room: Room, body: &[u8]) -> bool
-    ensures { Tells result (RhythmForm room.head body.now) }
+pub fn rhythm_formed(room: Room) -> bool
+    ensures { Tells result (RhythmForm room.entry.case.head room.entry.case.bytes.now) }
 {
-    let size = 4 + 21 * room.head.objects;
-    formed(room.head, Call::Rhythm, 2, 2, size, body.len())
+    let size = 4 + 21 * room.case.head.objects;
+    formed(room.case, Call::Rhythm, 2, 2, size)
 }
 
 // Whether rhythm answers as the case has it, in slices with so many places to spare.
 #[tactic(auto, unfolding(crate::specs::Rhythm::RhythmHolds, crate::specs::Rhythm::RhythmForm))]
-pub fn holds(h: Head, body: &[u8], spare: Spare) -> bool
-    ensures { Tells result (RhythmHolds h body.now spare.places) }
+pub fn holds(case: Case, spare: Spare) -> bool
+    ensures { Tells result (RhythmHolds case.entry.head case.entry.bytes.now spare.places) }
 {
-    let Some(room) = Room::of(h, spare) else {
+    let Some(room) = Room::of(case, spare) else {
         return false;
     };
-    rhythm_formed(room, body) && call_holds(room, body)
+    rhythm_formed(room) && call_holds(room)
 }

@@ -10,7 +10,8 @@ use vectors::room::Spare;
 const MOST_CASES: u64 = 1_000_000;
 
 // How many cases may follow, the objects of the charts, a tally of the cases with a chart and of those on one, and the
-// head of the last chart.
+// head of the last chart. That `left` is 0 at the end too is how the promise of a whole file says that it was read; a
+// `for` with a `break` would be no plainer beside it.
 #[derive(Clone, Copy)]
 pub struct Replay {
     pub left: u64,
@@ -20,7 +21,8 @@ pub struct Replay {
     pub chart: Head,
 }
 
-// What became of a case: whether it held, and for one with a chart its head.
+// What became of a case: whether it held, and for one with a chart its head. A `Result` of an `Option` would be no
+// plainer, since all four are counted, in one match.
 #[derive(Clone, Copy)]
 pub enum Replayed {
     Chart(Head, bool),

@@ -6,7 +6,7 @@ ghost use Rattle.vectors.specs.Held.{Tells};
 ghost use Rattle.replay_cases.specs.Cases.{follows_in, ChartHolds, PartHolds};
 
 use vectors::call::Call;
-use vectors::case::Head;
+use vectors::case::{Case, Head};
 use vectors::room::Spare;
 
 pub mod count;
@@ -18,6 +18,7 @@ pub const MOST_BODY: usize = cases_build::MOST_BODY;
 pub const MOST_PART: usize = cases_record::PART_SIZE;
 
 // What follows a head: the body of a case with a chart, a part of the case before it, or nothing that belongs there.
+// An `Option` of an enum of the first two would be no plainer: who asks takes all three apart in one match.
 #[derive(Clone, Copy)]
 pub enum Next {
     Body,
@@ -39,31 +40,32 @@ pub fn follows(call: Call, h: Head) -> Next
 
 // Whether a case with a chart of its own, or with what one is built of, holds, in slices with so many places to spare.
 // Tried as one match on `Some(Call::Build)` and so on: the proof of its last arm did not close.
-pub fn chart_holds(h: Head, body: &[u8], spare: Spare) -> bool
-    ensures { Tells result (ChartHolds h body.now spare.places) }
+pub fn chart_holds(case: Case, spare: Spare) -> bool
+    ensures { Tells result (ChartHolds case.entry.head case.entry.bytes.now spare.places) }
 {
-    let Some(call) = h.call else {
+    let Some(call) = case.head.call else {
         return false;
     };
     match call {
-        Call::Build => cases_build::holds(h, body, spare),
-        Call::Encode => cases_encode::holds(h, body, spare),
-        Call::Colour => cases_colour::holds(h, body, spare),
-        Call::Rhythm => cases_rhythm::holds(h, body, spare),
+        Call::Build => cases_build::holds(case, spare),
+        Call::Encode => cases_encode::holds(case, spare),
+        Call::Colour => cases_colour::holds(case, spare),
+        Call::Rhythm => cases_rhythm::holds(case, spare),
         _ => false,
     }
 }
 
 // Whether a case on the chart of another one holds. Two matches, as above.
-pub fn part_holds(chart: Head, body: &[u8], h: Head, part: &[u8], spare: Spare) -> bool
-    ensures { Tells result (PartHolds chart body.now h part.now spare.places) }
+pub fn part_holds(chart: Case, part: Case, spare: Spare) -> bool
+    ensures { Tells result (PartHolds chart.entry.head chart.entry.bytes.now
+        part.entry.head part.entry.bytes.now spare.places) }
 {
-    let Some(call) = h.call else {
+    let Some(call) = part.head.call else {
         return false;
     };
     match call {
-        Call::Stretch => cases_colour::stretch_holds(chart, body, h, part, spare),
-        Call::Record => cases_record::holds(chart, body, h, part, spare),
+        Call::Stretch => cases_colour::stretch_holds(chart, part, spare),
+        Call::Record => cases_record::holds(chart, part, spare),
         _ => false,
     }
 }

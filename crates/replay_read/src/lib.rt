@@ -11,7 +11,7 @@ use replay_cases::count::{Replay, Replayed};
 use replay_cases::{MOST_BODY, MOST_PART, Next};
 use std::fs::File;
 use vectors::call::Call;
-use vectors::case::Head;
+use vectors::case::{Case, Head};
 use vectors::room::Spare;
 
 // Reads the body of a case with a chart of its own, and replays it.
@@ -25,7 +25,11 @@ fn chart_case(file: &mut File, spare: Spare, h: Head, body: &mut [u8]) -> Replay
     if reading::read_full(file, &mut body[..size]) != size {
         return Replayed::Broken;
     }
-    let held = replay_cases::chart_holds(h, &body[..size], spare);
+    let case = Case {
+        head: h,
+        bytes: &body[..size],
+    };
+    let held = replay_cases::chart_holds(case, spare);
     Replayed::Chart(h, held)
 }
 
@@ -51,7 +55,15 @@ fn part_case(
     if reading::read_full(file, &mut part[..size]) != size {
         return Replayed::Broken;
     }
-    let held = replay_cases::part_holds(chart, &body[..whole], h, &part[..size], spare);
+    let on = Case {
+        head: chart,
+        bytes: &body[..whole],
+    };
+    let case = Case {
+        head: h,
+        bytes: &part[..size],
+    };
+    let held = replay_cases::part_holds(on, case, spare);
     Replayed::Part(held)
 }
 

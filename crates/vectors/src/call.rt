@@ -4,12 +4,12 @@ use std::convert::TryFrom;
 // Which call a stored case is of.
 #[derive(Clone, Copy, PartialEq, Eq)]
 pub enum Call {
-    Encode = 1,
-    Colour = 2,
-    Stretch = 3,
-    Rhythm = 4,
-    Record = 5,
-    Build = 6,
+    Encode,
+    Colour,
+    Stretch,
+    Rhythm,
+    Record,
+    Build,
 }
 
 // A number that names no call.

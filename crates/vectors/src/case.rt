@@ -19,6 +19,13 @@ pub struct Head {
     pub size: usize,
 }
 
+// A case: its head and the bytes of its body.
+#[derive(Clone, Copy)]
+pub struct Case<'a> {
+    pub head: Head,
+    pub bytes: &'a [u8],
+}
+
 // The byte at a place, 0 past the end.
 pub fn byte_at(s: &[u8], at: usize) -> u8
     ensures { result ≡ get_or s.now at 0 }
@@ -82,7 +89,7 @@ pub fn column_size(n: usize, width: u8) -> usize
     if width == 1 { n } else { 2 * n }
 }
 
-// The float that has these bits.
+// The float that has these bits. `f64::from_bits` asks that they are no NaN's, which stored ones may be.
 #[tactic(auto, using(crate::proofs::FloatLaws::a_nan, crate::proofs::FloatLaws::no_nan))]
 pub fn float_of(bits: u64) -> f64
     ensures { result ≡ Ieee.of_bits binary64 bits }

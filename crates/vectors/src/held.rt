@@ -9,6 +9,7 @@ ghost use Rattle.vectors.specs.Held.{Tells, FrontHeld};
 use crate::column::Column;
 
 // What a place of a slice holds: the number that it is compared by, which of a float is its bits.
+// u8 and u16 have an impl each: one over `Into<u64>` would be no plainer, with f64 to be kept out of it.
 pub trait Place: Copy {
     ghost bits_of: { Self → ℕ };
 

@@ -5,7 +5,7 @@ ghost use Rattle.vectors.specs.Case.{column_size};
 ghost use Rattle.vectors.specs.passes.Room.{Few};
 
 use crate::case;
-use crate::case::Head;
+use crate::case::Case;
 use crate::sentinel::MOST_OBJECTS;
 
 // How many places the slices have to spare: at most 7.
@@ -15,47 +15,48 @@ pub struct Spare {
     ghost few: { places ≤ 7 },
 }
 
-// The head of a case with no more objects than a chart may have, and how many places its slices have to spare.
+// A case with no more objects than a chart may have, and how many places its slices have to spare.
 #[derive(Clone, Copy)]
-pub struct Room {
-    pub head: Head,
+pub struct Room<'a> {
+    pub case: Case<'a>,
     pub spare: usize,
-    ghost few: { Few head.objects spare },
+    ghost few: { Few case.head.objects spare },
 }
 
-impl Room {
+impl<'a> Room<'a> {
     // Room for the objects that the head says, unless there are too many.
-    pub fn of(h: Head, spare: Spare) -> Option<Room>
-        ensures { MatchOption result (largest < h.objects)
-            (λ r. (r.head ≡ h) × (r.spare ≡ spare.places)) }
+    pub fn of(case: Case<'a>, spare: Spare) -> Option<Room<'a>>
+        ensures { MatchOption result (largest < case.entry.head.objects)
+            (λ r. (r.case ≡ case.entry) × (r.spare ≡ spare.places)) }
     {
-        if h.objects > MOST_OBJECTS {
+        if case.head.objects > MOST_OBJECTS {
             return None;
         }
         Some(Room {
-            head: h,
+            case,
             spare: spare.places,
         })
     }
 
     // How many places a slice has for each object, and to spare.
     pub fn places(self) -> usize
-        ensures { result ≡ self.head.objects + self.spare }
+        ensures { result ≡ self.entry.case.head.objects + self.entry.spare }
     {
-        self.head.objects + self.spare
+        self.case.head.objects + self.spare
     }
 
     // And a work slice, with eight for each object.
     pub fn work(self) -> usize
-        ensures { result ≡ 8 * self.head.objects + self.spare }
+        ensures { result ≡ 8 * self.entry.case.head.objects + self.entry.spare }
     {
-        8 * self.head.objects + self.spare
+        8 * self.case.head.objects + self.spare
     }
 
     // How many bytes a column has that holds a number for each object.
     pub fn column_size(self) -> usize
-        ensures { (result ≡ column_size self.head.objects self.head.width) × (result ≤ 2 * self.head.objects) }
+        ensures { let h = self.entry.case.head in
+            (result ≡ column_size h.objects h.width) × (result ≤ 2 * h.objects) }
     {
-        case::column_size(self.head.objects, self.head.width)
+        case::column_size(self.case.head.objects, self.case.head.width)
     }
 }

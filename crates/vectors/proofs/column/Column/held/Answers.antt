@@ -1,5 +1,5 @@
 -- A slice that is too short, or a place that differs, denies; once every place was passed, all is as it must be.
-use Rattle.std.proofs.Common.{◌≡◌, get_or, arith, rules, ◌∙◌, sym}
+use Rattle.std.proofs.Common.{arith, rules}
 use borrow.Author.Tests.{tests, lt-leb}
 use Rattle.std.proofs.lemmas.Iterator.{cases_from_all, YieldsList-from_slice}
 use Rattle.std.proofs.lemmas.Iterator.Consumers.{YieldsList-from_enumerate}
