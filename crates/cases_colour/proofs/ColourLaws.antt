@@ -58,7 +58,8 @@ module _ {call : Asked} {c : Chart} {m : Memory} {r : Bool} where
 
 -- the table's floats, read over zeros
 abbrev read_ratios : ℕ → ℕ → ℕ → List ℕ → List Float
-read_ratios size width n body = over (entries (words body (2 + n + size + 8 * n) (pair_at body 0)) (column body (2 + n) width n)) (replicate largest (of_bits binary64 0))
+read_ratios size width n body =
+    over (entries (words body (2 + n + size + 8 * n) (pair_at body 0)) (column body (2 + n) width n)) (replicate largest (of_bits binary64 0))
 
 abbrev made_chart : ℕ → List ℕ → List Float → Chart
 made_chart n body ratios =

@@ -18,7 +18,8 @@ use Rattle.cases_colour.specs.declared.StoredStretch.{StoredStretch}
 
 -- ---- the comparison
 
-module _ (s : StoredStretch) (found : StretchMean) (small : mag found.tenths < 2 ^ 63) (stored : ℤ) (sign : stored ≡ signed_of s.tenths) (fits : mag stored < 2 ^ 63) where
+module _ (s : StoredStretch) (found : StretchMean) (small : mag found.tenths < 2 ^ 63)
+    (stored : ℤ) (sign : stored ≡ signed_of s.tenths) (fits : mag stored < 2 ^ 63) where
   pub mean-told : (bits : ℕ) → of_z w64 found.tenths ≡ of_z w64 stored → bits ≡ to_bits binary64 found.mean → Tells (eqb bits s.mean) (FoundIs s found)
   mean-told bits h b =
       let z : found.tenths ≡ signed_of s.tenths = sym (to_z-of_z {w = w64} (sfits_of small)) ∙ ap (to_z w64) h ∙ to_z-of_z {w = w64} (sfits_of fits) ∙ sign in

@@ -13,7 +13,7 @@ use Rattle.replay_cases.specs.declared.Next.{Next}
 use Rattle.replay_cases.specs.declared.Next.TheVariants.{Body, Part, Nothing}
 
 -- a file holds the cases of one call; one of colour has stretches too, and one of rhythm records
-unfoldable pub follows_in : Call → Head → Next
+abbrev pub follows_in : Call → Head → Next
 follows_in call h =
     cond (is_call h.call call) Body
     (cond (is_call (Some call) Colour && is_call h.call Stretch) Part

@@ -27,7 +27,7 @@ pub enum Next {
 }
 
 // What follows the head in the file of this call's charts.
-#[tactic(auto, using(vectors::proofs::CallLaws::asked, vectors::proofs::CallLaws::not_asked), unfolding(crate::specs::Cases::follows_in))]
+#[tactic(auto, using(vectors::proofs::CallLaws::asked, vectors::proofs::CallLaws::not_asked))]
 pub fn follows(call: Call, h: Head) -> Next
     ensures { result ≡ follows_in call h }
 {

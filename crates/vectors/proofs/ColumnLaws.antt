@@ -1,5 +1,6 @@
 -- The values of a column, by how many bytes each has: they are the numbers, the bytes, the words or the zeros that stand there.
-use Rattle.std.proofs.Common.{◌≡◌, ℕ, ◌+◌, ◌<◌, ◌≤◌, List, [], length, get_or, replicate, sym, ap, refl, ◌∙◌, arith, eqb, cond, Bool, true, false, ◌*◌, ◌^◌, Some, None, slice_get}
+use Rattle.std.proofs.Common.{◌≡◌, ℕ, ◌+◌, ◌<◌, ◌≤◌, ◌*◌, ◌^◌, List, [], length, get_or, replicate, sym, ap, refl, ◌∙◌, arith}
+use Rattle.std.proofs.Common.{eqb, cond, Bool, true, false, Some, None, slice_get}
 use lib.ListN.{length-replicate, get_or-replicate}
 use Rattle.std.proofs.lemmas.Option.{slice_get-get_or, slice_get_past}
 use lib.Seq.{ext_get_or}

@@ -1,11 +1,16 @@
 -- A stored case: what its bytes say.
-use Rattle.std.specs.Prelude.{ℕ, ◌+◌, ◌*◌, cond, List, eqb, get_or}
+use Rattle.std.specs.Prelude.{ℕ, zero, suc, ◌+◌, ◌*◌, cond, List, [], ◌∷◌, ◌++◌, eqb, get_or}
 use Rattle.lent.specs.Scan.{tabulate}
 use Rattle.vectors.specs.Call.{call_of}
 use Rattle.vectors.specs.declared.case.Head.{Head}
 
+-- n bytes from a place on
+unfoldable pub bytes_at : List ℕ → ℕ → ℕ → List ℕ
+bytes_at s at zero = []
+bytes_at s at (suc n) = bytes_at s at n ++ (get_or s (at + n) 0 ∷ [])
+
 -- two bytes, the low one first
-unfoldable pub pair : ℕ → ℕ → ℕ
+abbrev pub pair : ℕ → ℕ → ℕ
 pair low high = low + 256 * high
 
 -- two bytes at a place

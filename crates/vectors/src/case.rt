@@ -1,9 +1,8 @@
 // A stored case as bytes, low byte first: a head of 8 bytes, then a body that begins with a number and the kinds.
 ghost use Rattle.std.specs.Prelude.{◌≡◌, ◌+◌, ◌*◌, ◌^◌, ◌<◌, ◌≤◌, get_or};
 ghost use Rattle.std.specs.Float.Ieee as Ieee;
-ghost use Rattle.lent.specs.Scan.{tabulate};
 ghost use Rattle.std.specs.Float.{binary64};
-ghost use Rattle.vectors.specs.Case.{pair_at, column_size, quad_at, word_at, head_of};
+ghost use Rattle.vectors.specs.Case.{bytes_at, pair_at, column_size, quad_at, word_at, head_of};
 
 use crate::call::Call;
 use std::array;
@@ -36,13 +35,13 @@ pub fn byte_at(s: &[u8], at: usize) -> u8
 // N bytes from a place on.
 fn bytes_at<const N: usize>(s: &[u8], at: usize) -> [u8; N]
     requires { at + N ≤ 2 ^ 64 }
-    ensures { result ≡ tabulate (λ k. get_or s.now (at + k) 0) N }
+    ensures { result ≡ bytes_at s.now at N }
 {
     array::from_fn(|k| byte_at(s, at + k))
 }
 
 // The number of two bytes at a place.
-#[tactic(auto, unfolding(crate::specs::Case::pair_at, crate::specs::Case::pair, lent::specs::Scan::tabulate))]
+#[tactic(auto, unfolding(crate::specs::Case::pair_at, crate::specs::Case::bytes_at))]
 pub fn pair_at(s: &[u8], at: usize) -> u16
     requires { at + 1 < 2 ^ 64 }
     ensures { result ≡ pair_at s.now at }
@@ -51,7 +50,7 @@ pub fn pair_at(s: &[u8], at: usize) -> u16
 }
 
 // The number of four bytes at a place.
-#[tactic(auto, unfolding(crate::specs::Case::quad_at, crate::specs::Case::pair_at, crate::specs::Case::pair, lent::specs::Scan::tabulate))]
+#[tactic(auto, unfolding(crate::specs::Case::quad_at, crate::specs::Case::pair_at, crate::specs::Case::bytes_at))]
 pub fn quad_at(s: &[u8], at: usize) -> u32
     requires { at + 3 < 2 ^ 64 }
     ensures { result ≡ quad_at s.now at }
@@ -60,7 +59,6 @@ pub fn quad_at(s: &[u8], at: usize) -> u32
 }
 
 // The number of eight bytes at a place.
-#[tactic(auto, unfolding(crate::specs::Case::word_at, crate::specs::Case::quad_at, crate::specs::Case::pair_at, crate::specs::Case::pair, lent::specs::Scan::tabulate))]
 pub fn word_at(s: &[u8], at: usize) -> u64
     requires { at + 7 < 2 ^ 64 }
     ensures { result ≡ word_at s.now at }

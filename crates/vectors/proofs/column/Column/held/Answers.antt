@@ -11,7 +11,8 @@ pub returns-then-count-got : goal.returns-then-count-got
 returns-then-count-got g c =
     rw (← c.bits-past.ensures)
     (all_told _ _ g.met.T.Place.each_place c.args.got.now _ _ c.args.sentinel _ (omega arith)
-    (cases_from_all _ _ _ (Same g.T.Place.bits_of c.args.self.now c.bits-past.result) (λ p. Same g.T.Place.bits_of c.args.self.now c.bits-past.result p → ⊥) c.all.ensures.ran (YieldsList-from_enumerate (YieldsList-from_slice c.args.got.now cc) cc)
+    (cases_from_all _ _ _ (Same g.T.Place.bits_of c.args.self.now c.bits-past.result) (λ p. Same g.T.Place.bits_of c.args.self.now c.bits-past.result p → ⊥)
+    c.all.ensures.ran (YieldsList-from_enumerate (YieldsList-from_slice c.args.got.now cc) cc)
     (λ x q k. search (rules, tests, unwrap_or-slice_get)) (λ x q k. search (rules, tests, unwrap_or-slice_get))))
 
 pub returns-else-count-got : goal.returns-else-count-got
