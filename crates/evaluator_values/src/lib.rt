@@ -23,6 +23,8 @@ pub struct Numbers {
     pub hit: usize,
 }
 
+// That the tables have the object is asked of each function here: a struct of both, made for each object, would be no
+// plainer.
 fn numbers_at(tables: Tables, idx: ObjectIndex) -> Numbers
     requires { ObjectIn tables idx.0 }
     ensures { NumbersAt tables.entry idx.0 result }
