@@ -33,7 +33,8 @@ fn chart_case(file: &mut File, spare: Spare, h: Head, body: &mut [u8]) -> Replay
     Replayed::Chart(h, held)
 }
 
-// Reads a case on the chart whose body is at hand, and replays it.
+// Reads a case on the chart whose body is at hand, and replays it. The chart comes as its head and the whole array, whose
+// front its body is: as one value it would be no plainer, since how much of the array that is has to be tested here.
 fn part_case(
     file: &mut File,
     spare: Spare,
