@@ -9,7 +9,7 @@ ghost use Rattle.cases_build.specs.Build.{raw_size, stored_rate, stored_raw, bui
 ghost use Rattle.cases_build.specs.Build.{ChartHeld, BuildStored, BuildForm, BuildHolds};
 ghost use Rattle.cases_build.specs.passes.Room.{BuildRoom};
 
-use call_build::Raw;
+use call_build::{MOST_RAW, Raw};
 use grouping_chart::chart::Chart;
 use vectors::call::Call;
 use vectors::case::Case;
@@ -18,9 +18,6 @@ use vectors::form::formed;
 use vectors::room::{Room, Spare};
 use vectors::sentinel::{BYTE_SENTINEL, FLOAT_SENTINEL, MOST_OBJECTS, MOST_PLACES};
 use vectors::{case, table};
-
-// The most raw objects: the first two build none.
-const MOST_RAW: usize = MOST_OBJECTS + 2;
 
 // The most bytes of a body, which has the raw objects and the largest chart.
 pub const MOST_BODY: usize = 10 + 9 * MOST_RAW + 25 * MOST_OBJECTS;

@@ -4,6 +4,7 @@ ghost use Rattle.vectors.specs.Held.{Tells};
 ghost use Rattle.vectors.specs.Sentinel.{Cleared};
 
 use crate::column::Column;
+pub use grouping_chart::chart::MOST_OBJECTS;
 
 // The sentinels are no answers: a number of a group is below 16,384 or, for none, 65,535.
 pub const NUMBER_SENTINEL: u16 = 48879;
@@ -13,9 +14,6 @@ pub const BYTE_SENTINEL: u8 = 190;
 
 // A value is at most 83,886,085 in size, and a start, a delta or a ratio that is built at most 2^24.
 pub const FLOAT_SENTINEL: f64 = -1.0e300;
-
-// The most objects of a chart.
-pub const MOST_OBJECTS: usize = 16384;
 
 // The most places of a slice: one for each object, and 7 to spare.
 pub const MOST_PLACES: usize = MOST_OBJECTS + 7;
