@@ -8,6 +8,7 @@ ghost use Rattle.call_build.specs.Call.{memory, filled, build_outcome};
 ghost use Rattle.call_build.specs.Lent.{raw_seen};
 ghost use Rattle.call_build.specs.passes.Room.{BuildRoom};
 
+use grouping_chart::chart::MOST_OBJECTS;
 use grouping_chart::refusal::Refusal;
 use lent::fill;
 use objects::Timed;
@@ -17,7 +18,7 @@ pub mod ratio;
 pub mod verdict;
 
 // The most raw objects that are taken: the first two build none.
-pub const MOST_RAW: usize = 16386;
+pub const MOST_RAW: usize = MOST_OBJECTS + 2;
 
 // Raw objects as a call is lent them: two slices, with a place in each for each object.
 #[derive(Clone, Copy)]

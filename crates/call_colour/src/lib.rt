@@ -33,6 +33,7 @@ fn fill_chart(chart: Chart, s: Settings, value: &mut [f64], work: &mut [u16], sc
         (memory value.old work.old scratch.old) }
 {
     let n = chart.kind.len();
+    // by `as`: there is no From to fewer bits, and that it fits is known of the set
     let limit = SearchLimit {
         value: s.limit as u16,
     };

@@ -39,7 +39,7 @@ fn addend(kind: u8, value: f64) -> f64
     ensures { result ≡ cond (is_note kind) value minus_zero64 }
 {
     let addends = [value, value, -0.0];
-    addends[kind as usize]
+    addends[usize::from(kind)]
 }
 
 // The notes' values, added from left to right, from 0.0, each sum rounded, and divided by how many they are.

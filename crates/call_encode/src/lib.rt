@@ -110,6 +110,7 @@ pub fn encode(
         | (interval.len() < n);
     judge(chart, short, work.len(), scratch.len())?;
     let s = settings::base();
+    // by `as`: there is no From to fewer bits, and that it fits is known of the set
     let limit = SearchLimit {
         value: s.limit as u16,
     };

@@ -20,7 +20,7 @@ pub fn base() -> Settings
 {
     Settings {
         margin: 5.0,
-        limit: SEARCH_LIMIT as u64,
+        limit: u64::from(SEARCH_LIMIT),
         threshold: 0.1,
         tolerance: 0.01,
     }

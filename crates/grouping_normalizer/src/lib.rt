@@ -68,7 +68,8 @@ fn middle_value(set: &[f64]) -> f64
     }
 }
 
-// The middle of the set that holds x, of distinct values in order; x itself where none holds it.
+// The middle of the set that holds x, of distinct values in order; x itself where none holds it. An iterator over the
+// sets would be no plainer: how long one is is known only when it is cut off.
 fn middle_of(values: &[f64], margin: f64, x: f64) -> f64
     ensures { result ≡ middle_of x (sets margin values.now) }
 {

@@ -10,7 +10,7 @@ pub fn canonical(x: f64) -> f64
     if x.is_nan() { f64::NAN } else { x }
 }
 
-// The bits of x; of a NaN 7FF8000000000000, which is what `to_bits` gives.
+// The bits of x; of a NaN 7FF8000000000000. The test is no plainer away: the library's `to_bits` asks that x is no NaN.
 pub fn bits(x: f64) -> u64
     ensures { result ≡ Ieee.to_bits binary64 x }
 {

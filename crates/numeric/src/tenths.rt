@@ -10,6 +10,7 @@ pub struct Scaled {
     pub shift: u64,
 }
 
+// That x is in range is a clause here, below and of the export: C lends an f64, which has no type that says so.
 fn size_of(x: f64) -> Scaled
     requires { InTenthsRange x }
     ensures { ScaledOf x result.digits result.shift }

@@ -95,7 +95,8 @@ fn next_case(
     }
 }
 
-// Replays the cases of the file of this call's charts, up to its end.
+// Replays the cases of the file of this call's charts, up to its end. A `for` over the cases that may follow would be no
+// plainer: that none is left is how the promise says that the file was read.
 pub fn replay_all(file: &mut File, call: Call) -> Replay
     ensures { FileRead call result }
 {

@@ -6,4 +6,4 @@ use Rattle.call_colour.proofs.stretches.addend.Goals as goal
 
 pub returns : goal.returns
 unfolding neg of_bits
-returns c = by_kind c.args.value minus_zero64 nan c.args.kind c.requires
+returns c = rw c.from.ensures (by_kind c.args.value minus_zero64 nan c.args.kind c.requires)

@@ -5,4 +5,4 @@ use Rattle.grouping_chart.proofs.settings.base.Goals as goal
 
 pub returns : goal.returns
 unfolding of_bits
-returns c = refl
+returns c = rw c.from.ensures refl
