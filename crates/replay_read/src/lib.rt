@@ -33,8 +33,8 @@ fn chart_case(file: &mut File, spare: Spare, h: Head, body: &mut [u8]) -> Replay
     Replayed::Chart(h, held)
 }
 
-// Reads a case on the chart whose body is at hand, and replays it. The chart comes as its head and the whole array, whose
-// front its body is: as one value it would be no plainer, since how much of the array that is has to be tested here.
+// Reads a case on the chart whose body is at hand, and replays it. The chart comes as its head and the whole array,
+// whose front its body is: as one value it would be no plainer, since how much that is has to be tested here.
 fn part_case(
     file: &mut File,
     spare: Spare,
@@ -95,8 +95,8 @@ fn next_case(
     }
 }
 
-// Replays the cases of the file of this call's charts, up to its end. A `for` over the cases that may follow would be no
-// plainer: that none is left is how the promise says that the file was read.
+// Replays the cases of the file of this call's charts, up to its end. A `for` over the cases that may follow would be
+// no plainer: that none is left is how the promise says that the file was read.
 pub fn replay_all(file: &mut File, call: Call) -> Replay
     ensures { FileRead call result }
 {
