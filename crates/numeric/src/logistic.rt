@@ -277,7 +277,9 @@ pub struct LogisticTable {
 }
 
 impl LogisticTable {
-    pub fn new() -> LogisticTable {
+    pub fn new() -> LogisticTable
+        ensures { result.values ≡ logistic_table }
+    {
         LogisticTable { values: T }
     }
 
