@@ -1,13 +1,16 @@
 -- The walk over k own intervals, by what it meets: one that is absent, or k that exist.
-use mathlib.Core.Path.{◌≡◌, refl, sym, ◌∙◌}
+use mathlib.Core.Path.{◌≡◌, refl, sym, ap, ◌∙◌}
 use mathlib.Core.Bool.{Bool, true, false, cond}
-use mathlib.Core.List.{List, [], ◌∷◌}
-use Prim.Native.Nat.{ℕ, zero, suc, ◌≤◌, ◌<◌}
+use mathlib.Core.List.{List, [], ◌∷◌, ◌++◌}
+use Prim.Native.Nat.{ℕ, zero, suc, ◌+◌, ◌≤◌, ◌<◌}
 use native.Mathlib.Nat.{le_of_eq}
 use native.Mathlib.Omega.{arith}
+use native.Mathlib.Numerals.{unary_clauses}
 use borrow.Author.Tests.{lt-ltb, le-ltb}
 use lib.Dec.{ltb}
-use lib.ListN.{length, get_or, take}
+use lib.ListN.{length, get_or, take, set, replicate}
+use Rattle.std.proofs.lemmas.List.{length-replicate, length-set, take_more_set}
+use Rattle.std.proofs.Math.Seq.{take-length}
 use lib.Ieee.{Float}
 use Rattle.lent.proofs.NeverLaws.{never}
 use Rattle.numeric.specs.Constants.{one64, eight_tenths}
@@ -37,9 +40,40 @@ unfolding walk_penalty
 walk_absent threshold k j owns h e = rw (lt-ltb (length (present (take k owns))) k (present-fewer k j owns h e))
 
 -- one that is absent leaves none to walk over
-pub absent : {own : Option Float} (k j : ℕ) (owns : List (Option Float)) → j < k → get_or owns j None ≡ own → own ≡ None → None ≡ newest_of k owns
+pub absent : (k j : ℕ) (owns : List (Option Float)) → j < k → get_or owns j None ≡ None → None ≡ newest_of k owns
 unfolding newest_of
-absent k j owns h g e = rw (lt-ltb (length (present (take k owns))) k (present-fewer k j owns h (g ∙ e)))
+absent k j owns h e = rw (lt-ltb (length (present (take k owns))) k (present-fewer k j owns h e))
+
+-- one that exists comes behind those before it
+present-more : (i : ℕ) (owns : List (Option Float)) {x : Float} → get_or owns i None ≡ Some x → present (take (suc i) owns) ≡ present (take i owns) ++ x ∷ []
+unfolding present
+present-more i [] e = never (cc)
+present-more zero (None ∷ owns) e = never (cc)
+present-more zero (Some y ∷ owns) e = cc
+present-more (suc i) (None ∷ owns) e = present-more i owns e
+present-more (suc i) (Some y ∷ owns) e = ap (λ ys. y ∷ ys) (present-more i owns e)
+
+-- the first i of k own intervals exist, and stand in front of the k places of found
+pub record FrontExists (owns : List (Option Float)) (found : List Float) (i k : ℕ) : Type 0 where
+  pub front : take i found ≡ present (take i owns)
+  pub long : length found ≡ k
+
+pub none_filled : (owns : List (Option Float)) (k : ℕ) (x : Float) → FrontExists owns (replicate k x) 0 k
+unfolding present
+none_filled owns k x = record { front = refl; long = length-replicate k x }
+
+pub one_filled : (owns : List (Option Float)) {found : List Float} {i k : ℕ} {x : Float} → FrontExists owns found i k → i < k → get_or owns i None ≡ Some x
+    → FrontExists owns (set found i x) (i + 1) k
+one_filled owns {found} {i} {k} {x} r h e = record {
+  front = take_more_set found i x (omega (arith, r.long)) ∙ ap (λ ys. ys ++ x ∷ []) r.front ∙ sym (simp unary_clauses (present-more i owns e));
+  long = length-set found i x ∙ r.long;
+}
+
+pub all_filled : (owns : List (Option Float)) {found : List Float} {i k : ℕ} → FrontExists owns found i k → i ≡ k → Some found ≡ newest_of k owns
+unfolding newest_of
+all_filled owns {found} {i} {k} r h =
+    let p = sym (take-length found) ∙ ap (λ n. take n found) (r.long ∙ sym h) ∙ r.front ∙ ap (λ n. present (take n owns)) h in
+    rw (← p, le-ltb (length found) k (le_of_eq (sym r.long)))
 
 -- own intervals that all exist, with their numbers of milliseconds
 pub data Existing : List (Option Float) → List Float → Type 0 where
@@ -50,10 +84,6 @@ present_all : {owns : List (Option Float)} {xs : List Float} → Existing owns x
 unfolding present
 present_all none = refl
 present_all (next {own} {owns} {x} {xs} h r) = rw (h, present_all r)
-
-pub all_exist : (k : ℕ) (owns : List (Option Float)) {xs : List Float} → Existing (take k owns) xs → length xs ≡ k → Some xs ≡ newest_of k owns
-unfolding newest_of
-all_exist k owns {xs} r l = rw (present_all r, le-ltb (length xs) k (le_of_eq (sym l)))
 
 -- b is what the search for a similar pair found
 pub walk_existing : (threshold : Float) (k : ℕ) (owns : List (Option Float)) {xs : List Float} {b : Bool} → Existing (take k owns) xs → length xs ≡ k

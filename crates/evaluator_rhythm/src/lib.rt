@@ -35,18 +35,15 @@ fn some_pair(owns: &[f64], threshold: f64) -> bool
     }
 }
 
-// A group's own interval and those of the two groups before it, if they all exist.
-fn newest_three(owns: Recent) -> Option<[f64; 3]>
-    ensures { result ≡ newest_of 3 (newest_first owns) }
+// The own intervals of K groups, if they all exist.
+fn newest<const K: usize>(owns: [Option<f64>; K]) -> Option<[f64; K]>
+    ensures { result ≡ newest_of K owns.entry }
 {
-    Some([owns.newest?, owns.second?, owns.third?])
-}
-
-// And that of the group before those.
-fn newest_four(owns: Recent) -> Option<[f64; 4]>
-    ensures { result ≡ newest_of 4 (newest_first owns) }
-{
-    Some([owns.newest?, owns.second?, owns.third?, owns.fourth?])
+    let mut found = [0.0; K];
+    for i in 0..K {
+        found[i] = owns[i]?;
+    }
+    Some(found)
 }
 
 fn penalty_if(similar: bool) -> f64
@@ -70,7 +67,8 @@ fn short_penalty(owns: Recent, notes: usize, threshold: f64) -> f64
     ensures { result ≡ cond (ltb notes 6) (walk_penalty threshold 4 (newest_first owns)) one64 }
 {
     if notes < 6 {
-        walk(newest_four(owns), threshold)
+        let four = [owns.newest, owns.second, owns.third, owns.fourth];
+        walk(newest(four), threshold)
     } else {
         1.0
     }
@@ -107,7 +105,8 @@ pub fn repeated_interval_penalty(
 ) -> f64
     ensures { result ≡ repeated_interval_penalty threshold owns notes duration window }
 {
-    let long = walk(newest_three(owns), threshold);
+    let three = [owns.newest, owns.second, owns.third];
+    let long = walk(newest(three), threshold);
     let short = short_penalty(owns, notes, threshold);
     smaller_of(long, short) * duration_penalty(duration, window)
 }
