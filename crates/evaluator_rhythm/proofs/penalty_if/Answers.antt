@@ -5,7 +5,3 @@ use Rattle.evaluator_rhythm.proofs.penalty_if.Goals as goal
 
 pub returns-then-similar : goal.returns-then-similar
 returns-then-similar c = rw c.if-similar.true eight_tenths_bits
-
-pub returns-else-similar : goal.returns-else-similar
-unfolding of_bits
-returns-else-similar c = rw c.if-similar.false

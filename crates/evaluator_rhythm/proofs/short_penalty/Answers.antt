@@ -12,7 +12,3 @@ unfolding newest_first walk_penalty newest_of
 returns-then-notes-lt6 c =
     rw (lt-ltb c.args.notes 6 c.if-notes-lt6.true)
     (c.walk.ensures ∙ ap (penalty_among c.args.threshold) c.newest.ensures ∙ walked c.args.threshold 4 (newest_first c.args.owns))
-
-pub returns-else-notes-lt6 : goal.returns-else-notes-lt6
-unfolding of_bits
-returns-else-notes-lt6 c = rw (le-ltb c.args.notes 6 c.if-notes-lt6.false)

@@ -2,7 +2,3 @@
 use Rattle.std.proofs.Common.{refl}
 use lib.Ieee.{of_bits}
 use Rattle.grouping_chart.proofs.settings.base.Goals as goal
-
-pub returns : goal.returns
-unfolding of_bits
-returns c = rw c.from.ensures refl

@@ -4,9 +4,6 @@ use mathlib.Core.Bool.{◌||◌}
 use Rattle.numeric.proofs.order.Arms.{left_number, right_number, equal, unequal}
 use Rattle.numeric.proofs.order.total_order.Goals as goal
 
-pub is_sign_negative-requires : goal.is_sign_negative-requires
-is_sign_negative-requires c = left_number c.args.a c.args.b c.if-a-b.true
-
 pub is_sign_positive-requires : goal.is_sign_positive-requires
 is_sign_positive-requires c = right_number c.args.a c.args.b c.if-a-b.true
 

@@ -4,9 +4,6 @@ use lib.Dec.{T}
 use Rattle.numeric.proofs.tenths.Size.{range_within, no_nan, scaled_low, scaled_high, exp_room}
 use Rattle.numeric.proofs.tenths.size_of.Goals as goal
 
-pub float_to_bits-bits : goal.float_to_bits-bits
-float_to_bits-bits c = no_nan c.args.x (range_within c.args.x c.requires)
-
 pub returns-then-field-eq0 : goal.returns-then-field-eq0
 returns-then-field-eq0 c = scaled_low c.args.x (subst T (sym c.well_formed.0.1) tt) (range_within c.args.x c.requires) c.if-field-eq0.true
 

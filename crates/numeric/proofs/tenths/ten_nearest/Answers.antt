@@ -37,21 +37,3 @@ module _ (d s : ℕ) (few : d < 2 ^ 53) (low : s ≤ 57) where
 
 pub returns-then-shift-gt57 : goal.returns-then-shift-gt57
 returns-then-shift-gt57 c = record { equal = sym (nothing_left c.args.digits c.args.shift c.requires c.if-shift-gt57.true); small = lit< tt }
-
-pub overflow_sub-rest : goal.overflow_sub-rest
-overflow_sub-rest c = back_le c.args.digits c.args.shift c.requires
-
-pub returns-then-rest-unit : goal.returns-then-rest-unit
-returns-then-rest-unit c = down c.args.digits c.args.shift c.requires c.if-shift-gt57.false c.if-rest-unit.true
-
-pub overflow_add-result : goal.overflow_add-result
-overflow_add-result c = omega (arith, whole_lt c.args.digits c.args.shift c.requires)
-
-pub returns-then-rest-unit-2 : goal.returns-then-rest-unit-2
-returns-then-rest-unit-2 c = half c.args.digits c.args.shift c.requires c.if-shift-gt57.false c.if-rest-unit-2.true
-
-pub overflow_add-result-2 : goal.overflow_add-result-2
-overflow_add-result-2 c = omega (arith, whole_lt c.args.digits c.args.shift c.requires)
-
-pub returns : goal.returns
-returns c = up c.args.digits c.args.shift c.requires c.if-shift-gt57.false c.if-rest-unit.false c.if-rest-unit-2.false

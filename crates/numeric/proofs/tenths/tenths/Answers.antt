@@ -13,9 +13,6 @@ use Rattle.numeric.proofs.tenths.tenths.Goals as goal
 room : (q : ℕ) → q < 2 ^ 58 → q < 2 ^ 63
 room q h = omega arith
 
-pub overflow_sub-result : goal.overflow_sub-result
-overflow_sub-result c = minus_fits c.ten_nearest-t.result (room c.ten_nearest-t.result c.ten_nearest-t.ensures.small)
-
 pub returns-then-x : goal.returns-then-x
 unfolding of_bits
 returns-then-x c =
