@@ -62,23 +62,3 @@ short_joined n l ls = joined_short n (ltb l n) ls
 pub none_asked : (n : ℕ) → false ≡ any_short n []
 unfolding any_short
 none_asked n = refl
-
--- ---- the cases
-
-module _ (answers : Bool) (n work scratch : ℕ) where
-  pub answers_short : answers ≡ true → Err ShortSlice ≡ short_refusal answers n work scratch
-  unfolding short_refusal
-  answers_short a = rw a
-
-  -- by eighths, as the code tests it
-  pub regions_short : answers ≡ false → work / 8 < n → Err ShortSlice ≡ short_refusal answers n work scratch
-  unfolding short_refusal
-  regions_short a w = rw (a, lt-ltb work (8 * n) (omega arith))
-
-  pub floats_short : answers ≡ false → n ≤ work / 8 → scratch < n → Err ShortSlice ≡ short_refusal answers n work scratch
-  unfolding short_refusal
-  floats_short a w s = rw (a, le-ltb work (8 * n) (omega arith), lt-ltb scratch n s)
-
-  pub none_short : answers ≡ false → n ≤ work / 8 → n ≤ scratch → passed ≡ short_refusal answers n work scratch
-  unfolding short_refusal
-  none_short a w s = rw (a, le-ltb work (8 * n) (omega arith), le-ltb scratch n s)

@@ -18,6 +18,7 @@ pub fn kind_good(kind: u8) -> bool
 }
 
 // Whether a test passes at each of the first n places.
+#[tactic(auto, unfolding(crate::specs::passes::Good::all_places))]
 pub fn all_places<F: Fn(usize) -> bool>(n: usize, test: F) -> bool
     requires callable { (i : ℕ) → i < n → F.pre test i }
     ensures { (passes : ℕ → Bool) → ((i : ℕ) (given : Bool) → i < n → F.post test i given → given ≡ passes i)

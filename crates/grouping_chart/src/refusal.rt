@@ -99,6 +99,7 @@ pub fn object_refusal(kind: u8, start: f64, delta: f64, ratio: f64) -> Result<()
 }
 
 // The first of n objects that does not pass its test.
+#[tactic(auto, unfolding(crate::specs::passes::Good::first_at))]
 pub fn first_refused<F: Fn(usize) -> Result<(), Reason>>(n: usize, test: F) -> Result<(), Refusal>
     requires callable { (i : ℕ) → i < n → F.pre test i }
     ensures { (checks : ℕ → Check) → ((i : ℕ) (given : Check) → i < n → F.post test i given → given ≡ checks i)
@@ -143,6 +144,7 @@ fn equally_long(chart: Chart) -> bool
 }
 
 // Refusals 1 to 7 of a call on a chart; `beside` is the test of what is beside it, which is refused straight after 2.
+#[tactic(auto, unfolding(crate::specs::Refusal::verdict))]
 pub fn check(chart: Chart, beside: Result<(), Reason>) -> Result<(), Refusal>
     ensures { result ≡ verdict (seen chart.entry) beside }
 {
