@@ -10,7 +10,6 @@ use borrow.Author.Tests.{lt-ltb, le-ltb}
 use lib.Dec.{ltb}
 use lib.ListN.{length, get_or, take, set, replicate}
 use Rattle.std.proofs.lemmas.List.{length-replicate, length-set, take_more_set}
-use Rattle.std.proofs.Math.Seq.{take-length}
 use lib.Ieee.{Float}
 use Rattle.lent.proofs.NeverLaws.{never}
 use Rattle.numeric.specs.Constants.{one64, eight_tenths}
@@ -68,12 +67,6 @@ one_filled owns {found} {i} {k} {x} r h e = record {
   front = take_more_set found i x (omega (arith, r.long)) ∙ ap (λ ys. ys ++ x ∷ []) r.front ∙ sym (simp unary_clauses (present-more i owns e));
   long = length-set found i x ∙ r.long;
 }
-
-pub all_filled : (owns : List (Option Float)) {found : List Float} {i k : ℕ} → FrontExists owns found i k → i ≡ k → Some found ≡ newest_of k owns
-unfolding newest_of
-all_filled owns {found} {i} {k} r h =
-    let p = sym (take-length found) ∙ ap (λ n. take n found) (r.long ∙ sym h) ∙ r.front ∙ ap (λ n. present (take n owns)) h in
-    rw (← p, le-ltb (length found) k (le_of_eq (sym r.long)))
 
 -- own intervals that all exist, with their numbers of milliseconds
 pub data Existing : List (Option Float) → List Float → Type 0 where

@@ -11,6 +11,7 @@ ghost use Rattle.evaluator_rhythm.specs.RepeatedInterval.{repeated_interval_pena
 use grouping_same_rhythm::owns::Recent;
 use numeric::near::near;
 
+#[tactic(auto, unfolding(crate::specs::RepeatedInterval::similar))]
 fn is_similar(newer: f64, older: f64, threshold: f64) -> bool
     ensures { result ≡ similar threshold newer older }
 {
@@ -36,6 +37,7 @@ fn some_pair(owns: &[f64], threshold: f64) -> bool
 }
 
 // The own intervals of K groups, if they all exist.
+#[tactic(auto, unfolding(crate::specs::passes::Walk::newest_of))]
 fn newest<const K: usize>(owns: [Option<f64>; K]) -> Option<[f64; K]>
     ensures { result ≡ newest_of K owns.entry }
 {
@@ -53,6 +55,7 @@ fn penalty_if(similar: bool) -> f64
 }
 
 // The walk over K groups, a group and the ones before it, if their own intervals exist.
+#[tactic(auto, unfolding(crate::specs::passes::Walk::penalty_among))]
 fn walk<const K: usize>(owns: Option<[f64; K]>, threshold: f64) -> f64
     ensures { result ≡ penalty_among threshold owns.entry }
 {

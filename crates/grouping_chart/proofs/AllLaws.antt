@@ -1,8 +1,7 @@
 -- A test of every element of a list, by the elements and by the places.
 -- The same for any list and test.
-use Rattle.std.proofs.Common.{◌≡◌, refl, sym, ap, ◌∙◌, ℕ, zero, suc, ◌+◌, ◌<◌, Bool, true, ◌&&◌, List, [], ◌∷◌, ◌++◌, length}
+use Rattle.std.proofs.Common.{◌≡◌, refl, sym, ap, ◌∙◌, ℕ, zero, suc, ◌<◌, Bool, true, ◌&&◌, List, [], ◌∷◌, ◌++◌, length}
 use mathlib.Core.Bool.{and_assoc, and-true}
-use native.Mathlib.Numerals.{add-one}
 use native.Mathlib.Omega.{arith}
 use lib.ListN.{get_or}
 use Rattle.std.proofs.lemmas.Bool.{and_parts}
@@ -39,15 +38,6 @@ all_last : {A : Type 0} (test : A → Bool) (xs : List A) (x : A) → all test (
 unfolding all
 all_last test [] x = and-true (test x)
 all_last test (y ∷ ys) x = ap (λ b. test y && b) (all_last test ys x) ∙ sym (and_assoc (test y) (all test ys) (test x))
-
-module _ (passes : ℕ → Bool) where
-  pub no_places : true ≡ all_places passes 0
-  unfolding all_places
-  no_places = refl
-
-  pub next_place : {good here : Bool} (n : ℕ) → good ≡ all_places passes n → here ≡ passes n → (good && here) ≡ all_places passes (n + 1)
-  unfolding all_places
-  next_place n e h = rw (e, h, add-one n)
 
 -- of a list that is made by its places
 pub places_tabulated : {A : Type 0} (test : A → Bool) (f : ℕ → A) (n : ℕ) → all_places (λ i. test (f i)) n ≡ all test (tabulate f n)

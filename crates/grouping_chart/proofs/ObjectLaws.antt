@@ -38,14 +38,6 @@ seen_next_notes s k = by (is_note k)
     by true = refl
     by false = refl
 
-pub seen_next_last : (s : Seen) (k : ℕ) → (seen_next s k).last ≡ cond (is_note k) k s.last
-unfolding seen_next
-seen_next_last s k = by (is_note k)
-  where
-    by : (b : Bool) → (cond b (record { notes = s.notes + 1; last = k }) s).last ≡ cond b k s.last
-    by true = refl
-    by false = refl
-
 -- ---- the walk over two lists, and over one object more
 
 pub seen_after_append : (s : Seen) (xs ys : List ℕ) → seen_after s (xs ++ ys) ≡ seen_after (seen_after s xs) ys

@@ -1,4 +1,4 @@
--- The cases of the definitions of refusals 1 to 7, one law a case: the proofs of functions that refuse cite these.
+-- The cases of the definitions of refusals 1 to 7: the proofs of functions that refuse cite these laws.
 use mathlib.Core.Path.{◌≡◌, refl, sym, ap, ◌∙◌}
 use mathlib.Core.Logic.{⊎_elim}
 use mathlib.Core.List.{List, [], ◌∷◌}
@@ -7,7 +7,7 @@ use Prim.Native.Nat.{ℕ, zero, suc, ◌+◌, ◌≤◌, ◌<◌}
 use native.Mathlib.Nat.{eq-or-lt_of_le}
 use native.Mathlib.Numerals.{add-one}
 use native.Mathlib.Omega.{arith}
-use borrow.Author.Tests.{lt-ltb, le-ltb, eq-eqb}
+use borrow.Author.Tests.{le-ltb, eq-eqb}
 use lib.ListN.{length, drop, get_or, drop_of_length-le}
 use lib.Seq.{drop-cons}
 use lib.Ieee.{Float}
@@ -15,9 +15,9 @@ use Rattle.lent.proofs.NeverLaws.{never}
 use Rattle.std.specs.Prelude.{Ok, Err}
 use Rattle.std.proofs.lemmas.Bool.{and_parts}
 use Rattle.grouping_chart.specs.declared.refusal.Reason.{Reason}
-use Rattle.grouping_chart.specs.declared.refusal.Reason.TheVariants.{TooManyObjects, UnequalLengths, UnknownKind, BadStart, BadDelta, BadRatio}
+use Rattle.grouping_chart.specs.declared.refusal.Reason.TheVariants.{UnknownKind, BadStart, BadDelta, BadRatio}
 use Rattle.grouping_chart.specs.Chart.{Chart, equally_long}
-use Rattle.grouping_chart.specs.Refusal.{Check, passed, kind_good, time_good, ratio_good, Verdict, accepted, refusal, refused, refused_or}
+use Rattle.grouping_chart.specs.Refusal.{Check, passed, kind_good, time_good, ratio_good, Verdict, accepted, refusal, refused_or}
 use Rattle.grouping_chart.specs.Refusal.{object_refusal, first_refused, objects_verdict, verdict}
 use Rattle.grouping_chart.specs.passes.Good.{SameLengths, all, or_later, first_at}
 
@@ -55,14 +55,6 @@ later_none (Ok done) = refl
 later_none (Err first) = refl
 
 module _ (checks : ℕ → Check) where
-  pub none_checked : accepted ≡ first_at checks 0
-  unfolding first_at
-  none_checked = refl
-
-  pub next_passed : (n : ℕ) → accepted ≡ first_at checks n → passed ≡ checks n → accepted ≡ first_at checks (n + 1)
-  unfolding first_at
-  next_passed n e f = rw (add-one n, ← e, ← f)
-
   -- the first that does not pass ends the search, however many are left
   pub next_refused : {reason : Reason} (n m : ℕ) → n < m → accepted ≡ first_at checks n → Err reason ≡ checks n → Err (refusal reason n) ≡ first_at checks m
   unfolding first_at
@@ -134,18 +126,6 @@ module _ (c : Chart) where
 -- ---- a call's verdict
 
 module _ (c : Chart) (beside : Check) where
-  pub verdict_1 : 16384 < length c.kinds → verdict c beside ≡ refused TooManyObjects
-  unfolding verdict
-  verdict_1 h = rw (lt-ltb _ _ h)
-
-  pub verdict_2 : length c.kinds ≤ 16384 → equally_long c ≡ false → verdict c beside ≡ refused UnequalLengths
-  unfolding verdict
-  verdict_2 h e = rw (le-ltb _ _ h, e)
-
-  pub verdict_beside : {r : Reason} → length c.kinds ≤ 16384 → equally_long c ≡ true → beside ≡ Err r → verdict c beside ≡ refused r
-  unfolding verdict
-  verdict_beside h e n = rw (le-ltb _ _ h, e, n)
-
   pub verdict-objects : length c.kinds ≤ 16384 → equally_long c ≡ true → beside ≡ passed → verdict c beside ≡ objects_verdict c
   unfolding verdict
   verdict-objects h e n = rw (le-ltb _ _ h, e, n)

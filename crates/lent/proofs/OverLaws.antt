@@ -8,7 +8,7 @@ use native.Mathlib.Numerals.{add-one}
 use native.Mathlib.Omega.{arith}
 use lib.ListN.{length, take, drop, get_or, set, length-append, length-drop, take-append-drop}
 use lib.Seq.{length-take-le, take_at, drop_at, drop-append-add, drop-drop, take-append-le, take-take, take-length, get_or-take, get_or-drop}
-use lib.Seq.{set-get_or, drop-set-lt, ext_get_or}
+use lib.Seq.{set-get_or, ext_get_or}
 use Rattle.lent.specs.Over.{over, put, part, Write, written}
 
 module _ {A : Type 0} where
@@ -160,10 +160,6 @@ module _ {A : Type 0} where
   pub over-agree : (new old old' : List A) (n : ℕ) → length new ≡ n → drop n old ≡ drop n old' → over new old ≡ over new old'
   unfolding over
   over-agree new old old' n l e = rw (l, e)
-
-  -- what is written over was written before
-  pub over-set : (new old : List A) (i : ℕ) (v : A) → i < length new → over new (set old i v) ≡ over new old
-  over-set new old i v h = over-agree new (set old i v) old (length new) refl (drop-set-lt (length new) old i v h)
 
   -- a part as code lends it, from a to a + n, and from the front
   pub lent-part : (a n : ℕ) (w : List A) → take (a + n - a) (drop a w) ≡ part a n w

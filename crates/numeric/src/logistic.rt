@@ -277,6 +277,7 @@ pub struct LogisticTable {
 }
 
 impl LogisticTable {
+    #[tactic(auto, unfolding(crate::specs::Logistic::logistic_table))]
     pub fn new() -> LogisticTable
         ensures { result.values ≡ logistic_table }
     {

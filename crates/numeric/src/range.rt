@@ -13,6 +13,7 @@ pub const LEAST_RATIO: f64 = 0.000000059604644775390625;
 pub const GREATEST_RATIO: f64 = 16777216.0;
 
 // Whether x is from lo to hi, which a NaN is not. Both ends are tested, where `contains` would jump behind the first.
+#[tactic(auto, unfolding(crate::specs::Range::within))]
 pub fn is_within(lo: f64, hi: f64, x: f64) -> bool
     ensures { result ≡ within lo hi x }
 {

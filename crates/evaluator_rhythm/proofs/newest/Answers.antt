@@ -1,7 +1,6 @@
 -- The first that is absent leaves none, and else all are there.
 use Rattle.std.proofs.Common.{◌∙◌}
-use native.Mathlib.Nat.{le_antisymm}
-use Rattle.evaluator_rhythm.proofs.WalkLaws.{absent, none_filled, one_filled, all_filled}
+use Rattle.evaluator_rhythm.proofs.WalkLaws.{absent, none_filled, one_filled}
 use Rattle.evaluator_rhythm.proofs.newest.Goals as goal
 
 pub loop-i-init : goal.loop-i-init
@@ -12,6 +11,3 @@ returns-in_err-found g c = c.from_residual.ensures ∙ absent g.row.K c.loop-i.i
 
 pub loop-i-preserved : goal.loop-i-preserved
 loop-i-preserved g c = one_filled c.args.owns c.loop-i.invariant c.loop-i-test.true c.in_ok-found.was
-
-pub returns : goal.returns
-returns g c = all_filled c.args.owns c.loop-i.invariant (le_antisymm c.loop-i.auto.i-end c.loop-i-test.false)

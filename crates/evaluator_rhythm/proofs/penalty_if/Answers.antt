@@ -1,5 +1,4 @@
 -- Each literal computes to its value.
-use lib.Ieee.{of_bits}
 use Rattle.numeric.proofs.ConstantLaws.{eight_tenths_bits}
 use Rattle.evaluator_rhythm.proofs.penalty_if.Goals as goal
 

@@ -1,7 +1,6 @@
 -- By the test.
 use Rattle.std.proofs.Common.{◌∙◌, ap}
-use borrow.Author.Tests.{lt-ltb, le-ltb}
-use lib.Ieee.{of_bits}
+use borrow.Author.Tests.{lt-ltb}
 use Rattle.evaluator_rhythm.specs.RepeatedInterval.{newest_first, walk_penalty}
 use Rattle.evaluator_rhythm.specs.passes.Walk.{newest_of, penalty_among}
 use Rattle.evaluator_rhythm.proofs.WalkLaws.{walked}

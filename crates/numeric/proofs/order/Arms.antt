@@ -1,17 +1,11 @@
 -- The answers of `total_order`: of equal values the signs tell, and a value that is less is not equal.
 use Rattle.std.proofs.Common.{◌≡◌, refl, sym, subst, Bool, true, false}
-use mathlib.Core.Bool.{not, ◌&&◌, ◌||◌, false≢true}
+use mathlib.Core.Bool.{not, ◌||◌, false≢true}
 use lib.Dec.{T}
 use lib.Ieee.{Float, nan, inf, fin, lt, eq, is_nan}
 use Rattle.std.specs.Float.{NotNan, is_sign_negative}
 use Rattle.std.proofs.lemmas.Float.{eq-not_lt}
 use Rattle.numeric.specs.TotalOrder.{negative, total_order}
-
-pub left_number : (x y : Float) → eq x y ≡ true → NotNan x
-unfolding eq is_nan
-left_number nan y h = absurd (false≢true h)
-left_number (inf s) y h = tt
-left_number (fin s m e) y h = tt
 
 pub right_number : (x y : Float) → eq x y ≡ true → NotNan y
 unfolding eq is_nan
@@ -35,11 +29,3 @@ pub equal : (x y : Float) → eq x y ≡ true → (is_sign_negative x || not (is
 unfolding total_order
 equal x y h =
     rw (negative_is x, negative_is y, h, not_less (lt x y) (eq-not_lt x y (subst T (sym h) tt))) refl
-
-or_nothing : (b c : Bool) → b ≡ (b || (false && c))
-or_nothing true c = refl
-or_nothing false c = refl
-
-pub unequal : (x y : Float) → eq x y ≡ false → lt x y ≡ total_order x y
-unfolding total_order
-unequal x y h = rw h (or_nothing (lt x y) (negative x || not (negative y)))

@@ -1,14 +1,8 @@
 -- A value is in a range exactly where it passes the tests of both ends.
-use mathlib.Core.Path.{◌≡◌, refl}
-use mathlib.Core.Bool.{◌&&◌}
 use lib.Dec.{T}
 use lib.Ieee.{Float, le}
 use lib.Ieee.Fits.{and_i, and_l, and_r}
 use Rattle.numeric.specs.Range.{within}
-
-pub within-both : (lo hi x : Float) → (le lo x && le x hi) ≡ within lo hi x
-unfolding within
-within-both lo hi x = refl
 
 pub within_ends : (lo hi x : Float) → T (within lo hi x) → T (le lo x) × T (le x hi)
 unfolding within

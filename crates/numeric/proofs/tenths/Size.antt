@@ -1,6 +1,6 @@
 -- The size of a finite value, read off the fields of its bit pattern.
 use mathlib.Core.Path.{◌≡◌, refl, sym, ◌∙◌}
-use mathlib.Core.Bool.{Bool, true, false, not, cond}
+use mathlib.Core.Bool.{Bool, true, false, cond}
 use Prim.Native.Nat.{ℕ, suc, ◌+◌, ◌-◌, ◌*◌, ◌/◌, ◌%◌, ◌^◌, ◌≤◌, ◌<◌}
 use native.Mathlib.Nat.{le_of_eq, lt_of_lt_of_le, lt_of_le_of_lt, lt_of_not-le, lt_irrefl, mul-one, mul_assoc, mul_right_comm, mul-le-mul_right}
 use native.Mathlib.Nat.{mul-lt-mul_of_pos_right, lt_of_mul-lt-mul_right, eq_of_mul-eq-mul_right, le-add_right, mod-lt}
@@ -8,7 +8,7 @@ use native.Mathlib.Omega.{arith}
 use lib.IntN.{pos}
 use lib.Dec.{T, eqb}
 use lib.Pow.{pow-add, pow_pos, pow_mono}
-use lib.Ieee.{Float, nan, inf, fin, binary64, prec, low, up, down, odd, lt, fits, is_nan, hid, ones, top, of_fields, of_bits, to_bits}
+use lib.Ieee.{Float, nan, inf, fin, binary64, prec, low, up, down, odd, lt, fits, hid, ones, top, of_fields, of_bits, to_bits}
 use lib.Ieee.Digits.{Equals, odd_val}
 use lib.Ieee.Bits.{of_bits-to_bits}
 use lib.Ieee.Scale.{finite}
@@ -32,12 +32,6 @@ between (fin false m e) h k = below-whole (m * up e) (2 ^ 53) (down e) k
 
 pub range_within : (v : Float) → InTenthsRange v → SizeBelow v
 range_within v r = between v r.above r.below
-
-pub no_nan : (v : Float) → SizeBelow v → T (not (is_nan v))
-unfolding is_nan
-no_nan nan h = absurd h
-no_nan (inf s) h = tt
-no_nan (fin s m e) h = tt
 
 within-finite : (v : Float) → SizeBelow v → T (finite v)
 within-finite nan h = absurd h

@@ -2,8 +2,8 @@
 use mathlib.Core.Path.{◌≡◌, sym, ap, ◌∙◌}
 use mathlib.Core.Bool.{true, false}
 use Prim.Native.Nat.{ℕ, ◌+◌, ◌-◌, ◌*◌, ◌/◌, ◌%◌, ◌^◌, ◌≤◌, ◌<◌}
-use native.Mathlib.Nat.{le_trans, lt_of_le_of_lt, mul-one, one-mul, mul_assoc}
-use native.Mathlib.Nat.{div-le_self, div-mul-le_self, div-eq_of_lt, mod-le, mod-eq_of_lt, mod-eq-sub-div-mul}
+use native.Mathlib.Nat.{lt_of_le_of_lt, mul-one, one-mul, mul_assoc}
+use native.Mathlib.Nat.{div-le_self, div-mul-le_self, div-eq_of_lt, mod-eq_of_lt, mod-eq-sub-div-mul}
 use native.Mathlib.Omega.{arith}
 use lib.IntN.{ℤ, pos, neg_ℤ}
 use lib.Dec.{ltb, lit<}
@@ -29,10 +29,6 @@ module _ (d s : ℕ) (h : d < 2 ^ 53) where
       let t : 10 * d < 2 ^ s = omega (arith, ten_lt) in
       let r : 10 * d % 2 ^ s ≡ 10 * d = mod-eq_of_lt t in
       closest_down (10 * d) (2 ^ s) (omega (arith, ten_lt)) ∙ div-eq_of_lt t
-
-  -- shifted to the right and back, nothing is lost but the rest
-  pub back_le : 10 * d / 2 ^ s * 2 ^ s % 2 ^ 64 ≤ 10 * d
-  back_le = le_trans (mod-le (10 * d / 2 ^ s * 2 ^ s) (2 ^ 64)) (div-mul-le_self (10 * d) (2 ^ s))
 
   pub rest_is : 10 * d - 10 * d / 2 ^ s * 2 ^ s % 2 ^ 64 ≡ 10 * d % 2 ^ s
   rest_is =

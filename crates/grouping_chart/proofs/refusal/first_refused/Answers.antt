@@ -1,5 +1,5 @@
 -- A turn tests the next object.
-use Rattle.grouping_chart.proofs.RefusalLaws.{none_checked, next_passed, next_refused}
+use Rattle.grouping_chart.proofs.RefusalLaws.{next_refused}
 use Rattle.std.proofs.Common.{sym, ◌∙◌}
 use Rattle.grouping_chart.proofs.refusal.first_refused.Goals as goal
 

@@ -1,7 +1,7 @@
 -- The fields of the bit pattern are the size.
 use Rattle.std.proofs.Common.{sym, subst}
 use lib.Dec.{T}
-use Rattle.numeric.proofs.tenths.Size.{range_within, no_nan, scaled_low, scaled_high, exp_room}
+use Rattle.numeric.proofs.tenths.Size.{range_within, scaled_low, scaled_high, exp_room}
 use Rattle.numeric.proofs.tenths.size_of.Goals as goal
 
 pub returns-then-field-eq0 : goal.returns-then-field-eq0

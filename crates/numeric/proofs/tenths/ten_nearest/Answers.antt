@@ -6,7 +6,7 @@ use native.Mathlib.Omega.{arith}
 use lib.Dec.{lit<}
 use Rattle.numeric.specs.passes.Tenths.{TenNearest}
 use Rattle.numeric.proofs.Closest.{closest_down, closest_half, closest_up}
-use Rattle.numeric.proofs.tenths.Tens.{nothing_left, back_le, rest_is, whole_lt, unit_is}
+use Rattle.numeric.proofs.tenths.Tens.{nothing_left, rest_is, whole_lt, unit_is}
 use Rattle.numeric.proofs.tenths.ten_nearest.Goals as goal
 
 -- each return, by what the tests before it tell of `twice`, which is twice the rest, and `unit`

@@ -5,7 +5,7 @@ use lib.Ieee.{of_bits}
 use mir.Syntax.{w64}
 use mir.ValLaws.{to_z_pos}
 use Rattle.numeric.proofs.tenths.Size.{range_within}
-use Rattle.numeric.proofs.Minus.{minus_fits, minus_is}
+use Rattle.numeric.proofs.Minus.{minus_is}
 use Rattle.numeric.proofs.tenths.Tens.{from_zero, below_zero}
 use Rattle.numeric.proofs.tenths.tenths.Goals as goal
 
