@@ -1,4 +1,4 @@
--- The module `order`: the answers of `total_order`, a number for each value in its order, and the order's laws.
+-- The module `order`: what the answers of `total_order` cite, a number for each value in its order, and the order's laws.
 pub mod Rank
 pub mod Laws
 mod Arms

@@ -1,4 +1,4 @@
--- The answers of `total_order`: of equal values the signs tell, and a value that is less is not equal.
+-- What the answers of `total_order` cite: of equal values the signs tell.
 use Rattle.std.proofs.Common.{◌≡◌, refl, sym, subst, Bool, true, false}
 use mathlib.Core.Bool.{not, ◌||◌, false≢true}
 use lib.Dec.{T}
