@@ -1,4 +1,4 @@
--- The cases of refusal 3, and what is known where no slice is too short. A call on a chart cites these.
+-- What is known where no slice is too short, and the tests of several slices joined. A call on a chart cites these.
 use mathlib.Core.Path.{◌≡◌, refl, sym, ◌∙◌}
 use mathlib.Core.Bool.{Bool, true, false, cond, ◌||◌, or-false, or_assoc}
 use mathlib.Core.List.{List, [], ◌∷◌}

@@ -1,4 +1,4 @@
--- Each return is one case of the definition, in their order.
+-- Whose lists have passed the test of their lengths are checked object by object.
 use Rattle.std.proofs.Common.{rules}
 use Rattle.grouping_chart.proofs.AcceptedLaws.{equal-lengths}
 use Rattle.grouping_chart.proofs.refusal.check.Goals as goal

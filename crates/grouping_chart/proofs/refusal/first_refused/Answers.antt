@@ -1,4 +1,4 @@
--- A turn tests the next object.
+-- The first that does not pass is told with its place.
 use Rattle.grouping_chart.proofs.RefusalLaws.{next_refused}
 use Rattle.std.proofs.Common.{sym, ◌∙◌}
 use Rattle.grouping_chart.proofs.refusal.first_refused.Goals as goal
