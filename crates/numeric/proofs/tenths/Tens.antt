@@ -1,13 +1,13 @@
--- Ten times a fraction to the nearest whole number: what the code shifts loses no digit, and every fraction of the size has the same answer.
+-- Ten times a fraction to the nearest whole number: from a shift of 58 on it is 0, and every fraction of the size has the same answer.
 use mathlib.Core.Path.{◌≡◌, sym, ap, ◌∙◌}
 use mathlib.Core.Bool.{true, false}
-use Prim.Native.Nat.{ℕ, ◌+◌, ◌-◌, ◌*◌, ◌/◌, ◌%◌, ◌^◌, ◌≤◌, ◌<◌}
-use native.Mathlib.Nat.{lt_of_le_of_lt, mul-one, one-mul, mul_assoc}
-use native.Mathlib.Nat.{div-le_self, div-mul-le_self, div-eq_of_lt, mod-eq_of_lt, mod-eq-sub-div-mul}
+use Prim.Native.Nat.{ℕ, ◌+◌, ◌*◌, ◌%◌, ◌^◌, ◌≤◌, ◌<◌}
+use native.Mathlib.Nat.{mul-one, mul_assoc}
+use native.Mathlib.Nat.{div-eq_of_lt, mod-eq_of_lt}
 use native.Mathlib.Omega.{arith}
 use lib.IntN.{ℤ, pos, neg_ℤ}
-use lib.Dec.{ltb, lit<}
-use lib.Pow.{pow_pos, pow_mono, shl_exact}
+use lib.Dec.{ltb}
+use lib.Pow.{pow_pos, pow_mono}
 use lib.Ieee.{Float, nan, inf, fin, up, down, lt}
 use lib.Ieee.Fits.{down_pos}
 use lib.Ieee.Nearest.{closest, closest_same}
@@ -29,22 +29,6 @@ module _ (d s : ℕ) (h : d < 2 ^ 53) where
       let t : 10 * d < 2 ^ s = omega (arith, ten_lt) in
       let r : 10 * d % 2 ^ s ≡ 10 * d = mod-eq_of_lt t in
       closest_down (10 * d) (2 ^ s) (omega (arith, ten_lt)) ∙ div-eq_of_lt t
-
-  pub rest_is : 10 * d - 10 * d / 2 ^ s * 2 ^ s % 2 ^ 64 ≡ 10 * d % 2 ^ s
-  rest_is =
-      let back : 10 * d / 2 ^ s * 2 ^ s % 2 ^ 64 ≡ 10 * d / 2 ^ s * 2 ^ s =
-      mod-eq_of_lt (omega (arith, ten_lt, div-mul-le_self (10 * d) (2 ^ s))) in
-      rw (back, mod-eq-sub-div-mul (10 * d) (2 ^ s))
-
-  pub whole_lt : 10 * d / 2 ^ s < 2 ^ 57
-  whole_lt = lt_of_le_of_lt (div-le_self (10 * d) (2 ^ s)) ten_lt
-
--- 1 << s keeps its bit
-pub unit_is : (s : ℕ) → s ≤ 57 → 1 * 2 ^ s % 2 ^ 64 ≡ 2 ^ s
-unit_is s h = shl_exact {a = 1} 1 s 64 (lit< tt) (room s h) ∙ one-mul (2 ^ s)
-  where
-    room : (s : ℕ) → s ≤ 57 → 1 + s ≤ 64
-    room s h = omega arith
 
 -- ---- from the size to the answer
 same_size : (m : ℕ) (e : ℤ) (D s : ℕ) → m * up e * 2 ^ s ≡ D * down e → closest (10 * D) (2 ^ s) ≡ closest (10 * (m * up e)) (down e)
