@@ -14,8 +14,9 @@ use Rattle.std.specs.Fmt.{decimal}
 use Rattle.std.proofs.lemmas.Fmt.{length-decimal-le}
 use Rattle.std.proofs.lemmas.Str.{encode_ascii}
 use Rattle.lent.proofs.FillLaws.{length-tabulate, get_or-tabulate}
+use Rattle.letters_grammar.specs.Letters.{letter_of}
+use Rattle.letters_grammar.proofs.LetterLaws.{letter_ascii}
 use Rattle.letters_text.specs.declared.columns.Object.{Object}
-use Rattle.letters_text.specs.Letters.{letter_of}
 use Rattle.letters_text.specs.Lines.{Columns, object_at, objects, line_head, parting, first_letter, next_letter, lines_after, lines_of, lines}
 use Rattle.letters_text.specs.passes.Memory.{LinesFit}
 
@@ -196,7 +197,7 @@ module _ {c : Columns} {before out : List ℕ} {last : Object} {i : ℕ} (x : Li
 
 -- ---- what the functions that print need
 
-pub ruleset steps = (head_length, first_length, next_length, encode_ascii, append_assoc)
+pub ruleset steps = (head_length, first_length, next_length, letter_ascii, encode_ascii, length-append, append_assoc)
 
 pub ruleset partings = (parting_line, parting_bar, parting_comma, parting_none, encode_ascii, append_assoc, append-nil)
 

@@ -12,9 +12,11 @@ use Rattle.lent.specs.Over.{over}
 use Rattle.std.proofs.Common.{Result, Ok, Err}
 use Rattle.letters_text.specs.declared.TextError.{TextError}
 use Rattle.letters_text.specs.declared.TextError.TheVariants.{Long, Bad}
-use Rattle.letters_text.specs.Letters.{trimmed, kinds_of, reading, kinds_after, ReadText, input_bytes}
+use Rattle.letters_grammar.specs.Letters.{trimmed, kinds_of}
+use Rattle.letters_grammar.proofs.LetterLaws.{length-trimmed}
+use Rattle.letters_text.specs.Letters.{reading, kinds_after, ReadText, input_bytes}
 use Rattle.letters_text.specs.Lines.{bad_line, long_line, printed}
-use Rattle.letters_text.proofs.LetterLaws.{AllLetters, BadAt, letters_told, bad_told, length-trimmed, reading_long}
+use Rattle.letters_text.proofs.LetterLaws.{AllLetters, BadAt, letters_told, bad_told, reading_long}
 
 module _ {t old new : List ℕ} {r : Result ℕ TextError} (x : ReadText t old new r) where
   pub read_long : r ≡ Err Long → (ls : List ℕ) → printed (reading t) ls ≡ long_line

@@ -1,7 +1,8 @@
 -- `read_input` meets its contract: the text is too long, or refused, or its objects are copied over the front of the kinds.
 use Rattle.std.proofs.Common.{ℕ, List, Bor, ap, sym, ◌∙◌, arith}
 use Rattle.std.proofs.lemmas.Result.{err_from_is_err_and}
-use Rattle.letters_shorthand.proofs.TextLaws.{trimmed_is, text_few, answers_long, answers-refused, answers-objects, text_same}
+use Rattle.letters_grammar.proofs.LetterLaws.{trimmed_is}
+use Rattle.letters_shorthand.proofs.TextLaws.{text_few, answers_long, answers-refused, answers-objects, text_same}
 use Rattle.letters_shorthand.proofs.read_input.Goals as goal
 
 pub returns-then-text-gt-MOST_BYTES : goal.returns-then-text-gt-MOST_BYTES

@@ -1,6 +1,7 @@
 -- `read_letters` meets its contract: the text without the suffix is the trimmed one.
 use Rattle.std.proofs.Common.{ℕ, List, Bor, ap, sym, ◌∙◌}
-use Rattle.letters_text.proofs.LetterLaws.{trimmed_is, text_same}
+use Rattle.letters_grammar.proofs.LetterLaws.{trimmed_is}
+use Rattle.letters_text.proofs.LetterLaws.{text_same}
 use Rattle.letters_text.proofs.read_letters.Goals as goal
 
 pub returns : goal.returns
