@@ -35,11 +35,6 @@ bracket-returns-in-Some t c =
 
 -- ---- an item
 
-pub item-letter-requires : goal.item-letter-requires
-item-letter-requires t c =
-    let here = c.in-Some.ensures.lookup.4 (omega arith) 0 in
-    (c.requires, record { within = c.in-Some.ensures.lookup.3.0; letter = rw (← here) (sym c.is_letter.ensures ∙ c.if-is_letter.true) })
-
 pub item-returns-in-126 : goal.item-returns-in-126
 item-returns-in-126 t c =
     item_tilde _ _ _ _ _ c.in-Some.ensures.lookup.3.0 _ _ (sym (c.in-Some.ensures.lookup.4 (omega arith) 0) ∙ c.in-126.is) c.item.ensures
