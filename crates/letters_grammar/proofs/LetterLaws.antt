@@ -7,7 +7,7 @@ use Prim.Native.Nat.{ℕ, zero, suc, ◌+◌, ◌-◌, ◌≤◌, ◌<◌}
 use native.Mathlib.Omega.{arith}
 use denote.Ref.{Bor}
 use lib.ListN.{length, take, drop, get_or, length-map}
-use lib.Seq.{length-take-le}
+use lib.Seq.{take_all, length-take-le}
 use Rattle.std.proofs.Common.{Option, MatchOption}
 use Rattle.std.proofs.lemmas.List.{get_or-map}
 use Rattle.std.specs.Option.{unwrap_or}
@@ -125,17 +125,29 @@ kind_at t i k h e = e ∙ sym (get_or-map kind_of t i 0 0 h)
 -- ---- one line feed at the end
 
 -- what is left of a text without that suffix, or else the text, is the trimmed one
-pub trimmed_is : (s : Bor (List ℕ)) (r : Option (Bor (List ℕ)))
+pub trimmed_is : (s : Bor (List ℕ)) (r : Option (Bor (List ℕ))) {x : Bor (List ℕ)}
     → MatchOption r (pointwise eqb (drop (length s.now - 1) s.now) (10 ∷ []) ≡ false)
     (λ x. (pointwise eqb (drop (length s.now - 1) s.now) (10 ∷ []) ≡ true) × (x.now ≡ take (length s.now - 1) s.now) × (length x.now + 1 ≡ length s.now))
-    → trimmed s.now ≡ (unwrap_or r s).now
+    → x ≡ unwrap_or r s → trimmed s.now ≡ x.now
 unfolding trimmed
-trimmed_is s r h = stripped 10 (omega arith) s r h
+trimmed_is s r h e = rw e (stripped 10 (omega arith) s r h)
 
-pub length-trimmed : (s : List ℕ) → length s ≤ length (trimmed s) + 1
+length-trimmed : (s : List ℕ) → length s ≤ length (trimmed s) + 1
 unfolding trimmed
 length-trimmed s = go (eqb (get_or s (length s - 1) 0) 10)
   where
     go : (a : Bool) → length s ≤ length (cond a (take (length s - 1) s) s) + 1
     go true = omega (arith, length-take-le (length s - 1) s (omega arith))
     go false = omega arith
+
+-- where all texts that are too long are answered alike, an input's first bytes tell what is answered
+pub trimmed_front : {A : Type 0} (f : List ℕ → A) (most n : ℕ) (s : List ℕ) → ((t u : List ℕ) → most < length t → most < length u → f t ≡ f u)
+    → most + 2 ≤ n → f (trimmed (take n s)) ≡ f (trimmed s)
+trimmed_front f most n s alike h = go (ltb n (length s)) refl
+  where
+    go : (a : Bool) → ltb n (length s) ≡ a → f (trimmed (take n s)) ≡ f (trimmed s)
+    go false e = rw (take_all n s (ltb-false _ _ e))
+    go true e =
+        let k : n < length s = ltb-true _ _ e in
+        let l : length (take n s) ≡ n = length-take-le n s (omega arith) in
+        alike (trimmed (take n s)) (trimmed s) (omega (arith, length-trimmed (take n s))) (omega (arith, length-trimmed s))

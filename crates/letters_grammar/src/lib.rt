@@ -9,7 +9,7 @@ ghost use Rattle.letters_grammar.specs.Letters.{is_letter, kind_of, letter_of};
 use grouping_chart::object::Kind;
 
 // Whether a byte is d, k or n.
-#[tactic(auto, using(std::proofs::lemmas::Bool::Decides::nat_tests), unfolding(crate::specs::Letters::is_letter))]
+#[tactic(auto, unfolding(crate::specs::Letters::is_letter))]
 pub fn is_letter(b: u8) -> bool
     ensures { result ≡ is_letter b }
 {
@@ -17,7 +17,7 @@ pub fn is_letter(b: u8) -> bool
 }
 
 // A letter's kind; any other byte counts as n. No From here or at letter_of: Kind, u8 and char are all other crates'.
-#[tactic(auto, using(std::proofs::lemmas::Bool::Decides::nat_tests), unfolding(crate::specs::Letters::kind_of))]
+#[tactic(auto, unfolding(crate::specs::Letters::kind_of))]
 pub fn kind_of(b: u8) -> Kind
     ensures { kind_number result ≡ kind_of b }
 {
@@ -29,7 +29,7 @@ pub fn kind_of(b: u8) -> Kind
 }
 
 // A column of kinds is bytes, since encode is lent bytes; any but the first two kinds counts as n.
-#[tactic(auto, using(std::proofs::lemmas::Bool::Decides::nat_tests), unfolding(crate::specs::Letters::letter_of))]
+#[tactic(auto, unfolding(crate::specs::Letters::letter_of))]
 pub fn letter_of(kind: u8) -> char
     ensures { result ≡ letter_of kind }
 {

@@ -12,7 +12,7 @@ use Rattle.lent.proofs.OverLaws.{front}
 use Rattle.lent.proofs.NeverLaws.{never}
 use Rattle.letters_grammar.specs.Reading.{Finding, good, refused, shorthand}
 use Rattle.letters_grammar.specs.Letters.{trimmed, LettersAlone, kinds_of}
-use Rattle.letters_grammar.proofs.LetterLaws.{length-trimmed}
+use Rattle.letters_grammar.proofs.LetterLaws.{trimmed_front}
 use Rattle.letters_grammar.proofs.BoundLaws.{good_few, refused_bounds}
 use Rattle.letters_grammar.proofs.PlainLaws.{plain_good}
 use Rattle.std.proofs.Common.{Result, Ok, Err}
@@ -40,16 +40,7 @@ input_plain t a h = rw (input_short t (omega arith), plain_good most_objects mos
 
 -- a program that reads only so many bytes of an input, or more, reads what it would read of the whole
 pub input_front : (n : ℕ) (s : List ℕ) → drill_bytes ≤ n → input_of (trimmed (take n s)) ≡ input_of (trimmed s)
-input_front n s h = go (ltb n (length s)) refl
-  where
-    go : (a : Bool) → ltb n (length s) ≡ a → input_of (trimmed (take n s)) ≡ input_of (trimmed s)
-    go false e = rw (take_all n s (ltb-false _ _ e))
-    go true e =
-        let k : n < length s = ltb-true _ _ e in
-        let l : length (take n s) ≡ n = length-take-le n s (omega arith) in
-        let a : input_of (trimmed (take n s)) ≡ long = input_long (trimmed (take n s)) (omega (arith, length-trimmed (take n s))) in
-        let b : input_of (trimmed s) ≡ long = input_long (trimmed s) (omega (arith, length-trimmed s)) in
-        a ∙ sym b
+input_front n s h = trimmed_front input_of most_bytes n s (λ t u a b. input_long t a ∙ sym (input_long u b)) h
 
 -- ---- what an answer tells
 

@@ -81,7 +81,3 @@ module _ {t : List ℕ} where
     answers-objects {d} old left e l m =
         let i : input_of t ≡ read (good (take d.count new)) = found ∙ rw e in
         record { answer = rw (i, length-take-le d.count new l); memory = rw i m }
-
--- the same of a text that is another by name
-pub text_same : {t u old new : List ℕ} {r : Result ℕ InputError} → t ≡ u → ReadDrill u old new r → ReadDrill t old new r
-text_same e x = rw e x

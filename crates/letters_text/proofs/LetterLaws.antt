@@ -91,9 +91,6 @@ module _ (t : List ℕ) where
       let r : reading t ≡ Ok (length t) = reading_letters h (bad_none t e) in
       record { answer = sym r; memory = rw r q }
 
-pub text_same : {t u old new : List ℕ} {r : Result ℕ TextError} → t ≡ u → ReadText u old new r → ReadText t old new r
-text_same e x = rw e x
-
 -- ---- what a reading tells of the text
 
 -- all of the text's n bytes are letters

@@ -86,7 +86,7 @@ fn put_head<const N: usize>(out: &mut ArrayString<N>, o: Object)
 }
 
 // What stands between the letters of two neighbours.
-#[tactic(auto, using(crate::proofs::LinesLaws::partings))]
+#[tactic(auto, using(crate::proofs::LinesLaws::steps), unfolding(crate::specs::Lines::parting))]
 fn put_parting<const N: usize>(out: &mut ArrayString<N>, p: Object, o: Object)
     requires { array_string_len out.old + length (parting p o) ≤ N }
     ensures { out.new.bytes ≡ out.old.bytes ++ parting p o }
@@ -142,7 +142,7 @@ pub fn write_lines<const N: usize>(columns: &Columns, out: &mut ArrayString<N>)
 }
 
 // `bad P`, where P is the place of the first byte that is no letter.
-#[tactic(auto, using(crate::proofs::LinesLaws::bads), unfolding(crate::specs::Lines::bad_line))]
+#[tactic(auto, using(crate::proofs::LinesLaws::steps), unfolding(crate::specs::Lines::bad_line))]
 pub fn write_bad<const N: usize>(place: usize, out: &mut ArrayString<N>)
     requires { (place < 10000) × (array_string_len out.old + 9 ≤ N) }
     ensures { out.new.bytes ≡ out.old.bytes ++ bad_line place }
