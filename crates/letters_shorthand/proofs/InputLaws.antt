@@ -4,10 +4,9 @@ use mathlib.Core.Bool.{Bool, true, false, cond}
 use mathlib.Core.List.{List}
 use Prim.Native.Nat.{ℕ, ◌≤◌, ◌<◌}
 use native.Mathlib.Omega.{arith}
-use borrow.Author.Tests.{lt-ltb, le-ltb, ltb-true, ltb-false}
+use borrow.Author.Tests.{lt-ltb, le-ltb, ltb-false}
 use lib.Dec.{ltb}
 use lib.ListN.{length, take, length-take}
-use lib.Seq.{take_all, length-take-le}
 use Rattle.lent.proofs.OverLaws.{front}
 use Rattle.lent.proofs.NeverLaws.{never}
 use Rattle.letters_grammar.specs.Reading.{Finding, good, refused, shorthand}

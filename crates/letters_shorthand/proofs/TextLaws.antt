@@ -11,11 +11,10 @@ use Rattle.letters_grammar.specs.Reading.{good, refused, shorthand}
 use Rattle.letters_grammar.proofs.ReadingLaws.{shorthand-run, exchanged_none}
 use Rattle.letters_grammar.proofs.PlaceLaws.{free_loose, free-end}
 use Rattle.letters_count.specs.declared.Cursor.{Cursor}
-use Rattle.std.proofs.Common.{Result, Ok, Err}
+use Rattle.std.proofs.Common.{Ok, Err}
 use Rattle.letters_count.specs.declared.Fault.TheVariants.{Misplaced}
 use Rattle.letters_count.specs.declared.Refusal.{Refusal}
 use Rattle.letters_count.specs.Numbers.{number_of}
-use Rattle.letters_shorthand.specs.declared.InputError.{InputError}
 use Rattle.letters_shorthand.specs.declared.InputError.TheVariants.{Long, Refused}
 use Rattle.letters_grammar.specs.Reading.{most_objects, most_brackets}
 use Rattle.letters_shorthand.specs.Input.{most_bytes, long, read, input_of, objects_read, answer_of, ReadDrill}

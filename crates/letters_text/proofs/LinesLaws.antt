@@ -5,7 +5,6 @@ use mathlib.Core.Bool.{Bool, true, false, cond}
 use Prim.Native.Nat.{ℕ, suc, ◌+◌, ◌*◌, ◌≤◌, ◌<◌, suc-le-suc}
 use native.Mathlib.Numerals.{add-one}
 use native.Mathlib.Omega.{arith}
-use borrow.Author.Tests.{eq-eqb, ne_eqb}
 use lib.Dec.{eqb}
 use lib.ListN.{length, drop, get_or, length-append, drop_of_length-le}
 use lib.Seq.{drop-cons}
@@ -168,4 +167,3 @@ module _ {c : Columns} {before out : List ℕ} {last : Object} {i : ℕ} (x : Li
 -- ---- what the functions that print need
 
 pub ruleset steps = (letter_ascii, encode_ascii, decimal_four, length-append, append_assoc)
-

@@ -1,13 +1,8 @@
 -- What a caller knows of the text from what `read_letters` returns, and what is to be printed then.
-use mathlib.Core.Path.{◌≡◌, refl, sym, ◌∙◌}
+use mathlib.Core.Path.{◌≡◌, sym, ◌∙◌}
 use mathlib.Core.List.{List}
-use mathlib.Core.Bool.{Bool, true, false}
-use Prim.Native.Nat.{ℕ, ◌≤◌, ◌<◌}
-use native.Mathlib.Omega.{arith}
-use borrow.Author.Tests.{ltb-true, ltb-false}
-use lib.Dec.{ltb}
-use lib.ListN.{length, take}
-use lib.Seq.{take_all, length-take-le}
+use Prim.Native.Nat.{ℕ, ◌≤◌}
+use lib.ListN.{take}
 use Rattle.lent.specs.Over.{over}
 use Rattle.std.proofs.Common.{Result, Ok, Err}
 use Rattle.letters_text.specs.declared.TextError.{TextError}
