@@ -15,10 +15,11 @@ use Rattle.call_encode.specs.Call.{Memory, encoded_kinds}
 use Rattle.call_encode.proofs.CallLaws.{streaks_front, patterns_front, hits_front, intervals_front}
 use Rattle.letters_text.specs.declared.TextError.{TextError}
 use Rattle.letters_text.specs.declared.TextError.TheVariants.{Long, Bad}
-use Rattle.letters_text.specs.Letters.{trimmed, kinds_of, ReadText, input_bytes}
+use Rattle.letters_grammar.specs.Letters.{trimmed, kinds_of}
+use Rattle.letters_grammar.proofs.LetterLaws.{length-kinds}
+use Rattle.letters_text.specs.Letters.{ReadText, input_bytes}
 use Rattle.letters_text.specs.Lines.{Columns, lines, bad_line, long_line}
 use Rattle.letters_text.specs.passes.Memory.{LinesFit}
-use Rattle.letters_text.proofs.LetterLaws.{length-kinds}
 use Rattle.letters_text.proofs.PrintedLaws.{read_long, read_bad, read_letters, read_all, read_kinds, printed_front}
 use Rattle.letters_answer.specs.Output.{columns, letters_output, InputAnswered}
 use Rattle.letters_answer.proofs.IntervalLaws.{interval-small}

@@ -12,7 +12,8 @@ use Rattle.grouping_colour.specs.MonoStreak.{continues, opens_streak, streak_mar
 use Rattle.grouping_colour.specs.AlternatingMonoPattern.{opens_pattern, pattern_marks, coupled_at, coupled}
 use Rattle.grouping_preprocessor.specs.Preprocessor.{patterns_open, first_lengths, streak_counts, pattern_types, coupled_patterns}
 use Rattle.grouping_preprocessor.specs.Preprocessor.{hits_open, hit_sizes, hit_firsts, hit_seconds, hit_intervals, alternating_of, hit_of, interval_of}
-use Rattle.letters_text.specs.Letters.{trimmed, is_letter, kind_of, letter_of, kinds_of, first_bad, reading}
+use Rattle.letters_grammar.specs.Letters.{trimmed, is_letter, kind_of, letter_of, kinds_of}
+use Rattle.letters_text.specs.Letters.{first_bad, reading}
 use Rattle.letters_text.specs.Lines.{line_head, parting, first_letter, next_letter, lines_after, lines_of, object_at, objects, lines}
 use Rattle.letters_text.specs.Lines.{bad_line, long_line, printed}
 use Rattle.letters_answer.specs.Output.{columns, letters_output}

@@ -4,7 +4,8 @@ use Rattle.std.specs.Prelude.{◌≡◌, ℕ, ◌≤◌, List, length, take}
 use Rattle.grouping_colour.specs.MonoStreak.{streak_of}
 use Rattle.grouping_preprocessor.specs.Preprocessor.{alternating_of, hit_of, interval_of}
 use Rattle.grouping_chart.specs.Settings.{base_settings}
-use Rattle.letters_text.specs.Letters.{trimmed, kinds_of, reading, input_bytes}
+use Rattle.letters_grammar.specs.Letters.{trimmed, kinds_of}
+use Rattle.letters_text.specs.Letters.{reading, input_bytes}
 use Rattle.letters_text.specs.Lines.{Columns, lines, printed}
 
 -- the numbers of encode that the lines show

@@ -26,16 +26,6 @@ module _ (s : List ℕ) (p : ℕ) where
   unfolding digit_at
   at_digit h d = rw (lt-leb _ _ h, d)
 
-  -- by how large the byte is
-  pub at_low : p < length s → get_or s p 0 < 48 → None ≡ digit_at s p
-  at_low h l = at_other h (digit_low _ l)
-
-  pub at_high : p < length s → 58 ≤ get_or s p 0 → None ≡ digit_at s p
-  at_high h l = at_other h (digit_high _ l)
-
-  pub at_between : (r : ℕ) → p < length s → 48 ≤ get_or s p 0 → get_or s p 0 < 58 → r ≡ get_or s p 0 - 48 → Some r ≡ digit_at s p
-  at_between r h l m e = rw e (at_digit h (digit_yes _ l m))
-
   -- ---- a count by its digits
 
   pub count_none : None ≡ digit_at s p → Ok None ≡ count_at s p
@@ -60,6 +50,6 @@ module _ (s : List ℕ) (p : ℕ) where
       unfolding count_at count_by count_behind
       count_one y e = rw (← x, ne_eqb _ _ z, ← y, ne_eqb _ _ e)
 
-pub ruleset digits = (at_end_lem, at_low, at_high, at_between)
+pub ruleset digits = (digit_yes, digit_low, digit_high)
 
 pub ruleset counts = (count_none, count_zero, count_two, count_short, count_one)

@@ -35,7 +35,7 @@ grows zero d h = absurd (omega arith)
 grows (suc n) d h = omega (arith, suc-mul n d)
 
 -- a count of two digits times at most 1,024 objects fits a word
-pub product_fits : (n d : ℕ) → n < 100 → d ≤ 1024 → n * d ≤ 102400
+product_fits : (n d : ℕ) → n < 100 → d ≤ 1024 → n * d ≤ 102400
 product_fits n d h l = omega (arith, mul-le-mul_right {m = n} {n = 100} d (omega arith))
 
 module _ (s old : List ℕ) (c : Cursor) (i : ℕ) (w : Room s old c) {r : Result (Option Times) Refusal} (e : r ≡ count_at s c.at) where
@@ -62,6 +62,9 @@ module _ (s old : List ℕ) (c : Cursor) (i : ℕ) (w : Room s old c) {r : Resul
     long =
         let l : length (take c.count old) ≡ c.count = length-take-le c.count old (omega arith) in
         length-repeated t.count i (take c.count old) (omega arith) ∙ rw l
+
+    pub total_fits : t.count * (c.count - i) ≤ 102400
+    total_fits = product_fits t.count (c.count - i) (written t h).small (omega arith)
 
     pub counted-full : most_objects < i + t.count * (c.count - i) → CountRead s old old c i (Err (refusal Crowded t.last))
     counted-full l = record { later = tt; same = λ fs. (written t h).many i fs (take c.count old) (rw long l) }

@@ -52,7 +52,7 @@ impl From<Fault> for u64 {
 }
 
 // The digit at a place.
-#[tactic(auto, using(crate::proofs::DigitLaws::digits))]
+#[tactic(auto, using(crate::proofs::DigitLaws::digits), unfolding(crate::specs::passes::Counts::digit_at))]
 fn digit_at(s: &[u8], at: usize) -> Option<usize>
     ensures value { result ≡ digit_at s.now at }
     ensures small { IfSome result (λ d. d < 10) }

@@ -106,6 +106,17 @@ module _ (M D : ℕ) where
     pub on : run objects D rest p fs m ks ≡ good out
     pub first : digit_first rest ≡ is_tens m
 
+-- by closing brackets alone where nothing else must follow
+finish_closed : (M D p : ℕ) (fs : List Bracket) (m : Mode) (ks : List ℕ) → is_ready m ≡ true → Finish M D p fs m ks
+finish_closed M D p fs m ks r = record {
+  rest = replicate (length fs) 41;
+  objects = M;
+  wider = omega arith;
+  out = ks;
+  on = closes M D fs p m ks r;
+  first = closers_first (length fs) ∙ sym (ready_tens m r);
+}
+
 finish : (M D p : ℕ) (fs : List Bracket) (m : Mode) (ks : List ℕ) → Finish M D p fs m ks
 unfolding step is_tens is_ready digit_first is_digit
 finish M D p fs (need q) ks =
@@ -122,22 +133,8 @@ finish M D p fs (need q) ks =
           ∙ closes N D fs (p + 1) (after (length ks)) ls refl;
       first = refl;
     }
-finish M D p fs free ks = record {
-  rest = replicate (length fs) 41;
-  objects = M;
-  wider = omega arith;
-  out = ks;
-  on = closes M D fs p free ks refl;
-  first = closers_first (length fs);
-}
-finish M D p fs (after i) ks = record {
-  rest = replicate (length fs) 41;
-  objects = M;
-  wider = omega arith;
-  out = ks;
-  on = closes M D fs p (after i) ks refl;
-  first = closers_first (length fs);
-}
+finish M D p fs free ks = finish_closed M D p fs free ks refl
+finish M D p fs (after i) ks = finish_closed M D p fs (after i) ks refl
 finish M D p fs (tens i t) ks =
     let n : ℕ = 10 * t + (48 - 48) in
     let N : ℕ = M + length (repeated n i ks) in

@@ -1,14 +1,22 @@
--- Bytes: which are letters and digits, and a letter's kind and a kind's letter, case by case.
-use mathlib.Core.Path.{◌≡◌, refl, sym}
+-- Bytes: which are letters and digits, a letter's kind and a kind's letter, and one line feed at the end, case by case.
+use mathlib.Core.Path.{◌≡◌, refl, sym, ◌∙◌}
 use mathlib.Core.Logic.{◌⊎◌, inl, inr, ⊎_elim}
 use mathlib.Core.Bool.{Bool, true, false, cond}
-use mathlib.Core.List.{[], ◌∷◌}
-use Prim.Native.Nat.{ℕ, zero, suc, ◌≤◌, ◌<◌}
+use mathlib.Core.List.{List, [], ◌∷◌}
+use Prim.Native.Nat.{ℕ, zero, suc, ◌+◌, ◌-◌, ◌≤◌, ◌<◌}
 use native.Mathlib.Omega.{arith}
-use borrow.Author.Tests.{lt-ltb, le-ltb, ne_eqb, ltb-true, ltb-false, eqb-true}
+use denote.Ref.{Bor}
+use lib.ListN.{length, take, drop, get_or, length-map}
+use lib.Seq.{take_all, length-take-le}
+use Rattle.std.proofs.Common.{Option, MatchOption}
+use Rattle.std.proofs.lemmas.List.{get_or-map}
+use Rattle.std.specs.Option.{unwrap_or}
+use Rattle.std.specs.Cmp.Lexicographic.{pointwise}
+use Rattle.lent.proofs.SuffixLaws.{stripped}
+use borrow.Author.Tests.{lt-ltb, le-ltb, ltb-true, ltb-false, eqb-true}
 use lib.Dec.{eqb, ltb}
 use Rattle.lent.proofs.NeverLaws.{never}
-use Rattle.letters_grammar.specs.Letters.{is_digit, is_letter, kind_of, letter_of, exchanged_kind, exchanged_if}
+use Rattle.letters_grammar.specs.Letters.{trimmed, is_digit, is_letter, kind_of, letter_of, kinds_of, exchanged_kind, exchanged_if}
 
 -- ---- letters
 
@@ -57,29 +65,24 @@ pub letter_no_digit : {b : ℕ} → Lettered b → is_digit b ≡ false
 unfolding is_digit
 letter_no_digit e = ⊎_elim (λ d. rw d) (⊎_elim (λ d. rw d) (λ d. rw d)) e
 
--- ---- a letter's kind, with d and k exchanged or not
+-- ---- a kind, with d and k exchanged or not
 
-module _ (b : ℕ) where
-  pub kind_d : (q : Bool) → b ≡ 100 → q ≡ false → 0 ∷ [] ≡ exchanged_if q (kind_of b ∷ [])
-  unfolding exchanged_if kind_of
-  kind_d q e f = rw (e, f)
+pub exchanged_not : (q : Bool) (k : ℕ) → q ≡ false → k ∷ [] ≡ exchanged_if q (k ∷ [])
+unfolding exchanged_if
+exchanged_not q k e = rw e
 
-  pub kind_d_swapped : (q : Bool) → b ≡ 100 → q ≡ true → 1 ∷ [] ≡ exchanged_if q (kind_of b ∷ [])
-  unfolding exchanged_if exchanged_kind kind_of
-  kind_d_swapped q e f = rw (e, f)
+pub exchanged_center : (q : Bool) → q ≡ true → 1 ∷ [] ≡ exchanged_if q (0 ∷ [])
+unfolding exchanged_if exchanged_kind
+exchanged_center q e = rw e
 
-  pub kind_k : (q : Bool) → b ≡ 107 → q ≡ false → 1 ∷ [] ≡ exchanged_if q (kind_of b ∷ [])
-  unfolding exchanged_if kind_of
-  kind_k q e f = rw (e, f)
+pub exchanged_rim : (q : Bool) → q ≡ true → 0 ∷ [] ≡ exchanged_if q (1 ∷ [])
+unfolding exchanged_if exchanged_kind
+exchanged_rim q e = rw e
 
-  pub kind_k_swapped : (q : Bool) → b ≡ 107 → q ≡ true → 0 ∷ [] ≡ exchanged_if q (kind_of b ∷ [])
-  unfolding exchanged_if exchanged_kind kind_of
-  kind_k_swapped q e f = rw (e, f)
-
-  pub kind_n : (q : Bool) → (b ≡ 100 → ⊥) → (b ≡ 107 → ⊥) → 2 ∷ [] ≡ exchanged_if q (kind_of b ∷ [])
-  unfolding exchanged_if exchanged_kind kind_of
-  kind_n true d k = rw (ne_eqb b 100 d, ne_eqb b 107 k)
-  kind_n false d k = rw (ne_eqb b 100 d, ne_eqb b 107 k)
+pub exchanged_other : (q : Bool) → 2 ∷ [] ≡ exchanged_if q (2 ∷ [])
+unfolding exchanged_if exchanged_kind
+exchanged_other true = refl
+exchanged_other false = refl
 
 -- ---- a kind's letter
 
@@ -100,3 +103,51 @@ kind_again zero h = refl
 kind_again (suc zero) h = refl
 kind_again (suc (suc zero)) h = refl
 kind_again (suc (suc (suc k))) h = absurd (omega arith)
+
+-- it is one byte of a text
+pub letter_ascii : (k : ℕ) → letter_of k < 128
+unfolding letter_of
+letter_ascii k = go (eqb k 0) (eqb k 1)
+  where
+    go : (d r : Bool) → cond d 100 (cond r 107 110) < 128
+    go true r = omega arith
+    go false true = omega arith
+    go false false = omega arith
+
+pub length-kinds : (t : List ℕ) → length (kinds_of t) ≡ length t
+unfolding kinds_of
+length-kinds t = length-map t kind_of
+
+pub kind_at : (t : List ℕ) (i : ℕ) (k : ℕ) → i < length t → k ≡ kind_of (get_or t i 0) → k ≡ get_or (kinds_of t) i 0
+unfolding kinds_of
+kind_at t i k h e = e ∙ sym (get_or-map kind_of t i 0 0 h)
+
+-- ---- one line feed at the end
+
+-- what is left of a text without that suffix, or else the text, is the trimmed one
+pub trimmed_is : (s : Bor (List ℕ)) (r : Option (Bor (List ℕ))) {x : Bor (List ℕ)}
+    → MatchOption r (pointwise eqb (drop (length s.now - 1) s.now) (10 ∷ []) ≡ false)
+    (λ x. (pointwise eqb (drop (length s.now - 1) s.now) (10 ∷ []) ≡ true) × (x.now ≡ take (length s.now - 1) s.now) × (length x.now + 1 ≡ length s.now))
+    → x ≡ unwrap_or r s → trimmed s.now ≡ x.now
+unfolding trimmed
+trimmed_is s r h e = rw e (stripped 10 (omega arith) s r h)
+
+length-trimmed : (s : List ℕ) → length s ≤ length (trimmed s) + 1
+unfolding trimmed
+length-trimmed s = go (eqb (get_or s (length s - 1) 0) 10)
+  where
+    go : (a : Bool) → length s ≤ length (cond a (take (length s - 1) s) s) + 1
+    go true = omega (arith, length-take-le (length s - 1) s (omega arith))
+    go false = omega arith
+
+-- where all texts that are too long are answered alike, an input's first bytes tell what is answered
+pub trimmed_front : {A : Type 0} (f : List ℕ → A) (most n : ℕ) (s : List ℕ) → ((t u : List ℕ) → most < length t → most < length u → f t ≡ f u)
+    → most + 2 ≤ n → f (trimmed (take n s)) ≡ f (trimmed s)
+trimmed_front f most n s alike h = go (ltb n (length s)) refl
+  where
+    go : (a : Bool) → ltb n (length s) ≡ a → f (trimmed (take n s)) ≡ f (trimmed s)
+    go false e = rw (take_all n s (ltb-false _ _ e))
+    go true e =
+        let k : n < length s = ltb-true _ _ e in
+        let l : length (take n s) ≡ n = length-take-le n s (omega arith) in
+        alike (trimmed (take n s)) (trimmed s) (omega (arith, length-trimmed (take n s))) (omega (arith, length-trimmed s))

@@ -1,9 +1,13 @@
--- The bytes of a drill's text, and the kinds of its letters: d is 0, k is 1, n is 2.
--- A text is a list of bytes.
-use Rattle.std.specs.Prelude.{ℕ, ◌≡◌, Bool, true, false, cond, List, [], ◌∷◌, map, eqb, ltb}
+-- The bytes of a text of letters or of a drill, and the kinds of its letters: d is 0, k is 1, n is 2.
+-- A text is a list of bytes. What is read is a text, and behind it one line feed that counts for nothing.
+use Rattle.std.specs.Prelude.{ℕ, ◌≡◌, ◌-◌, Bool, true, false, cond, List, [], ◌∷◌, map, eqb, ltb, length, take, get_or}
 
 abbrev pub line_feed : ℕ
 line_feed = 10
+
+-- without one line feed at the end
+unfoldable pub trimmed : List ℕ → List ℕ
+trimmed s = cond (eqb (get_or s (length s - 1) 0) line_feed) (take (length s - 1) s) s
 
 -- ( ) and ~
 abbrev pub opening_byte : ℕ

@@ -3,11 +3,11 @@ use mathlib.Core.Path.{◌≡◌, refl}
 use mathlib.Core.List.{List, [], ◌∷◌, ◌++◌, map}
 use Prim.Native.Nat.{ℕ}
 use lib.ListN.{replicate}
-use Rattle.letters_grammar.specs.Letters.{is_digit, is_letter, kind_of, exchanged_kind, exchanged_if}
+use Rattle.letters_grammar.specs.Letters.{trimmed, is_digit, is_letter, kind_of, exchanged_kind, exchanged_if}
 use Rattle.letters_grammar.specs.Grammar.{copies}
 use Rattle.letters_grammar.specs.Reading.{digit_first, exchanged, repeated, at_closing, ended, at_end, follow}
 use Rattle.letters_grammar.specs.Reading.{at_objects, at_opening, at_item, at_free, at_count, at_after, at_tens, step, run, shorthand}
-use Rattle.letters_shorthand.specs.Input.{trimmed, Input, input_of, objects_read, Answer, too_long, refused_at, so_many, answer_of}
+use Rattle.letters_shorthand.specs.Input.{Input, input_of, objects_read, Answer, too_long, refused_at, so_many, answer_of}
 
 record Example : Type 0 where
   input : List ℕ

@@ -2,16 +2,16 @@
 use mathlib.Core.Path.{◌≡◌, refl, sym, ap, ◌∙◌}
 use mathlib.Core.Bool.{Bool, true, false, cond}
 use mathlib.Core.List.{List}
-use Prim.Native.Nat.{ℕ, ◌+◌, ◌-◌, ◌≤◌, ◌<◌}
+use Prim.Native.Nat.{ℕ, ◌≤◌, ◌<◌}
 use native.Mathlib.Omega.{arith}
-use borrow.Author.Tests.{lt-ltb, le-ltb, ltb-true, ltb-false}
-use lib.Dec.{eqb, ltb}
-use lib.ListN.{length, take, get_or, length-take}
-use lib.Seq.{take_all, length-take-le}
+use borrow.Author.Tests.{lt-ltb, le-ltb, ltb-false}
+use lib.Dec.{ltb}
+use lib.ListN.{length, take, length-take}
 use Rattle.lent.proofs.OverLaws.{front}
 use Rattle.lent.proofs.NeverLaws.{never}
 use Rattle.letters_grammar.specs.Reading.{Finding, good, refused, shorthand}
-use Rattle.letters_grammar.specs.Letters.{LettersAlone, kinds_of}
+use Rattle.letters_grammar.specs.Letters.{trimmed, LettersAlone, kinds_of}
+use Rattle.letters_grammar.proofs.LetterLaws.{trimmed_front}
 use Rattle.letters_grammar.proofs.BoundLaws.{good_few, refused_bounds}
 use Rattle.letters_grammar.proofs.PlainLaws.{plain_good}
 use Rattle.std.proofs.Common.{Result, Ok, Err}
@@ -20,8 +20,8 @@ use Rattle.letters_count.specs.Numbers.{number_of}
 use Rattle.letters_shorthand.specs.declared.InputError.{InputError}
 use Rattle.letters_shorthand.specs.declared.InputError.TheVariants.{Long, Refused}
 use Rattle.letters_grammar.specs.Reading.{most_objects, most_brackets}
-use Rattle.letters_shorthand.specs.Input.{most_bytes, input_bytes}
-use Rattle.letters_shorthand.specs.Input.{trimmed, Input, long, read, input_of, objects_read, too_long, refused_at, so_many, answer_of, told, ReadText}
+use Rattle.letters_shorthand.specs.Input.{most_bytes, drill_bytes}
+use Rattle.letters_shorthand.specs.Input.{Input, long, read, input_of, objects_read, too_long, refused_at, so_many, answer_of, told, ReadDrill}
 
 -- ---- what an input is
 
@@ -37,26 +37,9 @@ input_short t h = rw (le-ltb _ _ h)
 pub input_plain : (t : List ℕ) → LettersAlone t → length t ≤ most_objects → input_of t ≡ read (good (kinds_of t))
 input_plain t a h = rw (input_short t (omega arith), plain_good most_objects most_brackets t a h)
 
-length-trimmed : (s : List ℕ) → length s ≤ length (trimmed s) + 1
-unfolding trimmed
-length-trimmed s = go (eqb (get_or s (length s - 1) 0) 10)
-  where
-    go : (a : Bool) → length s ≤ length (cond a (take (length s - 1) s) s) + 1
-    go true = omega (arith, length-take-le (length s - 1) s (omega arith))
-    go false = omega arith
-
 -- a program that reads only so many bytes of an input, or more, reads what it would read of the whole
-pub input_front : (n : ℕ) (s : List ℕ) → input_bytes ≤ n → input_of (trimmed (take n s)) ≡ input_of (trimmed s)
-input_front n s h = go (ltb n (length s)) refl
-  where
-    go : (a : Bool) → ltb n (length s) ≡ a → input_of (trimmed (take n s)) ≡ input_of (trimmed s)
-    go false e = rw (take_all n s (ltb-false _ _ e))
-    go true e =
-        let k : n < length s = ltb-true _ _ e in
-        let l : length (take n s) ≡ n = length-take-le n s (omega arith) in
-        let a : input_of (trimmed (take n s)) ≡ long = input_long (trimmed (take n s)) (omega (arith, length-trimmed (take n s))) in
-        let b : input_of (trimmed s) ≡ long = input_long (trimmed s) (omega (arith, length-trimmed s)) in
-        a ∙ sym b
+pub input_front : (n : ℕ) (s : List ℕ) → drill_bytes ≤ n → input_of (trimmed (take n s)) ≡ input_of (trimmed s)
+input_front n s h = trimmed_front input_of most_bytes n s (λ t u a b. input_long t a ∙ sym (input_long u b)) h
 
 -- ---- what an answer tells
 
@@ -89,7 +72,7 @@ input_read t f e = go (ltb most_bytes (length t)) refl e
     go true x y = never (cc)
     go false x y = (ltb-false _ _ x, cc)
 
-module _ {t old new : List ℕ} {r : Result ℕ InputError} (x : ReadText t old new r) where
+module _ {t old new : List ℕ} {r : Result ℕ InputError} (x : ReadDrill t old new r) where
   pub read_long : r ≡ Err Long → input_of t ≡ long
   read_long e = told_long (input_of t) (sym x.answer ∙ ap told e)
 

@@ -1,14 +1,15 @@
 -- What is read at a cursor meets the reader's promise, case by case: a count or none, a letter, `~`.
 use mathlib.Core.Path.{◌≡◌, ◌∙◌}
-use mathlib.Core.Bool.{Bool, not}
+use mathlib.Core.Bool.{Bool, false, not}
 use mathlib.Core.List.{List, [], ◌∷◌}
 use Prim.Native.Nat.{ℕ, ◌+◌, ◌≤◌, ◌<◌}
 use native.Mathlib.Numerals.{add-one}
 use native.Mathlib.Omega.{arith}
 use lib.ListN.{length, take, get_or, set}
 use lib.Seq.{length-take-le, take-suc-set}
-use Rattle.letters_grammar.specs.Letters.{kind_of, exchanged_if}
-use Rattle.letters_grammar.proofs.LetterLaws.{Lettered, letter_cases, kind_d, kind_d_swapped, kind_k, kind_k_swapped, kind_n}
+use Rattle.lent.proofs.NeverLaws.{never}
+use Rattle.letters_grammar.specs.Letters.{is_letter, kind_of, exchanged_if}
+use Rattle.letters_grammar.proofs.LetterLaws.{Lettered, a_letter, letter_cases, exchanged_not, exchanged_center, exchanged_rim, exchanged_other}
 use Rattle.letters_grammar.proofs.ReadingLaws.{with_letter}
 use Rattle.letters_grammar.proofs.KindLaws.{length-letter}
 use Rattle.letters_grammar.proofs.PlaceLaws.{need-end, need_other, need_tilde, need-many, need-letter}
@@ -22,7 +23,7 @@ use Rattle.letters_count.proofs.LaterLaws.{onward, nearer}
 
 -- ---- a letter
 
-pub ruleset kinds = (arith, kind_d, kind_d_swapped, kind_k, kind_k_swapped, kind_n)
+pub ruleset exchanges = (arith, exchanged_not, exchanged_center, exchanged_rim, exchanged_other)
 
 module _ (s old : List ℕ) (c : Cursor) (q : Bool) (w : Room s old c) (a : AtLetter s c) where
   front : length (take c.count old) ≡ c.count
@@ -61,9 +62,11 @@ module _ (s old : List ℕ) (c : Cursor) (depth : ℕ) (q : Bool) where
   item_end h = record { later = tt; same = λ fs _. need-end most_objects most_brackets s c.at fs (take c.count old) q h }
 
   module _ (l : c.at < length s) where
-    pub item_other : {r : Read} → (get_or s c.at 0 ≡ 126 → ⊥) → (get_or s c.at 0 ≡ 40 → ⊥) → (Lettered (get_or s c.at 0) → ⊥)
+    pub item_other : {r : Read} → (get_or s c.at 0 ≡ 126 → ⊥) → (get_or s c.at 0 ≡ 40 → ⊥) → is_letter (get_or s c.at 0) ≡ false
         → r ≡ Err (refusal Misplaced c.at) → ItemRead s old old c depth q r
-    item_other x y z e = rw e (record { later = tt; same = λ fs _. need_other most_objects most_brackets s c.at fs (take c.count old) q l x y z })
+    item_other x y z e =
+        let other : Lettered (get_or s c.at 0) → ⊥ = λ a. let letter = a_letter a in never (cc) in
+        rw e (record { later = tt; same = λ fs _. need_other most_objects most_brackets s c.at fs (take c.count old) q l x y other })
 
     pub item_tilde : (new : List ℕ) (r : Read) → get_or s c.at 0 ≡ 126
         → ItemRead s old new (record { at = c.at + 1; count = c.count }) depth (not q) r → ItemRead s old new c depth q r

@@ -1,44 +1,26 @@
--- A whole text: one line feed at its end, what the sequence that was read says of it, and what is answered then.
+-- A whole text: what the sequence that was read says of it, and what is answered then.
 use mathlib.Core.Path.{◌≡◌, refl, sym, ap, subst, ◌∙◌}
-use mathlib.Core.Bool.{true, false}
-use mathlib.Core.List.{List, [], ◌∷◌}
-use Prim.Native.Nat.{ℕ, ◌+◌, ◌-◌, ◌≤◌, ◌<◌}
-use native.Mathlib.Omega.{arith}
-use denote.Ref.{Bor}
-use lib.Dec.{eqb}
-use lib.ListN.{length, take, drop}
+use mathlib.Core.Bool.{false}
+use mathlib.Core.List.{List, []}
+use Prim.Native.Nat.{ℕ, ◌≤◌, ◌<◌}
+use lib.ListN.{length, take}
 use lib.Seq.{length-take-le}
-use Rattle.std.proofs.Common.{Option, MatchOption}
-use Rattle.std.specs.Option.{unwrap_or}
-use Rattle.std.specs.Cmp.Lexicographic.{pointwise}
 use Rattle.lent.specs.Over.{over}
-use Rattle.lent.proofs.SuffixLaws.{stripped}
 use Rattle.lent.proofs.OverLaws.{put_front, put_nothing}
 use Rattle.letters_grammar.specs.Reading.{good, refused, shorthand}
 use Rattle.letters_grammar.proofs.ReadingLaws.{shorthand-run, exchanged_none}
 use Rattle.letters_grammar.proofs.PlaceLaws.{free_loose, free-end}
 use Rattle.letters_count.specs.declared.Cursor.{Cursor}
-use Rattle.std.proofs.Common.{Result, Ok, Err}
+use Rattle.std.proofs.Common.{Ok, Err}
 use Rattle.letters_count.specs.declared.Fault.TheVariants.{Misplaced}
 use Rattle.letters_count.specs.declared.Refusal.{Refusal}
 use Rattle.letters_count.specs.Numbers.{number_of}
-use Rattle.letters_shorthand.specs.declared.InputError.{InputError}
 use Rattle.letters_shorthand.specs.declared.InputError.TheVariants.{Long, Refused}
 use Rattle.letters_grammar.specs.Reading.{most_objects, most_brackets}
-use Rattle.letters_shorthand.specs.Input.{most_bytes, trimmed, long, read, input_of, objects_read, answer_of, ReadText}
+use Rattle.letters_shorthand.specs.Input.{most_bytes, long, read, input_of, objects_read, answer_of, ReadDrill}
 use Rattle.letters_shorthand.proofs.InputLaws.{input_long, input_short}
 use Rattle.letters_count.specs.passes.Counts.{Read, refusal, goes_on, Later}
 use Rattle.letters_shorthand.specs.passes.Readers.{Stopped, SequenceRead, finding_of, TextRead}
-
--- ---- one line feed at the end
-
--- what is left of a text without that suffix, or else the text, is the trimmed one
-pub trimmed_is : (s : Bor (List ℕ)) (r : Option (Bor (List ℕ)))
-    → MatchOption r (pointwise eqb (drop (length s.now - 1) s.now) (10 ∷ []) ≡ false)
-    (λ x. (pointwise eqb (drop (length s.now - 1) s.now) (10 ∷ []) ≡ true) × (x.now ≡ take (length s.now - 1) s.now) × (length x.now + 1 ≡ length s.now))
-    → trimmed s.now ≡ (unwrap_or r s).now
-unfolding trimmed
-trimmed_is s r h = stripped 10 (omega arith) s r h
 
 -- ---- the sequence that a text is
 
@@ -78,7 +60,7 @@ over_nothing : (w : List ℕ) → over [] w ≡ w
 over_nothing w = sym (put_front [] w) ∙ put_nothing 0 w
 
 module _ {t : List ℕ} where
-  pub answers_long : (w : List ℕ) → most_bytes < length t → ReadText t w w (Err Long)
+  pub answers_long : (w : List ℕ) → most_bytes < length t → ReadDrill t w w (Err Long)
   unfolding objects_read answer_of
   answers_long w h = let i : input_of t ≡ long = input_long t h in record { answer = rw i; memory = rw i (sym (over_nothing w)) }
 
@@ -86,19 +68,15 @@ module _ {t : List ℕ} where
     found : input_of t ≡ read (finding_of new r)
     found = input_short t h ∙ rw x.found
 
-    pub answers-refused : (w : List ℕ) {f : Refusal} → r ≡ Err f → ReadText t w w (Err (Refused f))
+    pub answers-refused : (w : List ℕ) {f : Refusal} → r ≡ Err f → ReadDrill t w w (Err (Refused f))
     unfolding finding_of objects_read answer_of
     answers-refused w {f} e =
         let i : input_of t ≡ read (refused (number_of f.fault) f.place) = found ∙ rw e in
         record { answer = rw i; memory = rw i (sym (over_nothing w)) }
 
     pub answers-objects : {d : Cursor} (old left : List ℕ) → r ≡ Ok d → d.count ≤ length new → left ≡ over (take d.count new) old
-        → ReadText t old left (Ok d.count)
+        → ReadDrill t old left (Ok d.count)
     unfolding finding_of objects_read answer_of
     answers-objects {d} old left e l m =
         let i : input_of t ≡ read (good (take d.count new)) = found ∙ rw e in
         record { answer = rw (i, length-take-le d.count new l); memory = rw i m }
-
--- the same of a text that is another by name
-pub text_same : {t u old new : List ℕ} {r : Result ℕ InputError} → t ≡ u → ReadText u old new r → ReadText t old new r
-text_same e x = rw e x

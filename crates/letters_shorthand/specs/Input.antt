@@ -1,8 +1,7 @@
 -- What the letters program reads, by the scope's paragraph on it as request 5/12 amends it: the text of a drill, and
 -- behind it one line feed that counts for nothing. A text that is too long is told as that, whatever its bytes are.
-use Rattle.std.specs.Prelude.{◌≡◌, ℕ, ◌-◌, cond, List, [], eqb, ltb, length, take, get_or, Result, Ok, Err}
+use Rattle.std.specs.Prelude.{◌≡◌, ℕ, cond, List, [], ltb, length, Result, Ok, Err}
 use Rattle.lent.specs.Over.{over}
-use Rattle.letters_grammar.specs.Letters.{line_feed}
 use Rattle.letters_grammar.specs.Reading.{Finding, good, refused, shorthand, most_objects, most_brackets}
 use Rattle.letters_count.specs.Numbers.{number_of}
 use Rattle.letters_shorthand.specs.declared.InputError.{InputError}
@@ -11,10 +10,6 @@ use Rattle.letters_shorthand.specs.declared.InputError.TheVariants.{Long, Refuse
 -- the most bytes of a text
 abbrev pub most_bytes : ℕ
 most_bytes = 4096
-
--- without one line feed at the end
-unfoldable pub trimmed : List ℕ → List ℕ
-trimmed s = cond (eqb (get_or s (length s - 1) 0) line_feed) (take (length s - 1) s) s
 
 -- what a trimmed text is: too long, or what the reading finds
 pub data Input : Type 0 where
@@ -49,11 +44,11 @@ told (Ok n) = so_many n
 
 -- the reading of the trimmed text t: the objects stand over the front of the lent memory, whose other places are as
 -- lent
-pub record ReadText (t old new : List ℕ) (r : Result ℕ InputError) : Type 0 where
+pub record ReadDrill (t old new : List ℕ) (r : Result ℕ InputError) : Type 0 where
   pub answer : told r ≡ answer_of (input_of t)
   pub memory : new ≡ over (objects_read (input_of t)) old
 
 -- so many bytes of an input tell all that is printed for it: the longest text, a line feed, and a byte more, which
 -- tells a longer one
-abbrev pub input_bytes : ℕ
-input_bytes = 4098
+abbrev pub drill_bytes : ℕ
+drill_bytes = 4098

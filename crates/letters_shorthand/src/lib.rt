@@ -1,7 +1,8 @@
 // Reads drills in shorthand: what an input is, and the kinds of a good text's objects.
 #![tactic(auto)]
 
-ghost use Rattle.letters_shorthand.specs.Input.{trimmed, ReadText};
+ghost use Rattle.letters_grammar.specs.Letters.{trimmed};
+ghost use Rattle.letters_shorthand.specs.Input.{ReadDrill};
 
 use crate::reader::read_text;
 use lent::fill;
@@ -34,7 +35,7 @@ impl From<Refusal> for InputError {
 // The kinds' front holds the objects of a good text; else the kinds are left as they are: lent, fixed memory, so the
 // objects' number is handed back.
 pub fn read_input(s: &[u8], kinds: &mut [u8; MOST_OBJECTS]) -> Result<usize, InputError>
-    ensures { ReadText (trimmed s.now) kinds.old kinds.new result }
+    ensures { ReadDrill (trimmed s.now) kinds.old kinds.new result }
 {
     let text = s.strip_suffix(b"\n").unwrap_or(s);
     if MOST_BYTES < text.len() {

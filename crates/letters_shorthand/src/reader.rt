@@ -1,7 +1,7 @@
 // The readers of a text: a sequence reads items, an item may be a bracket, and a bracket holds an item and a sequence.
 ghost use Rattle.std.specs.Prelude.{◌≡◌, [], ◌∷◌, ℕ, ◌≤◌, length, Err};
 ghost use Rattle.grouping_chart.specs.Object.{kind_number};
-ghost use Rattle.letters_grammar.specs.Letters.{opening_byte, kind_of, exchanged_if};
+ghost use Rattle.letters_grammar.specs.Letters.{opening_byte, exchanged_if};
 ghost use Rattle.letters_grammar.specs.Reading.{most_objects};
 ghost use Rattle.letters_count.specs.passes.Counts.{refusal, Room};
 ghost use Rattle.letters_shorthand.specs.passes.Readers.{AtByte, AtLetter};
@@ -9,6 +9,7 @@ ghost use Rattle.letters_shorthand.specs.passes.Readers.{ItemRead, SequenceRead,
 
 use grouping_chart::object::Kind;
 use letters_count::{Cursor, Fault, MOST_OBJECTS, Refusal, counted};
+use letters_grammar::{is_letter, kind_of};
 
 // The most open brackets.
 const MOST_BRACKETS: usize = 16;
@@ -63,7 +64,7 @@ impl Reader<'_> {
                 exchanged.item(kinds, Cursor { at: at + 1, ..c })
             }
             b'(' => self.bracket(kinds, c),
-            b'd' | b'k' | b'n' => self.letter(kinds, c),
+            _ if is_letter(b) => self.letter(kinds, c),
             _ => refuse(Fault::Misplaced, at),
         }
     }
@@ -102,7 +103,7 @@ impl Reader<'_> {
         if MOST_OBJECTS <= n {
             return refuse(Fault::Crowded, at);
         }
-        kinds[n] = u8::from(kind_of(self.text[at], self.swapped));
+        kinds[n] = u8::from(exchanged_if(self.swapped, kind_of(self.text[at])));
         let behind = Cursor {
             at: at + 1,
             count: n + 1,
@@ -111,16 +112,15 @@ impl Reader<'_> {
     }
 }
 
-// The kind of a letter, with d and k exchanged or not. No From: the types of both sides are other crates'; and none of
-// letters_text's, whose letters are not exchanged: a third crate for three letters would be no plainer.
-#[tactic(auto, using(crate::proofs::ReaderLaws::kinds))]
-fn kind_of(b: u8, swapped: bool) -> Kind
-    ensures { kind_number result ∷ [] ≡ exchanged_if swapped (kind_of b ∷ []) }
+// A kind, with d and k exchanged or not.
+#[tactic(auto, using(crate::proofs::ReaderLaws::exchanges))]
+fn exchanged_if(swapped: bool, kind: Kind) -> Kind
+    ensures { kind_number result ∷ [] ≡ exchanged_if swapped (kind_number kind ∷ []) }
 {
-    match (b, swapped) {
-        (b'd', false) | (b'k', true) => Kind::Center,
-        (b'd', true) | (b'k', false) => Kind::Rim,
-        _ => Kind::NonHit,
+    match kind {
+        Kind::Center if swapped => Kind::Rim,
+        Kind::Rim if swapped => Kind::Center,
+        _ => kind,
     }
 }
 

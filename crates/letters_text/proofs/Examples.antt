@@ -6,7 +6,8 @@ use lib.ListN.{replicate}
 use Rattle.std.proofs.Common.{Ok}
 use Rattle.std.specs.Fmt.{digits}
 use Rattle.lent.specs.Scan.{tabulate}
-use Rattle.letters_text.specs.Letters.{trimmed, is_letter, kind_of, letter_of, kinds_of, first_bad, reading}
+use Rattle.letters_grammar.specs.Letters.{trimmed, is_letter, kind_of, letter_of, kinds_of}
+use Rattle.letters_text.specs.Letters.{first_bad, reading}
 use Rattle.letters_text.specs.Lines.{line_head, parting, first_letter, next_letter, lines_after, lines_of}
 use Rattle.letters_text.specs.Lines.{object_at, objects, lines, bad_line, long_line, printed}
 

@@ -2,70 +2,19 @@
 use mathlib.Core.Path.{◌≡◌, refl, sym, ap, ◌∙◌}
 use mathlib.Core.List.{List, [], ◌∷◌}
 use mathlib.Core.Bool.{Bool, true, false, cond, not}
-use Prim.Native.Nat.{ℕ, zero, suc, ◌+◌, ◌-◌, ◌≤◌, ◌<◌}
+use Prim.Native.Nat.{ℕ, suc, ◌+◌, ◌≤◌, ◌<◌}
 use native.Mathlib.Omega.{arith}
-use borrow.Author.Tests.{lt-ltb, le-ltb, eqb-true, ltb-true, ltb-false}
-use denote.Ref.{Bor}
-use lib.Dec.{eqb, ltb}
-use lib.ListN.{length, take, drop, get_or, length-map}
-use lib.Seq.{length-take-le}
-use Rattle.std.proofs.Common.{Option, Some, None, Result, Ok, Err, MatchOption}
+use borrow.Author.Tests.{lt-ltb, le-ltb, ltb-true, ltb-false}
+use lib.Dec.{ltb}
+use lib.ListN.{length}
+use Rattle.std.proofs.Common.{Some, None, Result, Ok, Err}
 use Rattle.std.specs.List.{position, position_or_len}
-use Rattle.std.specs.Option.{unwrap_or}
-use Rattle.std.specs.Cmp.Lexicographic.{pointwise}
 use Rattle.lent.specs.Over.{over}
-use Rattle.std.proofs.lemmas.List.{get_or-map}
-use Rattle.lent.proofs.SuffixLaws.{stripped}
 use Rattle.lent.proofs.NeverLaws.{never}
 use Rattle.letters_text.specs.declared.TextError.{TextError}
 use Rattle.letters_text.specs.declared.TextError.TheVariants.{Long, Bad}
-use Rattle.letters_text.specs.Letters.{trimmed, is_letter, kind_of, letter_of, kinds_of, first_bad, reading, kinds_after, ReadText}
-
--- ---- one line feed at the end
-
--- what is left of a text without that suffix, or else the text, is the trimmed one
-pub trimmed_is : (s : Bor (List ℕ)) (r : Option (Bor (List ℕ)))
-    → MatchOption r (pointwise eqb (drop (length s.now - 1) s.now) (10 ∷ []) ≡ false)
-    (λ x. (pointwise eqb (drop (length s.now - 1) s.now) (10 ∷ []) ≡ true) × (x.now ≡ take (length s.now - 1) s.now) × (length x.now + 1 ≡ length s.now))
-    → trimmed s.now ≡ (unwrap_or r s).now
-unfolding trimmed
-trimmed_is s r h = stripped 10 (omega arith) s r h
-
-pub length-trimmed : (s : List ℕ) → length s ≤ length (trimmed s) + 1
-unfolding trimmed
-length-trimmed s = go (eqb (get_or s (length s - 1) 0) 10)
-  where
-    go : (a : Bool) → length s ≤ length (cond a (take (length s - 1) s) s) + 1
-    go true = omega (arith, length-take-le (length s - 1) s (omega arith))
-    go false = omega arith
-
--- ---- letters and kinds
-
--- the letter of a letter's kind is that letter
-pub letter_again : (b : ℕ) → is_letter b ≡ true → letter_of (kind_of b) ≡ b
-unfolding is_letter kind_of letter_of
-letter_again b e = go (eqb b 100) (eqb b 107) (eqb b 110) refl refl refl e
-  where
-    go : (d k n : Bool) → eqb b 100 ≡ d → eqb b 107 ≡ k → eqb b 110 ≡ n → cond d true (cond k true n) ≡ true → letter_of (cond d 0 (cond k 1 2)) ≡ b
-    go true k n x y z e = sym (eqb-true b 100 x)
-    go false true n x y z e = sym (eqb-true b 107 y)
-    go false false true x y z e = sym (eqb-true b 110 z)
-    go false false false x y z e = never (cc)
-
-pub kind_again : (k : ℕ) → k ≤ 2 → kind_of (letter_of k) ≡ k
-unfolding kind_of letter_of
-kind_again zero h = refl
-kind_again (suc zero) h = refl
-kind_again (suc (suc zero)) h = refl
-kind_again (suc (suc (suc k))) h = absurd (omega arith)
-
-pub length-kinds : (t : List ℕ) → length (kinds_of t) ≡ length t
-unfolding kinds_of
-length-kinds t = length-map t kind_of
-
-pub kind_at : (t : List ℕ) (i : ℕ) (k : ℕ) → i < length t → k ≡ kind_of (get_or t i 0) → k ≡ get_or (kinds_of t) i 0
-unfolding kinds_of
-kind_at t i k h e = e ∙ sym (get_or-map kind_of t i 0 0 h)
+use Rattle.letters_grammar.specs.Letters.{is_letter, kinds_of}
+use Rattle.letters_text.specs.Letters.{first_bad, reading, kinds_after, ReadText}
 
 -- ---- the first byte that is no letter
 
@@ -141,9 +90,6 @@ module _ (t : List ℕ) where
   text_letters old new h e q =
       let r : reading t ≡ Ok (length t) = reading_letters h (bad_none t e) in
       record { answer = sym r; memory = rw r q }
-
-pub text_same : {t u old new : List ℕ} {r : Result ℕ TextError} → t ≡ u → ReadText u old new r → ReadText t old new r
-text_same e x = rw e x
 
 -- ---- what a reading tells of the text
 

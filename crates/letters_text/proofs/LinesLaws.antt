@@ -5,7 +5,6 @@ use mathlib.Core.Bool.{Bool, true, false, cond}
 use Prim.Native.Nat.{ℕ, suc, ◌+◌, ◌*◌, ◌≤◌, ◌<◌, suc-le-suc}
 use native.Mathlib.Numerals.{add-one}
 use native.Mathlib.Omega.{arith}
-use borrow.Author.Tests.{eq-eqb, ne_eqb}
 use lib.Dec.{eqb}
 use lib.ListN.{length, drop, get_or, length-append, drop_of_length-le}
 use lib.Seq.{drop-cons}
@@ -14,46 +13,23 @@ use Rattle.std.specs.Fmt.{decimal}
 use Rattle.std.proofs.lemmas.Fmt.{length-decimal-le}
 use Rattle.std.proofs.lemmas.Str.{encode_ascii}
 use Rattle.lent.proofs.FillLaws.{length-tabulate, get_or-tabulate}
+use Rattle.letters_grammar.specs.Letters.{letter_of}
+use Rattle.letters_grammar.proofs.LetterLaws.{letter_ascii}
 use Rattle.letters_text.specs.declared.columns.Object.{Object}
-use Rattle.letters_text.specs.Letters.{letter_of}
 use Rattle.letters_text.specs.Lines.{Columns, object_at, objects, line_head, parting, first_letter, next_letter, lines_after, lines_of, lines}
 use Rattle.letters_text.specs.passes.Memory.{LinesFit}
 
--- ---- what parts two objects
-
-module _ (p o : Object) where
-  pub parting_line : (o.hit ≡ p.hit → ⊥) → parting p o ≡ 10 ∷ line_head o
-  unfolding parting
-  parting_line a = rw (ne_eqb _ _ a)
-
-  pub parting_bar : o.hit ≡ p.hit → (o.pattern ≡ p.pattern → ⊥) → parting p o ≡ 124 ∷ []
-  unfolding parting
-  parting_bar a b = rw (eq-eqb _ _ a, ne_eqb _ _ b)
-
-  pub parting_comma : o.hit ≡ p.hit → o.pattern ≡ p.pattern → (o.streak ≡ p.streak → ⊥) → parting p o ≡ 44 ∷ []
-  unfolding parting
-  parting_comma a b d = rw (eq-eqb _ _ a, eq-eqb _ _ b, ne_eqb _ _ d)
-
-  pub parting_none : o.hit ≡ p.hit → o.pattern ≡ p.pattern → o.streak ≡ p.streak → parting p o ≡ []
-  unfolding parting
-  parting_none a b d = rw (eq-eqb _ _ a, eq-eqb _ _ b, eq-eqb _ _ d)
-
 -- ---- how long the lines are
 
--- behind the line feed there is room for the head of the line
-pub head_room : (p o : Object) (out : List ℕ) {out' : List ℕ} (room : ℕ) → (o.hit ≡ p.hit → ⊥) → out' ≡ out ++ 10 ∷ []
-    → length out + length (parting p o) ≤ room → length out' + length (line_head o) ≤ room
-head_room p o out room a e h = omega (arith, ap length (parting_line p o a), ap length e, length-append out (10 ∷ []))
-
-pub head_length : (o : Object) → length (line_head o) ≡ length (decimal o.interval) + 1
+head_length : (o : Object) → length (line_head o) ≡ length (decimal o.interval) + 1
 unfolding line_head
 head_length o = length-append (decimal o.interval) (32 ∷ [])
 
-pub first_length : (o : Object) → length (first_letter o) ≡ length (line_head o) + 1
+first_length : (o : Object) → length (first_letter o) ≡ length (line_head o) + 1
 unfolding first_letter
 first_length o = length-append (line_head o) (letter_of o.kind ∷ [])
 
-pub next_length : (p o : Object) → length (next_letter p o) ≡ length (parting p o) + 1
+next_length : (p o : Object) → length (next_letter p o) ≡ length (parting p o) + 1
 unfolding next_letter
 next_length p o = length-append (parting p o) (letter_of o.kind ∷ [])
 
@@ -72,12 +48,6 @@ parting_short p o h = go (eqb o.hit p.hit) (eqb o.pattern p.pattern) (eqb o.stre
 
 pub decimal_four : (n : ℕ) → n < 10000 → length (decimal n) ≤ 4
 decimal_four n h = length-decimal-le 4 n (omega arith) h (omega arith)
-
--- behind `bad P` there is room for the line feed
-pub bad_room : (p : ℕ) (before out : List ℕ) {out' : List ℕ} (room : ℕ) → p < 10000 → length out ≡ length before + 4 → out' ≡ out ++ decimal p
-    → length before + 9 ≤ room → length out' + length (encode 10) ≤ room
-unfolding encode
-bad_room p before out room l s e h = omega (arith, decimal_four p l, ap length e, length-append out (decimal p))
 
 -- each object's interval has at most two digits
 abbrev Small : List Object → Type 0
@@ -196,8 +166,4 @@ module _ {c : Columns} {before out : List ℕ} {last : Object} {i : ℕ} (x : Li
 
 -- ---- what the functions that print need
 
-pub ruleset steps = (head_length, first_length, next_length, encode_ascii, append_assoc)
-
-pub ruleset partings = (parting_line, parting_bar, parting_comma, parting_none, encode_ascii, append_assoc, append-nil)
-
-pub ruleset bads = (decimal_four, encode_ascii, append_assoc)
+pub ruleset steps = (letter_ascii, encode_ascii, decimal_four, length-append, append_assoc)

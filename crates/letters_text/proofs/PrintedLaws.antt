@@ -1,20 +1,17 @@
 -- What a caller knows of the text from what `read_letters` returns, and what is to be printed then.
-use mathlib.Core.Path.{◌≡◌, refl, sym, ◌∙◌}
+use mathlib.Core.Path.{◌≡◌, sym, ◌∙◌}
 use mathlib.Core.List.{List}
-use mathlib.Core.Bool.{Bool, true, false}
-use Prim.Native.Nat.{ℕ, ◌≤◌, ◌<◌}
-use native.Mathlib.Omega.{arith}
-use borrow.Author.Tests.{ltb-true, ltb-false}
-use lib.Dec.{ltb}
-use lib.ListN.{length, take}
-use lib.Seq.{take_all, length-take-le}
+use Prim.Native.Nat.{ℕ, ◌≤◌}
+use lib.ListN.{take}
 use Rattle.lent.specs.Over.{over}
 use Rattle.std.proofs.Common.{Result, Ok, Err}
 use Rattle.letters_text.specs.declared.TextError.{TextError}
 use Rattle.letters_text.specs.declared.TextError.TheVariants.{Long, Bad}
-use Rattle.letters_text.specs.Letters.{trimmed, kinds_of, reading, kinds_after, ReadText, input_bytes}
+use Rattle.letters_grammar.specs.Letters.{trimmed, kinds_of}
+use Rattle.letters_grammar.proofs.LetterLaws.{trimmed_front}
+use Rattle.letters_text.specs.Letters.{most_letters, reading, kinds_after, ReadText, input_bytes}
 use Rattle.letters_text.specs.Lines.{bad_line, long_line, printed}
-use Rattle.letters_text.proofs.LetterLaws.{AllLetters, BadAt, letters_told, bad_told, length-trimmed, reading_long}
+use Rattle.letters_text.proofs.LetterLaws.{AllLetters, BadAt, letters_told, bad_told, reading_long}
 
 module _ {t old new : List ℕ} {r : Result ℕ TextError} (x : ReadText t old new r) where
   pub read_long : r ≡ Err Long → (ls : List ℕ) → printed (reading t) ls ≡ long_line
@@ -43,14 +40,4 @@ module _ {t old new : List ℕ} {r : Result ℕ TextError} (x : ReadText t old n
 pub printed_front : (lines : List ℕ → List ℕ) (n : ℕ) (s : List ℕ) → input_bytes ≤ n
     → printed (reading (trimmed (take n s))) (lines (trimmed (take n s))) ≡ printed (reading (trimmed s)) (lines (trimmed s))
 unfolding printed
-printed_front lines n s h = go (ltb n (length s)) refl
-  where
-    go : (a : Bool) → ltb n (length s) ≡ a
-        → printed (reading (trimmed (take n s))) (lines (trimmed (take n s))) ≡ printed (reading (trimmed s)) (lines (trimmed s))
-    go false e = rw (take_all n s (ltb-false _ _ e))
-    go true e =
-        let k : n < length s = ltb-true _ _ e in
-        let l : length (take n s) ≡ n = length-take-le n s (omega arith) in
-        let a : reading (trimmed (take n s)) ≡ Err Long = reading_long (trimmed (take n s)) (omega (arith, length-trimmed (take n s))) in
-        let b : reading (trimmed s) ≡ Err Long = reading_long (trimmed s) (omega (arith, length-trimmed s)) in
-        rw (a, b)
+printed_front lines n s h = trimmed_front (λ t. printed (reading t) (lines t)) most_letters n s (λ t u a b. rw (reading_long t a, reading_long u b)) h

@@ -3,11 +3,11 @@
 -- text. No letters, no line.
 use Rattle.std.specs.Prelude.{ℕ, cond, List, [], ◌∷◌, ◌++◌, eqb, length, get_or, decimal, Result, Ok, Err}
 use Rattle.lent.specs.Scan.{tabulate}
+use Rattle.letters_grammar.specs.Letters.{line_feed, letter_of}
 use Rattle.letters_text.specs.declared.columns.Object.{Object}
 use Rattle.letters_text.specs.declared.columns.Columns as lent
 use Rattle.letters_text.specs.declared.TextError.{TextError}
 use Rattle.letters_text.specs.declared.TextError.TheVariants.{Long, Bad}
-use Rattle.letters_text.specs.Letters.{line_feed, letter_of}
 
 -- a line begins with the interval and a space
 unfoldable pub line_head : Object → List ℕ
@@ -24,12 +24,12 @@ parting p o =
 
 -- the first object's letter, with its line's head
 unfoldable pub first_letter : Object → List ℕ
-unfolding line_head letter_of
+unfolding line_head
 first_letter o = line_head o ++ letter_of o.kind ∷ []
 
 -- the letter of o, with what stands between p's letter and it
 unfoldable pub next_letter : Object → Object → List ℕ
-unfolding parting letter_of
+unfolding parting
 next_letter p o = parting p o ++ letter_of o.kind ∷ []
 
 -- what follows p's letter

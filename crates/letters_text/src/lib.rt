@@ -3,17 +3,17 @@
 
 ghost use Rattle.std.specs.Prelude.{◌≡◌, ◌++◌, [], ◌∷◌, ◌+◌, ◌-◌, ◌≤◌, ◌<◌, length, decimal, not, position};
 ghost use Rattle.lent.specs.Over.{over};
-ghost use Rattle.grouping_chart.specs.Object.{kind_number};
 ghost use Rattle.arrayvec.specs.ArrayString.{array_string_len};
-ghost use Rattle.letters_text.specs.Letters.{most_letters, trimmed, is_letter, kind_of, letter_of, kinds_of, ReadText};
+ghost use Rattle.letters_grammar.specs.Letters.{trimmed, is_letter, kinds_of};
+ghost use Rattle.letters_text.specs.Letters.{most_letters, ReadText};
 ghost use Rattle.letters_text.specs.Lines.{columns_of, line_head, parting, first_letter, next_letter};
 ghost use Rattle.letters_text.specs.Lines.{lines, bad_line, long_line};
 ghost use Rattle.letters_text.specs.passes.Memory.{LinesFit};
 
 use arrayvec::ArrayString;
 pub use columns::{Columns, Object};
-use grouping_chart::object::Kind;
 use lent::fill;
+use letters_grammar::{is_letter, kind_of, letter_of};
 
 mod columns;
 
@@ -25,37 +25,6 @@ pub const MOST_LETTERS: usize = 1024;
 pub enum TextError {
     Long,
     Bad(usize),
-}
-
-#[tactic(auto, using(std::proofs::lemmas::Bool::Decides::nat_tests), unfolding(crate::specs::Letters::is_letter))]
-fn is_letter(b: u8) -> bool
-    ensures { result ≡ is_letter b }
-{
-    matches!(b, b'd' | b'k' | b'n')
-}
-
-// A letter's kind; any other byte counts as n. No From here or at letter_of: Kind, u8 and char are all other crates'.
-#[tactic(auto, using(std::proofs::lemmas::Bool::Decides::nat_tests), unfolding(crate::specs::Letters::kind_of))]
-fn kind_of(b: u8) -> Kind
-    ensures { kind_number result ≡ kind_of b }
-{
-    match b {
-        b'd' => Kind::Center,
-        b'k' => Kind::Rim,
-        _ => Kind::NonHit,
-    }
-}
-
-// A column of kinds is bytes, since encode is lent bytes; any but the first two kinds counts as n.
-#[tactic(auto, using(std::proofs::lemmas::Bool::Decides::nat_tests), unfolding(crate::specs::Letters::letter_of))]
-fn letter_of(kind: u8) -> char
-    ensures { result ≡ letter_of kind }
-{
-    match Kind::try_from(kind) {
-        Ok(Kind::Center) => 'd',
-        Ok(Kind::Rim) => 'k',
-        Ok(Kind::NonHit) | Err(_) => 'n',
-    }
 }
 
 // The place of the first byte that is no letter.
@@ -117,7 +86,7 @@ fn put_head<const N: usize>(out: &mut ArrayString<N>, o: Object)
 }
 
 // What stands between the letters of two neighbours.
-#[tactic(auto, using(crate::proofs::LinesLaws::partings))]
+#[tactic(auto, using(crate::proofs::LinesLaws::steps), unfolding(crate::specs::Lines::parting))]
 fn put_parting<const N: usize>(out: &mut ArrayString<N>, p: Object, o: Object)
     requires { array_string_len out.old + length (parting p o) ≤ N }
     ensures { out.new.bytes ≡ out.old.bytes ++ parting p o }
@@ -173,7 +142,7 @@ pub fn write_lines<const N: usize>(columns: &Columns, out: &mut ArrayString<N>)
 }
 
 // `bad P`, where P is the place of the first byte that is no letter.
-#[tactic(auto, using(crate::proofs::LinesLaws::bads), unfolding(crate::specs::Lines::bad_line))]
+#[tactic(auto, using(crate::proofs::LinesLaws::steps), unfolding(crate::specs::Lines::bad_line))]
 pub fn write_bad<const N: usize>(place: usize, out: &mut ArrayString<N>)
     requires { (place < 10000) × (array_string_len out.old + 9 ≤ N) }
     ensures { out.new.bytes ≡ out.old.bytes ++ bad_line place }

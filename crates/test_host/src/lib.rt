@@ -14,7 +14,8 @@ ghost use Rattle.grouping_normalizer.specs.Normalizer.{NormalOf};
 ghost use Rattle.grouping_interval.specs.GroupByInterval.{GroupedByInterval};
 ghost use Rattle.grouping_interval.specs.passes.Rooms.{ValuesRoom};
 ghost use Rattle.lent.specs.Over.{over};
-ghost use Rattle.letters_shorthand.specs.Input.{trimmed, input_of, objects_read, answer_of, told};
+ghost use Rattle.letters_grammar.specs.Letters.{trimmed};
+ghost use Rattle.letters_shorthand.specs.Input.{input_of, objects_read, answer_of, told};
 ghost use Rattle.test_host.specs.Told.{told_of};
 
 use letters_count::MOST_OBJECTS;

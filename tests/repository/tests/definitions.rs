@@ -9,19 +9,6 @@ use repository_tests::{defined, files_in, root};
 /// What every call has of its own: its lent slices, what they must be like, and what it leaves in them.
 const OF_EVERY_CALL: [&str; 5] = ["Memory", "answer_lengths", "filled", "judged", "memory"];
 
-/// What the reader of letters and that of drills both define, until the letters program reads drills.
-const OF_BOTH_READERS: [&str; 9] = [
-    "ReadText",
-    "input_bytes",
-    "is_letter",
-    "kind_of",
-    "kinds_of",
-    "letter_of",
-    "line_feed",
-    "read_text",
-    "trimmed",
-];
-
 /// The definitions in a crate's specs/ but for its folder passes.
 fn definitions(krate: &Path) -> BTreeSet<String> {
     let specs = krate.join("specs");
@@ -45,11 +32,7 @@ fn clashes(crates: &BTreeMap<String, BTreeSet<String>>) -> Vec<String> {
     }
     let own = |name: &str, krates: &[&str]| {
         let calls = krates.iter().all(|krate| krate.starts_with("call_"));
-        let readers = matches!(
-            krates,
-            ["letters_grammar" | "letters_shorthand", "letters_text"]
-        );
-        (OF_EVERY_CALL.contains(&name) && calls) || (OF_BOTH_READERS.contains(&name) && readers)
+        OF_EVERY_CALL.contains(&name) && calls
     };
     let shared = owners
         .iter()

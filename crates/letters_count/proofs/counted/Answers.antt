@@ -1,7 +1,7 @@
 -- `counted` meets its contract: no count, a byte that can't be there, too many objects, or the objects repeated.
-use Rattle.std.proofs.Common.{◌-◌, Ok, ap, ◌∙◌, arith}
+use Rattle.std.proofs.Common.{Ok, ap, ◌∙◌, arith}
 use Rattle.std.proofs.lemmas.Result.{err_from_is_err_and}
-use Rattle.letters_count.proofs.LaterLaws.{counted_once, counted_bad, counted-full, counted-many, written, product_fits}
+use Rattle.letters_count.proofs.LaterLaws.{counted_once, counted_bad, counted-full, counted-many, written, total_fits}
 use Rattle.letters_count.proofs.counted.Goals as goal
 
 pub returns-in_err-times : goal.returns-in_err-times
@@ -18,13 +18,11 @@ overflow_add-next c =
 
 pub overflow_mul-total : goal.overflow_mul-total
 overflow_mul-total c =
-    let x = written _ _ _ 0 c.requires.0 c.count_at.ensures _ (c.in_ok-times.was ∙ ap Ok c.in-Some.is) in
-    omega (arith, product_fits c.in-Some.times.count (c.args.c.count - c.args.start) x.small (omega arith))
+    omega (arith, total_fits _ _ _ _ c.requires.0 c.count_at.ensures _ (c.in_ok-times.was ∙ ap Ok c.in-Some.is) c.requires.1)
 
 pub overflow_add-total : goal.overflow_add-total
 overflow_add-total c =
-    let x = written _ _ _ 0 c.requires.0 c.count_at.ensures _ (c.in_ok-times.was ∙ ap Ok c.in-Some.is) in
-    omega (arith, product_fits c.in-Some.times.count (c.args.c.count - c.args.start) x.small (omega arith))
+    omega (arith, total_fits _ _ _ _ c.requires.0 c.count_at.ensures _ (c.in_ok-times.was ∙ ap Ok c.in-Some.is) c.requires.1)
 
 pub returns-then-total-gt-MOST_OBJECTS : goal.returns-then-total-gt-MOST_OBJECTS
 returns-then-total-gt-MOST_OBJECTS c =

@@ -3,8 +3,8 @@ use Rattle.std.proofs.Common.{ap, ◌∙◌, length, rules}
 use lib.ListN.{get_or}
 use Rattle.lent.specs.Over.{over}
 use Rattle.lent.proofs.FillLaws.{tabulate_places}
-use Rattle.letters_text.specs.Letters.{kinds_of}
-use Rattle.letters_text.proofs.LetterLaws.{length-kinds, kind_at}
+use Rattle.letters_grammar.specs.Letters.{kinds_of}
+use Rattle.letters_grammar.proofs.LetterLaws.{length-kinds, kind_at}
 use Rattle.letters_text.proofs.fill_kinds.Goals as goal
 
 pub returns : goal.returns

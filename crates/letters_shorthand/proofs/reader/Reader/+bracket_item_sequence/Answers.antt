@@ -1,7 +1,6 @@
 -- The three readers meet their contracts, each by what the others promise where fewer bytes are left.
-use Rattle.std.proofs.Common.{sym, subst, ◌∙◌, arith}
+use Rattle.std.proofs.Common.{sym, ◌∙◌, arith}
 use Rattle.std.proofs.lemmas.Result.{err_from_is_err_and}
-use Rattle.letters_grammar.proofs.LetterLaws.{Lettered, a_letter}
 use Rattle.letters_shorthand.proofs.ReaderLaws.{item_end, item_other, item_tilde}
 use Rattle.letters_shorthand.proofs.CycleLaws.{sequence_end, sequence_close, sequence_refused, sequence_more}
 use Rattle.letters_shorthand.proofs.CycleLaws.{bracket-deep, bracket_first, bracket-rest, bracket_short, bracket_read}
@@ -36,22 +35,18 @@ bracket-returns-in-Some t c =
 
 -- ---- an item
 
-pub item-letter-requires : goal.item-letter-requires
-item-letter-requires t c =
-    (c.requires, record { within = c.in-Some.ensures.lookup.3.0; letter = rw (← c.in-Some.ensures.lookup.4 (omega arith) 0) (a_letter c.in-100.is) })
-
 pub item-returns-in-126 : goal.item-returns-in-126
 item-returns-in-126 t c =
     item_tilde _ _ _ _ _ c.in-Some.ensures.lookup.3.0 _ _ (sym (c.in-Some.ensures.lookup.4 (omega arith) 0) ∙ c.in-126.is) c.item.ensures
 
-pub item-returns-in-100 : goal.item-returns-in-100
-item-returns-in-100 t c = c.letter.ensures _
-
 pub item-returns-in_default-b : goal.item-returns-in_default-b
-item-returns-in_default-b t c =
+item-returns-in_default-b t c = c.letter.ensures _
+
+pub item-returns-in_default-2 : goal.item-returns-in_default-2
+item-returns-in_default-2 t c =
     let here = c.in-Some.ensures.lookup.4 (omega arith) 0 in
     item_other _ _ _ _ _ c.in-Some.ensures.lookup.3.0 (λ e. omega (arith, here)) (λ e. omega (arith, here))
-    (λ e. let letter : Lettered c.in-Some.field-0.now = subst Lettered (sym here) e in omega (arith, letter)) c.refuse-in_default-b.ensures
+    (rw (← here) (sym c.is_letter.ensures ∙ c.if-is_letter.false)) c.refuse-in_default-2.ensures
 
 pub item-returns-in_default : goal.item-returns-in_default
 item-returns-in_default t c = rw c.refuse.ensures (item_end _ _ _ _ _ c.in_default.ensures.lookup.3)

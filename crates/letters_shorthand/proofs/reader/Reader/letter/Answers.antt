@@ -7,4 +7,5 @@ returns-then-n-ge-MOST_OBJECTS c = rw c.refuse.ensures (letter-full _ _ _ _ c.re
 
 pub returns : goal.returns
 returns c =
-    letter_read _ _ _ _ c.requires.0 c.requires.1 c.if-n-ge-MOST_OBJECTS.false _ _ _ (rw c.from.ensures c.kind_of.ensures) c.counted.ensures
+    letter_read _ _ _ _ c.requires.0 c.requires.1 c.if-n-ge-MOST_OBJECTS.false _ _ _
+    (rw (c.from.ensures, ← c.kind_of.ensures) c.exchanged_if.ensures) c.counted.ensures
