@@ -2,7 +2,6 @@
 use native.Mathlib.Omega.{arith}
 use mathlib.Core.Path.{ap}
 use Prim.Native.Nat.{ℕ, ◌+◌}
-use lib.ListN.{get_or}
 use Rattle.lent.proofs.InPlaceLaws.{place_end}
 use Rattle.grouping_marks.specs.Marks.{place_by_mark, group_places}
 use Rattle.grouping_marks.proofs.MarksLaws.{place_le}
@@ -11,9 +10,6 @@ use Rattle.grouping_marks.proofs.group_places.Goals as goal
 
 pub loop-mark-init : goal.loop-mark-init
 loop-mark-init c = passing_start (λ p m. place_by_mark p m + 1) place_by_mark c.args.marks.now c.requires
-
-pub overflow_add-before : goal.overflow_add-before
-overflow_add-before c = omega (arith, c.place_by_mark.ensures, place_le c.loop-mark.before (get_or c.loop-mark.marks c.loop-mark.mark-index 0))
 
 pub loop-mark-preserved : goal.loop-mark-preserved
 loop-mark-preserved c =
