@@ -2,7 +2,7 @@
 use mathlib.Core.Path.{◌≡◌, refl, ap, ◌∙◌}
 use mathlib.Core.Bool.{Bool, true, false, cond, ◌||◌}
 use mathlib.Core.List.{List, [], ◌∷◌, ◌++◌, append-nil}
-use Prim.Native.Nat.{ℕ, suc, ◌+◌, ◌-◌, ◌/◌, ◌%◌, ◌≤◌, ◌<◌}
+use Prim.Native.Nat.{ℕ, suc, ◌+◌, ◌-◌, ◌/◌, ◌%◌, ◌<◌}
 use native.Mathlib.Omega.{arith}
 use lib.IntN.{pos}
 use lib.ListN.{length, take, drop, get_or, length-drop}
@@ -100,3 +100,6 @@ pub middle_none : (margin x : Float) (values : List Float) → length values ≡
 unfolding middle_of sets
 middle_none margin x [] h = refl
 middle_none margin x (v ∷ values) h = absurd (omega arith)
+
+-- what the search of `middle_of` is given
+pub ruleset middles = (middle_next, middle_none)
