@@ -141,6 +141,12 @@ module _ (limit : ℕ) (kinds streak₀ lengths₀ types₀ numbers₀ places₀
     places_long : length (group_places (hits_open kinds)) ≡ group_count (patterns_open kinds)
     places_long = length-places (hits_open kinds) ∙ length-hits_open kinds
 
+    pattern-numbers_long : length (group_numbers (patterns_open kinds)) ≡ group_count (streak_marks kinds)
+    pattern-numbers_long = length-numbers (patterns_open kinds) ∙ length-patterns_open kinds
+
+    pattern-places_long : length (group_places (patterns_open kinds)) ≡ group_count (streak_marks kinds)
+    pattern-places_long = length-places (patterns_open kinds) ∙ length-patterns_open kinds
+
     le_patterns : group_count (patterns_open kinds) ≤ length kinds
     le_patterns = omega (arith, patterns_few, streaks_few)
 
@@ -158,8 +164,8 @@ module _ (limit : ℕ) (kinds streak₀ lengths₀ types₀ numbers₀ places₀
         let s-3 = step s-2 2 (2 * n) (streak_types kinds) refl refl (length-types kinds) streaks_few in
         let s-4 = step s-3 1 n (streak_lengths kinds) (place-1 n) refl (length-streak_lengths kinds) streaks_few in
         let s-5 = step s-4 7 (7 * n) (patterns_open kinds) refl refl (length-patterns_open kinds) streaks_few in
-        let s-6 = step s-5 3 (3 * n) (group_numbers (patterns_open kinds)) refl refl (length-numbers (patterns_open kinds) ∙ length-patterns_open kinds) streaks_few in
-        let s-7 = step s-6 4 (4 * n) (group_places (patterns_open kinds)) refl refl (length-places (patterns_open kinds) ∙ length-patterns_open kinds) streaks_few in
+        let s-6 = step s-5 3 (3 * n) (group_numbers (patterns_open kinds)) refl refl pattern-numbers_long streaks_few in
+        let s-7 = step s-6 4 (4 * n) (group_places (patterns_open kinds)) refl refl pattern-places_long streaks_few in
         let s-8 = step s-7 1 n (first_lengths kinds) (place-1 n) refl (length-first_lengths kinds) le_patterns in
         let s-9 = step s-8 2 (2 * n) (pattern_types kinds) refl refl (length-pattern_types kinds) le_patterns in
         let s-10 = step s-9 5 (5 * n) (streak_counts kinds) refl refl (length-streak_counts kinds) le_patterns in
@@ -214,8 +220,8 @@ module _ (limit : ℕ) (kinds streak₀ lengths₀ types₀ numbers₀ places₀
     module _ {w : List ℕ} (e : w ≡ join after rest) (s p h : ℕ) (cs : s ≡ group_count (streak_marks kinds)) (cp : p ≡ group_count (patterns_open kinds))
         (ch : h ≡ group_count (hits_open kinds)) where
       -- a region is read back as far as its last list goes
-      read : {k : ℕ} {new : List ℕ} (r a : ℕ) (old : List ℕ) → a ≡ r * length kinds → ltb r (length after) ≡ true → get_or after r [] ≡ over new old → length new ≡ k
-          → k ≤ length kinds → part a k w ≡ new
+      read : {k : ℕ} {new : List ℕ} (r a : ℕ) (old : List ℕ) → a ≡ r * length kinds → ltb r (length after) ≡ true
+          → get_or after r [] ≡ over new old → length new ≡ k → k ≤ length kinds → part a k w ≡ new
       read {k} {new} r a old q l g f u =
           ap (part a k) e ∙ part_region (length kinds) after rest r a k q each_after (ltb-true r (length after) l) u ∙ ap (take k) g ∙ front new old k f
 
@@ -244,8 +250,8 @@ module _ (limit : ℕ) (kinds streak₀ lengths₀ types₀ numbers₀ places₀
               few_p = few_p;
               few_h = few_h;
               streak = read 0 0 _ (place-0 n) refl (sym streak_left) (length-streak_of kinds) (le_refl n);
-              pattern = read 3 (3 * n) _ refl refl refl (length-numbers (patterns_open kinds) ∙ length-patterns_open kinds ∙ sym cs) few_s;
-              streak-place = read 4 (4 * n) _ refl refl refl (length-places (patterns_open kinds) ∙ length-patterns_open kinds ∙ sym cs) few_s;
+              pattern = read 3 (3 * n) _ refl refl refl (pattern-numbers_long ∙ sym cs) few_s;
+              streak-place = read 4 (4 * n) _ refl refl refl (pattern-places_long ∙ sym cs) few_s;
               hit = read 1 n _ (place-1 n) refl refl (numbers_long ∙ sym cp) few_p;
               pattern-place = read 2 (2 * n) _ refl refl refl (places_long ∙ sym cp) few_p;
               interval = read 7 (7 * n) _ refl refl refl (length-hit_intervals kinds limit ∙ sym ch) few_h;
