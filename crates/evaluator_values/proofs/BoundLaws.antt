@@ -11,8 +11,7 @@ use Rattle.numeric.specs.Range.{least_ratio, greatest_ratio}
 use Rattle.numeric.proofs.Values.{Number, number_no_nan}
 use Rattle.numeric.proofs.Bounded.{Bounded, bounded_number}
 use Rattle.grouping_chart.specs.Chart.{Chart, size}
-use Rattle.grouping_chart.specs.Refusal.{Check, passed, accepted, verdict}
-use Rattle.grouping_chart.specs.declared.refusal.Reason.{Reason}
+use Rattle.grouping_chart.specs.Refusal.{Check, accepted, verdict}
 use Rattle.grouping_chart.specs.Settings.{Settings}
 use Rattle.grouping_chart.proofs.AcceptedLaws.{GoodChart, accepted_good}
 use Rattle.grouping_chart.proofs.RangeLaws.{ratio_range}

@@ -23,25 +23,9 @@ use Rattle.evaluator_values.proofs.StandingLaws.{same_standing}
 
 -- ---- the encoder's answer says where its tables lie
 pub tabled : {limit : ℕ} {kinds w₀ w : List ℕ} {k : Levels} → Regions (length kinds) w₀ → steps.Tables limit kinds w₀ w k → Tabled kinds w k
-tabled {limit} {kinds} r t = record {
-  regions = record { few = r.few; room = omega (arith, r.room, t.outside.same) };
-  tables = record {
-    count_s = t.count_s;
-    count_p = t.count_p;
-    count_h = t.count_h;
-    searched = refl;
-    few_s = t.few_s;
-    few_p = t.few_p;
-    few_h = t.few_h;
-    streak = t.streak;
-    pattern = t.pattern;
-    streak-place = t.streak-place;
-    hit = t.hit;
-    pattern-place = t.pattern-place;
-    interval = t.interval ∙ ap (λ (l : ℕ). hit_intervals l kinds) (sym t.searched);
-    outside = record { same = refl; beyond = refl };
-  };
-}
+tabled {limit} {kinds} r t =
+    let found = t.interval ∙ ap (λ (l : ℕ). hit_intervals l kinds) (sym t.searched) in
+    record { regions = record { few = r.few; room = omega (arith, r.room, t.outside.same) }; tables = search found }
 
 -- ---- what is looked up
 module _ {t : Tables} {i : ℕ} (o : ObjectIn t i) where

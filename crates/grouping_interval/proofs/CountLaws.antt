@@ -241,3 +241,6 @@ module _ {margin : Float} {ks : List ℕ} {ds : List Float} {s : Option Counting
       let e : s ≡ end_state (counted margin) None (of_notes ks ds) =
       sym (ap (end_state (counted margin) s) (of_notes-over ks i ds h) ∙ after_none (counted margin) s) ∙ x.left in
       ap (groups_in_all margin) e ∙ counted_all margin (of_notes ks ds)
+
+-- what the search of `count_groups` is given
+pub ruleset counting = (none_in_all, some_in_all, counts-end)

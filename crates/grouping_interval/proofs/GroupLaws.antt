@@ -189,16 +189,18 @@ module _ {margin : Float} {values : List Float} {at : ℕ} where
   within_end {i} x h r e f = sym (end_turn margin values i r (omega arith) e f) ∙ x.same
 
   -- the last value has none behind it
-  pub within_last : {i : ℕ} → Within margin values at i → i ≡ length values - 1 → i < length values → (b : Bool)
-      → last_taken margin (ltb 2 (length values)) (get_or values (length values - 2) nan) (get_or values (length values - 1) nan) ≡ b
-      → cond b (length values) (length values - 1) ≡ group_end margin values at
-  within_last {i} x p k b e =
+  pub within_last : {i : ℕ} → Within margin values at i → i ≡ length values - 1 → i < length values
+      → cond (last_taken margin (ltb 2 (length values)) (get_or values (length values - 2) nan) (get_or values (length values - 1) nan))
+      (length values) (length values - 1) ≡ group_end margin values at
+  within_last {i} x p k =
       let q : i - 1 ≡ length values - 2 = omega arith in
       let r : i + 1 ≡ length values = omega arith in
-      let f : last_taken margin (ltb 2 (length values)) (get_or values (i - 1) nan) (get_or values i nan) ≡ b = rw (q, p) e in
-      rw (← p, ← r) (sym (end_last margin values i b k (omega arith) f) ∙ x.same)
+      rw (q, r, p) at (sym (end_last margin values i _ k (omega arith) refl) ∙ x.same)
 
   pub within_none : {i : ℕ} → Within margin values at i → length values ≤ i → length values ≡ group_end margin values at
   within_none {i} x h =
       let p : length values ≡ i = omega (arith, x.upto) in
       p ∙ sym (end_none margin values i h) ∙ x.same
+
+-- what the search of `group_end` is given
+pub ruleset ending = (end_past, within_start, within_turn, within_last, within_none)

@@ -13,6 +13,7 @@ use numeric::near::near;
 
 // Puts each note's object number and delta in front. The result is how many notes there are. The loop goes by the
 // place: it is what is written, and written at `note`, which an iterator over the slices doesn't follow.
+#[tactic(auto, using(crate::proofs::ListLaws::listing_start))]
 pub fn list_notes(kind: &[u8], delta: &[f64], objects: &mut [u16], values: &mut [f64]) -> usize
     requires { NotesRoom kind.now delta.now objects.old values.old }
     ensures { NotesListed kind.now delta.now
@@ -124,6 +125,7 @@ impl Counting {
 
 // How many rhythm groups a chart's notes make. Nothing is written. Tried: a `zip` of the two lists tests both ends at
 // each object, and the call record took up to 18 in 100 longer.
+#[tactic(auto, using(crate::proofs::CountLaws::counting))]
 pub fn count_groups(kind: &[u8], delta: &[f64], margin: f64) -> usize
     requires { length delta.now ≡ length kind.now }
     ensures { result ≡ group_count (interval_marks margin (of_notes kind.now delta.now)) }

@@ -187,3 +187,6 @@ module _ {old new : List Float} {k : ℕ} (d : Distinct old new k) where
   pub normal : (margin x r : Float) → r ≡ middle_of x (sets margin (take k new)) → NormalOf margin old new x r
   unfolding normal_of
   normal margin x r e = record { answer = e ∙ rw distinct_front; values = d.values }
+
+-- what the search of `normal_of` is given
+pub ruleset fronts = (distinct-few, length-take-le)

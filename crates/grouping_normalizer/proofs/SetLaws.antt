@@ -2,7 +2,7 @@
 use mathlib.Core.Path.{◌≡◌, refl, ap, ◌∙◌}
 use mathlib.Core.Bool.{Bool, true, false, cond, ◌||◌}
 use mathlib.Core.List.{List, [], ◌∷◌, ◌++◌, append-nil}
-use Prim.Native.Nat.{ℕ, suc, ◌+◌, ◌-◌, ◌/◌, ◌%◌, ◌≤◌, ◌<◌}
+use Prim.Native.Nat.{ℕ, suc, ◌+◌, ◌-◌, ◌/◌, ◌%◌, ◌<◌}
 use native.Mathlib.Omega.{arith}
 use lib.IntN.{pos}
 use lib.ListN.{length, take, drop, get_or, length-drop}
@@ -12,6 +12,7 @@ use borrow.Author.Tests.{eq-eqb, ne_eqb}
 use Rattle.std.specs.List.{list_any, prefix_len}
 use Rattle.std.proofs.lemmas.List.{take_all}
 use Rattle.std.proofs.lemmas.List.Folds.{length-prefix_len}
+use Rattle.std.proofs.lemmas.List.Sums.{prefix_len-le-length}
 use Rattle.numeric.specs.Near.{is_near}
 use Rattle.grouping_normalizer.specs.Normalizer.{alike, holds, middle, middle_of, sets_after, sets}
 use Rattle.grouping_normalizer.specs.passes.Sets.{running, set_len, SetLen}
@@ -30,15 +31,6 @@ module _ (set : List Float) where
 
 -- ---- the end of a set
 
-running-few : (margin first : Float) (values : List Float) → running margin first values ≤ length values
-unfolding running
-running-few margin first [] = omega arith
-running-few margin first (v ∷ values) = by (is_near margin v first) (running-few margin first values)
-  where
-    by : (t : Bool) → running margin first values ≤ length values → cond t (suc (running margin first values)) 0 ≤ suc (length values)
-    by true h = omega arith
-    by false h = omega arith
-
 running-prefix : (margin first : Float) (values : List Float) → prefix_len (λ v. is_near margin v first) values ≡ running margin first values
 unfolding running
 running-prefix margin first [] = refl
@@ -56,12 +48,11 @@ unfolding set_len
 set_counted margin values others r h o e =
     let first = get_or values 0 nan in
     let all : others ≡ drop 1 values = o ∙ take_all (length values - 1) (drop 1 values) (omega (arith, length-drop 1 values)) in
-    let count : r ≡ running margin first (drop 1 values) =
-    e ∙ length-prefix_len (λ v. is_near margin v first) others ∙ running-prefix margin first others ∙ ap (running margin first) all in
+    let count : r ≡ prefix_len (λ v. is_near margin v first) others = e ∙ length-prefix_len (λ v. is_near margin v first) others in
     record {
-      number = omega (arith, count);
+      number = omega (arith, count, running-prefix margin first others, ap (running margin first) all);
       some = omega arith;
-      upto = omega (arith, count, running-few margin first (drop 1 values), length-drop 1 values);
+      upto = omega (arith, count, prefix_len-le-length (λ v. is_near margin v first) others, ap length all, length-drop 1 values);
     }
 
 -- ---- what is held
@@ -109,3 +100,6 @@ pub middle_none : (margin x : Float) (values : List Float) → length values ≡
 unfolding middle_of sets
 middle_none margin x [] h = refl
 middle_none margin x (v ∷ values) h = absurd (omega arith)
+
+-- what the search of `middle_of` is given
+pub ruleset middles = (middle_next, middle_none)

@@ -56,6 +56,7 @@ fn is_held(values: &[f64], x: f64) -> bool
 }
 
 // The middle value of a set, or half the sum of the two. The source sorts the set first, which changes nothing of it.
+#[tactic(auto, using(crate::proofs::SetLaws::middle_odd))]
 fn middle_value(set: &[f64]) -> f64
     requires { 0 < length set.now }
     ensures { result ≡ middle set.now }
@@ -70,6 +71,7 @@ fn middle_value(set: &[f64]) -> f64
 
 // The middle of the set that holds x, of distinct values in order; x itself where none holds it. An iterator over the
 // sets would be no plainer: how long one is is known only when it is cut off.
+#[tactic(auto, using(crate::proofs::SetLaws::middles))]
 fn middle_of(values: &[f64], margin: f64, x: f64) -> f64
     ensures { result ≡ middle_of x (sets margin values.now) }
 {
@@ -85,6 +87,7 @@ fn middle_of(values: &[f64], margin: f64, x: f64) -> f64
 }
 
 // What x counts as among the deltas of a group. They are lent to be put in order, the distinct ones in front.
+#[tactic(auto, using(crate::proofs::DistinctLaws::fronts))]
 pub fn normal_of(deltas: &mut [f64], margin: f64, x: f64) -> f64
     requires { AllFinite deltas.old }
     ensures { NormalOf margin deltas.old deltas.new x result }

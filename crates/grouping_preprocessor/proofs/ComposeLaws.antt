@@ -14,11 +14,11 @@ use Rattle.grouping_colour.specs.AlternatingMonoPattern.{pattern_marks}
 use Rattle.grouping_colour.proofs.LengthLaws.{length-streak_marks}
 use Rattle.grouping_colour.proofs.StreakListLaws.{length-streak_lengths}
 use Rattle.grouping_preprocessor.specs.Preprocessor.{patterns_open, first_lengths, streak_counts, pattern_types, coupled_patterns, hits_open}
-use Rattle.grouping_preprocessor.specs.Preprocessor.{hit_sizes, hit_firsts, hit_seconds, hit_intervals}
+use Rattle.grouping_preprocessor.specs.Preprocessor.{hit_count, hit_sizes, hit_firsts, hit_seconds, hit_intervals}
 use Rattle.grouping_preprocessor.specs.passes.Steps.{Encodes, hits_by, intervals_found}
-use Rattle.grouping_preprocessor.proofs.BoundLaws.{length-patterns_open, length-hits_open}
+use Rattle.grouping_preprocessor.proofs.BoundLaws.{length-patterns_open, length-hits_open, length-hit_intervals}
 use Rattle.grouping_preprocessor.proofs.RegionLaws.{length-types, length-first_lengths, length-streak_counts, length-pattern_types}
-use Rattle.grouping_preprocessor.proofs.RegionLaws.{length-hit_sizes, length-hit_intervals, before, Laid, all_levels}
+use Rattle.grouping_preprocessor.proofs.RegionLaws.{length-hit_sizes, before, Laid, all_levels}
 
 -- ---- what the passes promise, over the regions as they were lent and as they left them
 
@@ -176,7 +176,7 @@ module _ (kinds : List ℕ) (s p : ℕ) {marks streak types₀ types lengths₀ 
       hits₄ old = rw (H.marks_are, hitting) (over_pieces (hits_open kinds) old p p_hitting)
 
       found₄ : found ++ drop p (marks₁ ++ drop s marks) ≡ over (hit_intervals limit kinds) (marks₁ ++ drop s marks)
-      unfolding hit_intervals hit_sizes hit_firsts hit_seconds
+      unfolding hit_intervals hit_sizes hit_firsts hit_seconds hit_count
       found₄ =
           over-back p (hit_intervals limit kinds) (marks₁ ++ drop s marks) found (omega (arith, length-hit_intervals kinds limit, h-is, h_few)) p_marks
           (H.found_is ∙ (λ i. over (intervals_found limit (firsts-lent i) (hitting i)) (take p (marks₁ ++ drop s marks))))

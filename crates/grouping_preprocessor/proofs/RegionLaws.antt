@@ -2,8 +2,9 @@
 -- left with what was written over it last. The tables are read back there.
 use mathlib.Core.Path.{◌≡◌, refl, sym, ap, ◌∙◌, subst}
 use mathlib.Core.Bool.{true}
-use mathlib.Core.List.{List, [], ◌∷◌, ◌++◌}
+use mathlib.Core.List.{List, [], ◌∷◌}
 use Prim.Native.Nat.{ℕ, ◌*◌, ◌≤◌}
+use native.Mathlib.Nat.{le_refl}
 use native.Mathlib.Omega.{arith}
 use borrow.Author.Tests.{ltb-true}
 use lib.Dec.{ltb}
@@ -15,7 +16,7 @@ use Rattle.lent.proofs.JoinLaws.{join, Each, put_region, each_put, part_region, 
 use Rattle.grouping_marks.specs.Marks.{group_count, group_numbers, group_places}
 use Rattle.grouping_marks.proofs.MarksLaws.{count_le, length-numbers, length-places, length-sizes, length-firsts}
 use Rattle.grouping_hits.specs.RepeatingHitPatterns.{second_lengths}
-use Rattle.grouping_hits.proofs.LengthLaws.{length-second_lengths, length-intervals}
+use Rattle.grouping_hits.proofs.LengthLaws.{length-second_lengths}
 use Rattle.grouping_colour.specs.MonoStreak.{streak_marks, streak_of, streak_lengths, streak_types}
 use Rattle.grouping_colour.proofs.LengthLaws.{length-streak_marks, length-coupled}
 use Rattle.grouping_colour.proofs.StreakListLaws.{streak_types_made, length-streak_of, length-streak_lengths}
@@ -23,7 +24,7 @@ use Rattle.grouping_preprocessor.specs.Preprocessor.{patterns_open, first_length
 use Rattle.grouping_preprocessor.specs.Preprocessor.{hit_sizes, hit_firsts, hit_seconds, hit_intervals}
 use Rattle.grouping_preprocessor.specs.passes.Writes.{streak_writes, pattern_writes, hit_mark_writes, hit_writes, coupled_writes, encoder_writes}
 use Rattle.grouping_preprocessor.specs.passes.Steps.{Outside, Encodes}
-use Rattle.grouping_preprocessor.proofs.BoundLaws.{length-patterns_open, length-hits_open}
+use Rattle.grouping_preprocessor.proofs.BoundLaws.{length-patterns_open, length-hits_open, length-hit_intervals}
 
 -- ---- the lists' lengths
 
@@ -67,10 +68,6 @@ module _ (kinds : List ℕ) where
   unfolding hit_seconds seconds
   length-hit_seconds = length-firsts (hits_open kinds) seconds (omega (arith, length-hits_open kinds, length-seconds))
 
-  pub length-hit_intervals : (limit : ℕ) → length (hit_intervals limit kinds) ≡ group_count (hits_open kinds)
-  unfolding hit_intervals
-  length-hit_intervals limit = length-intervals limit (hit_sizes kinds) (hit_firsts kinds) (hit_seconds kinds) ∙ length-hit_sizes
-
 -- ---- a region's place
 
 place-0 : (n : ℕ) → 0 ≡ 0 * n
@@ -78,12 +75,6 @@ place-0 n = omega arith
 
 place-1 : (n : ℕ) → n ≡ 1 * n
 place-1 n = omega arith
-
--- ---- the slice, cut eight times
-
-pub cut-eight : (r₀ r₁ r₂ r₃ r₄ r₅ r₆ r₇ rest : List ℕ) {w b₀ b₁ b₂ b₃ b₄ b₅ b₆ : List ℕ} → w ≡ r₀ ++ b₀ → b₀ ≡ r₁ ++ b₁ → b₁ ≡ r₂ ++ b₂
-    → b₂ ≡ r₃ ++ b₃ → b₃ ≡ r₄ ++ b₄ → b₄ ≡ r₅ ++ b₅ → b₅ ≡ r₆ ++ b₆ → b₆ ≡ r₇ ++ rest → w ≡ join (r₀ ∷ r₁ ∷ r₂ ∷ r₃ ∷ r₄ ∷ r₅ ∷ r₆ ∷ r₇ ∷ []) rest
-cut-eight r₀ r₁ r₂ r₃ r₄ r₅ r₆ r₇ rest e₀ e₁ e₂ e₃ e₄ e₅ e₆ e₇ = rw (e₀, e₁, e₂, e₃, e₄, e₅, e₆, e₇)
 
 -- ---- the regions as the encoder leaves them, of what they were
 
@@ -108,12 +99,28 @@ module _ (limit : ℕ) (kinds streak₀ lengths₀ types₀ numbers₀ places₀
     pub is : w ≡ join regions rest
     pub each : Each n regions
 
-  step : (n : ℕ) {w : List ℕ} (regions : List (List ℕ)) → Laid n w regions → (r a : ℕ) (x : List ℕ) → a ≡ r * n → ltb r (length regions) ≡ true → length x ≤ n
-      → Laid n (put a x w) (set regions r (over x (get_or regions r [])))
-  step n regions k r a x q h l = record {
-    is = ap (put a x) k.is ∙ put_region n regions rest x r a q k.each (ltb-true r (length regions) h) l;
-    each = each_put n regions x r k.each l;
-  }
+  -- a list is written over one of them
+  step : {n m : ℕ} {w : List ℕ} {regions : List (List ℕ)} → Laid n w regions → (r a : ℕ) (x : List ℕ) → a ≡ r * n → ltb r (length regions) ≡ true
+      → length x ≡ m → m ≤ n → Laid n (put a x w) (set regions r (over x (get_or regions r [])))
+  step {n} {regions = regions} k r a x q h e l =
+      let few : length x ≤ n = omega arith in
+      record {
+        is = ap (put a x) k.is ∙ put_region n regions rest x r a q k.each (ltb-true r (length regions) h) few;
+        each = each_put n regions x r k.each few;
+      }
+
+  -- what is written over each, in order
+  abbrev stored : List (List ℕ)
+  stored =
+      over (streak_of kinds) streak₀
+      ∷ over (group_numbers (hits_open kinds)) (over (hit_firsts kinds) (over (first_lengths kinds) (over (streak_lengths kinds) lengths₀)))
+      ∷ over (group_places (hits_open kinds)) (over (hit_seconds kinds) (over (seconds kinds) (over (pattern_types kinds) (over (streak_types kinds) types₀))))
+      ∷ over (group_numbers (patterns_open kinds)) numbers₀
+      ∷ over (group_places (patterns_open kinds)) places₀
+      ∷ over (hit_sizes kinds) (over (streak_counts kinds) counts₀)
+      ∷ over (hits_open kinds) (over (coupled_patterns kinds) hits₀)
+      ∷ over (hit_intervals limit kinds) (over (patterns_open kinds) (over (streak_marks kinds) marks₀))
+      ∷ []
 
   module _ {w₀ : List ℕ} (k : Laid (length kinds) w₀ before) where
     marks_long : length (streak_marks kinds) ≡ length kinds
@@ -134,105 +141,43 @@ module _ (limit : ℕ) (kinds streak₀ lengths₀ types₀ numbers₀ places₀
     places_long : length (group_places (hits_open kinds)) ≡ group_count (patterns_open kinds)
     places_long = length-places (hits_open kinds) ∙ length-hits_open kinds
 
-    le_marks : length (streak_marks kinds) ≤ length kinds
-    le_marks = omega (arith, marks_long)
+    pattern-numbers_long : length (group_numbers (patterns_open kinds)) ≡ group_count (streak_marks kinds)
+    pattern-numbers_long = length-numbers (patterns_open kinds) ∙ length-patterns_open kinds
 
-    le_streak : length (streak_of kinds) ≤ length kinds
-    le_streak = omega (arith, length-streak_of kinds)
-
-    le_types : length (streak_types kinds) ≤ length kinds
-    le_types = omega (arith, length-types kinds, streaks_few)
-
-    le_lengths : length (streak_lengths kinds) ≤ length kinds
-    le_lengths = omega (arith, length-streak_lengths kinds, streaks_few)
-
-    le_opening : length (patterns_open kinds) ≤ length kinds
-    le_opening = omega (arith, length-patterns_open kinds, streaks_few)
-
-    le_numbers : length (group_numbers (patterns_open kinds)) ≤ length kinds
-    le_numbers = omega (arith, length-numbers (patterns_open kinds), le_opening)
-
-    le_places : length (group_places (patterns_open kinds)) ≤ length kinds
-    le_places = omega (arith, length-places (patterns_open kinds), le_opening)
+    pattern-places_long : length (group_places (patterns_open kinds)) ≡ group_count (streak_marks kinds)
+    pattern-places_long = length-places (patterns_open kinds) ∙ length-patterns_open kinds
 
     le_patterns : group_count (patterns_open kinds) ≤ length kinds
     le_patterns = omega (arith, patterns_few, streaks_few)
 
-    le_first_lengths : length (first_lengths kinds) ≤ length kinds
-    le_first_lengths = omega (arith, length-first_lengths kinds, le_patterns)
-
-    le_pattern_types : length (pattern_types kinds) ≤ length kinds
-    le_pattern_types = omega (arith, length-pattern_types kinds, le_patterns)
-
-    le_counts : length (streak_counts kinds) ≤ length kinds
-    le_counts = omega (arith, length-streak_counts kinds, le_patterns)
-
-    le_coupled : length (coupled_patterns kinds) ≤ length kinds
-    le_coupled = omega (arith, length-coupled_patterns kinds, le_patterns)
-
-    le_hitting : length (hits_open kinds) ≤ length kinds
-    le_hitting = omega (arith, length-hits_open kinds, le_patterns)
-
-    le_seconds : length (seconds kinds) ≤ length kinds
-    le_seconds = omega (arith, length-seconds kinds, le_patterns)
-
     le_hits : group_count (hits_open kinds) ≤ length kinds
     le_hits = omega (arith, hits_few, le_patterns)
 
-    le_hit_sizes : length (hit_sizes kinds) ≤ length kinds
-    le_hit_sizes = omega (arith, length-hit_sizes kinds, le_hits)
-
-    le_hit_firsts : length (hit_firsts kinds) ≤ length kinds
-    le_hit_firsts = omega (arith, length-hit_firsts kinds, le_hits)
-
-    le_hit_seconds : length (hit_seconds kinds) ≤ length kinds
-    le_hit_seconds = omega (arith, length-hit_seconds kinds, le_hits)
-
-    le_hit_intervals : length (hit_intervals limit kinds) ≤ length kinds
-    le_hit_intervals = omega (arith, length-hit_intervals kinds limit, le_hits)
-
-    le_hit_numbers : length (group_numbers (hits_open kinds)) ≤ length kinds
-    le_hit_numbers = omega (arith, numbers_long, le_patterns)
-
-    le_hit_places : length (group_places (hits_open kinds)) ≤ length kinds
-    le_hit_places = omega (arith, places_long, le_patterns)
-
     -- every list is written over its region, in order
-    laid : Laid (length kinds) (written (encoder_writes limit kinds) w₀) (
-        over (streak_of kinds) streak₀
-        ∷ over (group_numbers (hits_open kinds)) (over (hit_firsts kinds) (over (first_lengths kinds) (over (streak_lengths kinds) lengths₀)))
-        ∷ over (group_places (hits_open kinds))
-        (over (hit_seconds kinds) (over (seconds kinds) (over (pattern_types kinds) (over (streak_types kinds) types₀))))
-        ∷ over (group_numbers (patterns_open kinds)) numbers₀
-        ∷ over (group_places (patterns_open kinds)) places₀
-        ∷ over (hit_sizes kinds) (over (streak_counts kinds) counts₀)
-        ∷ over (hits_open kinds) (over (coupled_patterns kinds) hits₀)
-        ∷ over (hit_intervals limit kinds) (over (patterns_open kinds) (over (streak_marks kinds) marks₀))
-        ∷ []
-        )
+    laid : Laid (length kinds) (written (encoder_writes limit kinds) w₀) stored
     unfolding encoder_writes streak_writes pattern_writes hit_mark_writes hit_writes coupled_writes seconds patterns_open first_lengths
-        streak_counts pattern_types hits_open hit_sizes hit_firsts hit_seconds hit_intervals
+        streak_counts pattern_types hits_open hit_sizes hit_firsts hit_seconds hit_intervals hit_count
     laid =
         let n : ℕ = length kinds in
-        let s-1 = step n _ k 7 (7 * n) (streak_marks kinds) refl refl le_marks in
-        let s-2 = step n _ s-1 0 0 (streak_of kinds) (place-0 n) refl le_streak in
-        let s-3 = step n _ s-2 2 (2 * n) (streak_types kinds) refl refl le_types in
-        let s-4 = step n _ s-3 1 n (streak_lengths kinds) (place-1 n) refl le_lengths in
-        let s-5 = step n _ s-4 7 (7 * n) (patterns_open kinds) refl refl le_opening in
-        let s-6 = step n _ s-5 3 (3 * n) (group_numbers (patterns_open kinds)) refl refl le_numbers in
-        let s-7 = step n _ s-6 4 (4 * n) (group_places (patterns_open kinds)) refl refl le_places in
-        let s-8 = step n _ s-7 1 n (first_lengths kinds) (place-1 n) refl le_first_lengths in
-        let s-9 = step n _ s-8 2 (2 * n) (pattern_types kinds) refl refl le_pattern_types in
-        let s-10 = step n _ s-9 5 (5 * n) (streak_counts kinds) refl refl le_counts in
-        let s-11 = step n _ s-10 6 (6 * n) (coupled_patterns kinds) refl refl le_coupled in
-        let s-12 = step n _ s-11 6 (6 * n) (hits_open kinds) refl refl le_hitting in
-        let s-13 = step n _ s-12 2 (2 * n) (seconds kinds) refl refl le_seconds in
-        let s-14 = step n _ s-13 5 (5 * n) (hit_sizes kinds) refl refl le_hit_sizes in
-        let s-15 = step n _ s-14 1 n (hit_firsts kinds) (place-1 n) refl le_hit_firsts in
-        let s-16 = step n _ s-15 2 (2 * n) (hit_seconds kinds) refl refl le_hit_seconds in
-        let s-17 = step n _ s-16 7 (7 * n) (hit_intervals limit kinds) refl refl le_hit_intervals in
-        let s-18 = step n _ s-17 1 n (group_numbers (hits_open kinds)) (place-1 n) refl le_hit_numbers in
-        step n _ s-18 2 (2 * n) (group_places (hits_open kinds)) refl refl le_hit_places
+        let s-1 = step k 7 (7 * n) (streak_marks kinds) refl refl (length-streak_marks kinds) (le_refl n) in
+        let s-2 = step s-1 0 0 (streak_of kinds) (place-0 n) refl (length-streak_of kinds) (le_refl n) in
+        let s-3 = step s-2 2 (2 * n) (streak_types kinds) refl refl (length-types kinds) streaks_few in
+        let s-4 = step s-3 1 n (streak_lengths kinds) (place-1 n) refl (length-streak_lengths kinds) streaks_few in
+        let s-5 = step s-4 7 (7 * n) (patterns_open kinds) refl refl (length-patterns_open kinds) streaks_few in
+        let s-6 = step s-5 3 (3 * n) (group_numbers (patterns_open kinds)) refl refl pattern-numbers_long streaks_few in
+        let s-7 = step s-6 4 (4 * n) (group_places (patterns_open kinds)) refl refl pattern-places_long streaks_few in
+        let s-8 = step s-7 1 n (first_lengths kinds) (place-1 n) refl (length-first_lengths kinds) le_patterns in
+        let s-9 = step s-8 2 (2 * n) (pattern_types kinds) refl refl (length-pattern_types kinds) le_patterns in
+        let s-10 = step s-9 5 (5 * n) (streak_counts kinds) refl refl (length-streak_counts kinds) le_patterns in
+        let s-11 = step s-10 6 (6 * n) (coupled_patterns kinds) refl refl (length-coupled_patterns kinds) le_patterns in
+        let s-12 = step s-11 6 (6 * n) (hits_open kinds) refl refl (length-hits_open kinds) le_patterns in
+        let s-13 = step s-12 2 (2 * n) (seconds kinds) refl refl (length-seconds kinds) le_patterns in
+        let s-14 = step s-13 5 (5 * n) (hit_sizes kinds) refl refl (length-hit_sizes kinds) le_hits in
+        let s-15 = step s-14 1 n (hit_firsts kinds) (place-1 n) refl (length-hit_firsts kinds) le_hits in
+        let s-16 = step s-15 2 (2 * n) (hit_seconds kinds) refl refl (length-hit_seconds kinds) le_hits in
+        let s-17 = step s-16 7 (7 * n) (hit_intervals limit kinds) refl refl (length-hit_intervals kinds limit) le_hits in
+        let s-18 = step s-17 1 n (group_numbers (hits_open kinds)) (place-1 n) refl numbers_long le_patterns in
+        step s-18 2 (2 * n) (group_places (hits_open kinds)) refl refl places_long le_patterns
 
     streak_left : over (streak_of kinds) streak₀ ≡ streak_of kinds
     streak_left = over_whole (streak_of kinds) streak₀ (length-streak_of kinds ∙ sym k.each.0)
@@ -254,18 +199,7 @@ module _ (limit : ℕ) (kinds streak₀ lengths₀ types₀ numbers₀ places₀
     flags_left = over-absorb (coupled_patterns kinds) (hits_open kinds) hits₀ (omega (arith, length-coupled_patterns kinds, length-hits_open kinds))
 
     -- and what is written over is of no account
-    same_after :
-        over (streak_of kinds) streak₀
-        ∷ over (group_numbers (hits_open kinds)) (over (hit_firsts kinds) (over (first_lengths kinds) (over (streak_lengths kinds) lengths₀)))
-        ∷ over (group_places (hits_open kinds))
-        (over (hit_seconds kinds) (over (seconds kinds) (over (pattern_types kinds) (over (streak_types kinds) types₀))))
-        ∷ over (group_numbers (patterns_open kinds)) numbers₀
-        ∷ over (group_places (patterns_open kinds)) places₀
-        ∷ over (hit_sizes kinds) (over (streak_counts kinds) counts₀)
-        ∷ over (hits_open kinds) (over (coupled_patterns kinds) hits₀)
-        ∷ over (hit_intervals limit kinds) (over (patterns_open kinds) (over (streak_marks kinds) marks₀))
-        ∷ []
-        ≡ after
+    same_after : stored ≡ after
     same_after = λ i.
         streak_left i
         ∷ firsts_left (over (first_lengths kinds) (over (streak_lengths kinds) lengths₀)) i
@@ -286,9 +220,9 @@ module _ (limit : ℕ) (kinds streak₀ lengths₀ types₀ numbers₀ places₀
     module _ {w : List ℕ} (e : w ≡ join after rest) (s p h : ℕ) (cs : s ≡ group_count (streak_marks kinds)) (cp : p ≡ group_count (patterns_open kinds))
         (ch : h ≡ group_count (hits_open kinds)) where
       -- a region is read back as far as its last list goes
-      read : (r a k : ℕ) (new old : List ℕ) → a ≡ r * length kinds → ltb r (length after) ≡ true → get_or after r [] ≡ over new old → length new ≡ k
-          → k ≤ length kinds → part a k w ≡ new
-      read r a k new old q l g f u =
+      read : {k : ℕ} {new : List ℕ} (r a : ℕ) (old : List ℕ) → a ≡ r * length kinds → ltb r (length after) ≡ true
+          → get_or after r [] ≡ over new old → length new ≡ k → k ≤ length kinds → part a k w ≡ new
+      read {k} {new} r a old q l g f u =
           ap (part a k) e ∙ part_region (length kinds) after rest r a k q each_after (ltb-true r (length after) l) u ∙ ap (take k) g ∙ front new old k f
 
       outside : Outside (length kinds) w₀ w
@@ -300,29 +234,27 @@ module _ (limit : ℕ) (kinds streak₀ lengths₀ types₀ numbers₀ places₀
 
       pub all_levels : Encodes limit kinds w₀ w (record { streaks = s; patterns = p; hits = h; limit = limit })
       unfolding hit_count
-      all_levels = record {
-        memory = e ∙ all_left;
-        tables = record {
-          count_s = cs;
-          count_p = cp;
-          count_h = ch;
-          searched = refl;
-          few_s = omega (arith, streaks_few);
-          few_p = omega (arith, le_patterns);
-          few_h = omega (arith, le_hits);
-          streak = read 0 0 (length kinds) (streak_of kinds) streak₀ (place-0 (length kinds)) refl (sym streak_left) (length-streak_of kinds) (omega arith);
-          pattern =
-              read 3 (3 * length kinds) s (group_numbers (patterns_open kinds)) numbers₀ refl refl refl
-              (length-numbers (patterns_open kinds) ∙ length-patterns_open kinds ∙ sym cs) (omega (arith, streaks_few));
-          streak-place =
-              read 4 (4 * length kinds) s (group_places (patterns_open kinds)) places₀ refl refl refl
-              (length-places (patterns_open kinds) ∙ length-patterns_open kinds ∙ sym cs) (omega (arith, streaks_few));
-          hit =
-              read 1 (length kinds) p (group_numbers (hits_open kinds)) _ (place-1 (length kinds)) refl refl (numbers_long ∙ sym cp)
-              (omega (arith, le_patterns));
-          pattern-place = read 2 (2 * length kinds) p (group_places (hits_open kinds)) _ refl refl refl (places_long ∙ sym cp) (omega (arith, le_patterns));
-          interval =
-              read 7 (7 * length kinds) h (hit_intervals limit kinds) _ refl refl refl (length-hit_intervals kinds limit ∙ sym ch) (omega (arith, le_hits));
-          outside = outside;
-        };
-      }
+      all_levels =
+          let n : ℕ = length kinds in
+          let few_s : s ≤ n = omega (arith, streaks_few) in
+          let few_p : p ≤ n = omega (arith, le_patterns) in
+          let few_h : h ≤ n = omega (arith, le_hits) in
+          record {
+            memory = e ∙ all_left;
+            tables = record {
+              count_s = cs;
+              count_p = cp;
+              count_h = ch;
+              searched = refl;
+              few_s = few_s;
+              few_p = few_p;
+              few_h = few_h;
+              streak = read 0 0 _ (place-0 n) refl (sym streak_left) (length-streak_of kinds) (le_refl n);
+              pattern = read 3 (3 * n) _ refl refl refl (pattern-numbers_long ∙ sym cs) few_s;
+              streak-place = read 4 (4 * n) _ refl refl refl (pattern-places_long ∙ sym cs) few_s;
+              hit = read 1 n _ (place-1 n) refl refl (numbers_long ∙ sym cp) few_p;
+              pattern-place = read 2 (2 * n) _ refl refl refl (places_long ∙ sym cp) few_p;
+              interval = read 7 (7 * n) _ refl refl refl (length-hit_intervals kinds limit ∙ sym ch) few_h;
+              outside = outside;
+            };
+          }

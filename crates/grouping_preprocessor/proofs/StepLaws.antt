@@ -2,20 +2,24 @@
 -- is made of them follows.
 use mathlib.Core.Path.{◌≡◌, sym, ap, ◌∙◌}
 use mathlib.Core.List.{List, ◌++◌}
-use Prim.Native.Nat.{ℕ, ◌≤◌}
+use Prim.Native.Nat.{ℕ}
 use native.Mathlib.Omega.{arith}
 use lib.ListN.{length, take, drop}
+use lib.Seq.{length-take-le}
 use Rattle.lent.specs.Over.{over}
 use Rattle.lent.proofs.OverLaws.{front, drop-over, over-agree}
 use Rattle.lent.proofs.PieceLaws.{over_pieces, over_whole}
 use Rattle.grouping_marks.specs.Marks.{group_count, group_sizes, group_firsts}
 use Rattle.grouping_marks.proofs.MarksLaws.{count_le, length-sizes, length-firsts}
 use Rattle.grouping_hits.specs.RepeatingHitPatterns.{hit_marks, second_lengths, intervals}
-use Rattle.grouping_hits.proofs.LengthLaws.{length-hit_marks, length-second_lengths, length-intervals}
+use Rattle.grouping_hits.proofs.LengthLaws.{length-second_lengths, length-intervals}
 use Rattle.grouping_colour.specs.MonoStreak.{streak_marks}
 use Rattle.grouping_colour.specs.AlternatingMonoPattern.{pattern_marks, coupled}
 use Rattle.grouping_colour.proofs.LengthLaws.{length-streak_marks, length-pattern_marks, length-coupled}
 use Rattle.grouping_preprocessor.specs.passes.Steps.{hits_by}
+
+-- a front of as many places as there are groups
+pub ruleset fronts = (count_le, length-take-le)
 
 -- ---- the marks, written whole
 
@@ -30,10 +34,6 @@ module _ (lengths counts types : List ℕ) where
       → now ≡ hits_by lengths counts types
   hits_marked old flags now l e f = f ∙ ap hit_marks (e ∙ over_whole (coupled lengths counts types) old (length-coupled lengths counts types ∙ sym l))
 
-  -- a mark for each pattern
-  pub length-hits_by : length (hits_by lengths counts types) ≡ length lengths
-  length-hits_by = length-hit_marks (coupled lengths counts types) ∙ length-coupled lengths counts types
-
 pub seconds_whole : (lengths marks marks' old now : List ℕ) → length old ≡ length lengths → marks ≡ marks' → now ≡ over (second_lengths lengths marks) old
     → now ≡ second_lengths lengths marks'
 seconds_whole lengths marks marks' old now l e f =
@@ -46,9 +46,6 @@ seconds_whole lengths marks marks' old now l e f =
 module _ (marks items : List ℕ) (groups : ℕ) (g : groups ≡ group_count marks) (l : length items ≡ length marks) where
   firsts_long : length (group_firsts marks items) ≡ groups
   firsts_long = length-firsts marks items (omega arith) ∙ sym g
-
-  pub groups_few : groups ≤ length marks
-  groups_few = omega (arith, count_le marks)
 
   pub firsts_kept : (spare now copied : List ℕ) → now ≡ over (group_firsts marks items) spare → copied ≡ take groups now
       → copied ++ drop groups items ≡ over (group_firsts marks items) items

@@ -63,6 +63,7 @@ fn find_streaks(
 
 // Puts what stands at each group's first item over the front of the items, by way of a spare slice. The groups' count
 // comes beside the marks: counted here it would be counted twice.
+#[tactic(auto, using(crate::proofs::StepLaws::fronts))]
 fn keep_firsts(marks: &[u16], groups: usize, items: &mut [u16], spare: &mut [u16])
     requires groups { groups ≡ group_count marks.now }
     requires regions { AsLong (length marks.now) (items.old ∷ spare.old ∷ []) }
@@ -126,6 +127,7 @@ fn find_hit_marks(lengths: &[u16], counts: &[u16], types: &mut [u16], marks: &mu
 // From alternating patterns, by their first lengths, streak counts and types, to hit patterns: each pattern's hit
 // pattern and its place there in place of its length and type, and each hit pattern's interval; the result is their
 // count.
+#[tactic(auto, using(crate::proofs::StepLaws::fronts))]
 fn find_hits(
     lengths: &mut [u16],
     counts: &mut [u16],

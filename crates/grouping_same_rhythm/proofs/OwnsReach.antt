@@ -82,8 +82,8 @@ module _ {margin : Float} {deltas₀ deltas : List Float} {g : ℕ} {recent : Re
       rw (z, x.left 0, as_they_are margin deltas₀ end, ← x.same) (take-append-drop end deltas)
 
   -- while k is at most g a group opens at `end`
-  pub reaching_open : k ≤ g → (new : ℕ) → new ≡ group_end margin deltas end → Opened margin deltas₀ deltas end new
-  reaching_open h new e =
+  pub reaching_open : {new : ℕ} → k ≤ g → new ≡ group_end margin deltas end → Opened margin deltas₀ deltas end new
+  reaching_open {new} h e =
       let o : end < length deltas₀ = walk_open x.walk (omega (arith, x.asked.there)) in
       let s : new ≡ group_end margin deltas₀ end = e ∙ end_same margin deltas deltas₀ end x.long x.same in
       let a : end < new = rw s (end_after_lem margin deltas₀ end o) in
@@ -98,14 +98,13 @@ module _ {margin : Float} {deltas₀ deltas : List Float} {g : ℕ} {recent : Re
       }
 
   -- it is put in order
-  pub reaching_turn : k ≤ g → (new : ℕ) → new ≡ group_end margin deltas end
-      → (group : List Float) (own : Option Float) → Modal margin (take (new - end) (drop end deltas)) group own
-      → (newest : Recent) → newest ≡ recent_with (snapped margin own recent.newest) recent
+  pub reaching_turn : {new : ℕ} {group : List Float} {own : Option Float} {newest : Recent} → k ≤ g → new ≡ group_end margin deltas end
+      → Modal margin (take (new - end) (drop end deltas)) group own → newest ≡ recent_with (snapped margin own recent.newest) recent
       → length group ≡ length (take (new - end) (drop end deltas))
       → Reaching margin deltas₀ (put_mid end (new - end) deltas group) g newest end new (suc k)
   unfolding settled_up_to
-  reaching_turn h new e group own m newest r l =
-      let o : Opened margin deltas₀ deltas end new = reaching_open h new e in
+  reaching_turn {new} {group} {own} {newest} h e m r l =
+      let o : Opened margin deltas₀ deltas end new = reaching_open h e in
       let rest : List (List Float) = groups_from margin deltas₀ deltas₀ new in
       let first : List Float = part end (new - end) deltas₀ in
       let b : end < length deltas₀ = omega (arith, x.long) in

@@ -77,9 +77,9 @@ pub record Found (margin : Float) (intervals : List Float) (g number before at e
   pub small : g < length intervals
   pub previous : (number ≡ 0 → ⊥) → Lies margin intervals (number - 1) before at
 
-pub found-start : (margin : Float) (intervals : List Float) (g : ℕ) → g < length intervals → (end : ℕ)
+pub found-start : (margin : Float) (intervals : List Float) (g : ℕ) → g < length intervals → {end : ℕ}
     → end ≡ group_end margin intervals 0 → Found margin intervals g 0 0 0 end
-found-start margin intervals g h end e = record {
+found-start margin intervals g h e = record {
   numbering = numbering_start margin intervals;
   left = rw (marks_all margin intervals);
   here = e;
@@ -107,8 +107,8 @@ module _ {margin : Float} {intervals : List Float} {g number before at end : ℕ
             (rw (← z, rest, k) at (sym (get_or-drop number (patterns margin intervals) 0 []))) ∙ lent-part at (end - at) intervals;
       }
 
-  pub found_turn : end ≤ g → (next : ℕ) → next ≡ group_end margin intervals end → Found margin intervals g (number + 1) at end next
-  found_turn h next e =
+  pub found_turn : {next : ℕ} → end ≤ g → next ≡ group_end margin intervals end → Found margin intervals g (number + 1) at end next
+  found_turn h e =
       let b : number ≡ number + 1 - 1 = omega arith in
       record {
         numbering = numbering_next x.numbering inside end x.here;

@@ -1,18 +1,21 @@
 -- A turn passes one item of the open group, or the first of the next.
 use native.Mathlib.Omega.{arith}
-use lib.ListN.{get_or}
+use mathlib.Core.Path.{ap}
+use Prim.Native.Nat.{ℕ, ◌+◌}
+use Rattle.lent.proofs.InPlaceLaws.{place_end}
+use Rattle.grouping_marks.specs.Marks.{place_by_mark, group_places}
 use Rattle.grouping_marks.proofs.MarksLaws.{place_le}
-use Rattle.grouping_marks.proofs.PassLaws.{places_start, places_turn, places_end}
+use Rattle.grouping_marks.proofs.PassLaws.{passing_start, passing_turn}
 use Rattle.grouping_marks.proofs.group_places.Goals as goal
 
 pub loop-mark-init : goal.loop-mark-init
-loop-mark-init c = places_start c.args.marks.now c.requires
-
-pub overflow_add-before : goal.overflow_add-before
-overflow_add-before c = omega (arith, c.place_by_mark.ensures, place_le c.loop-mark.before (get_or c.loop-mark.marks c.loop-mark.mark-index 0))
+loop-mark-init c = passing_start (λ p m. place_by_mark p m + 1) place_by_mark c.args.marks.now c.requires
 
 pub loop-mark-preserved : goal.loop-mark-preserved
-loop-mark-preserved c = places_turn c.loop-mark.invariant _ (omega arith) c.place_by_mark.ensures
+loop-mark-preserved c =
+    let e = c.place_by_mark.ensures in
+    passing_turn c.loop-mark.invariant (omega arith) e (ap (λ (n : ℕ). n + 1) e) (λ s m. omega (arith, place_le s m))
 
 pub returns : goal.returns
-returns c = places_end c.loop-mark.invariant (omega arith)
+unfolding group_places
+returns c = place_end c.loop-mark.invariant.walk (omega arith)

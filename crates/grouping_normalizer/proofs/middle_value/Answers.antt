@@ -1,10 +1,7 @@
 -- Each path ends in the case of `middle` that its test names.
 use lib.Ieee.{of_bits}
-use Rattle.grouping_normalizer.proofs.SetLaws.{middle_odd, middle-even}
+use Rattle.grouping_normalizer.proofs.SetLaws.{middle-even}
 use Rattle.grouping_normalizer.proofs.middle_value.Goals as goal
-
-pub returns-then-set-eq1 : goal.returns-then-set-eq1
-returns-then-set-eq1 c = middle_odd _ c.if-set-eq1.true
 
 pub returns-else-set-eq1 : goal.returns-else-set-eq1
 unfolding of_bits

@@ -1,11 +1,8 @@
 -- A note is listed, and another object is passed over.
 use Rattle.std.proofs.Common.{sym, ◌∙◌}
-use Rattle.grouping_interval.proofs.ListLaws.{listing_start, listing_note, listing_pass, listing_end}
+use Rattle.grouping_interval.proofs.ListLaws.{listing_note, listing_pass, listing_end}
 use Rattle.grouping_interval.proofs.notes.list_notes.Goals as goal
 use Rattle.grouping_interval.proofs.notes.list_notes.Goals.{then-is_note, else-is_note}
-
-pub loop-i-init : goal.loop-i-init
-loop-i-init c = listing_start _ _ _ _ c.requires
 
 pub loop-i-preserved : goal.loop-i-preserved
 loop-i-preserved c =

@@ -7,26 +7,23 @@ pub groups-init : goal.groups-init
 groups-init c = rw c.new-owns.ensures (reaching_start _ _ _ c.requires)
 
 pub slice_bounds-modal_delta-count : goal.slice_bounds-modal_delta-count
-slice_bounds-modal_delta-count c = omega (arith, reaching_open c.groups.invariant c.groups-test.true c.group_end-end.result c.group_end-end.ensures)
+slice_bounds-modal_delta-count c = omega (arith, reaching_open c.groups.invariant c.groups-test.true c.group_end-end.ensures)
 
 pub slice_bounds-modal_delta-start : goal.slice_bounds-modal_delta-start
 slice_bounds-modal_delta-start c = slice_bounds-modal_delta-count c
 
 pub slice_bounds-modal_delta-end : goal.slice_bounds-modal_delta-end
-slice_bounds-modal_delta-end c = (reaching_open c.groups.invariant c.groups-test.true c.group_end-end.result c.group_end-end.ensures).upto
-
-pub modal_delta-own-requires : goal.modal_delta-own-requires
-modal_delta-own-requires c = (reaching_open c.groups.invariant c.groups-test.true c.group_end-end.result c.group_end-end.ensures).finite
+slice_bounds-modal_delta-end c = (reaching_open c.groups.invariant c.groups-test.true c.group_end-end.ensures).upto
 
 pub groups-preserved : goal.groups-preserved
 groups-preserved c =
     rw add-one
-    (reaching_turn c.groups.invariant c.groups-test.true c.group_end-end.result c.group_end-end.ensures _ c.modal_delta-own.result c.modal_delta-own.ensures
-    c.further-owns.result c.further-owns.ensures c.modal_delta-own.auto.deltas)
+    (reaching_turn c.groups.invariant c.groups-test.true c.group_end-end.ensures c.modal_delta-own.ensures c.further-owns.ensures
+    c.modal_delta-own.auto.deltas)
 
 pub returns-2 : goal.returns-2
 returns-2 c =
     reaching_end
-    (reaching_turn c.groups.invariant c.groups-test.true c.group_end-end.result c.group_end-end.ensures _ c.modal_delta-own.result c.modal_delta-own.ensures
-    c.further-owns.result c.further-owns.ensures c.modal_delta-own.auto.deltas)
+    (reaching_turn c.groups.invariant c.groups-test.true c.group_end-end.ensures c.modal_delta-own.ensures c.further-owns.ensures
+    c.modal_delta-own.auto.deltas)
     (omega arith)

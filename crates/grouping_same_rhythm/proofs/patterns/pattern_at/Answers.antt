@@ -5,15 +5,14 @@ use Rattle.grouping_same_rhythm.proofs.PatternsLaws.{found-start, found_turn, fo
 use Rattle.grouping_same_rhythm.proofs.patterns.pattern_at.Goals as goal
 
 pub loop-end-init : goal.loop-end-init
-loop-end-init c = found-start _ _ _ c.requires c.group_end-end.result c.group_end-end.ensures
+loop-end-init c = found-start _ _ _ c.requires c.group_end-end.ensures
 
 pub loop-end-smaller : goal.loop-end-smaller
 loop-end-smaller c =
-    omega
-    (arith, found_lies (found_turn c.loop-end.invariant c.loop-end-test.true c.group_end-end-in-loop-end.result c.group_end-end-in-loop-end.ensures))
+    omega (arith, found_lies (found_turn c.loop-end.invariant c.loop-end-test.true c.group_end-end-in-loop-end.ensures))
 
 pub loop-end-preserved : goal.loop-end-preserved
-loop-end-preserved c = found_turn c.loop-end.invariant c.loop-end-test.true c.group_end-end-in-loop-end.result c.group_end-end-in-loop-end.ensures
+loop-end-preserved c = found_turn c.loop-end.invariant c.loop-end-test.true c.group_end-end-in-loop-end.ensures
 
 pub returns-then-number-eq0 : goal.returns-then-number-eq0
 unfolding of_bits
