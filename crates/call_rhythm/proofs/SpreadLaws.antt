@@ -20,14 +20,6 @@ use Rattle.grouping_chart.proofs.ObjectLaws.{seen₀, seen_after, seen_few, note
 use Rattle.call_rhythm.specs.passes.Tables.{SpreadRoom, by_object}
 use Rattle.call_rhythm.proofs.PerNoteLaws.{note_below, length_per_note, per_note_at, same_where}
 
--- ---- one object's number
-
-pub note_number : (b : Bool) (x : ℕ) → b ≡ true → x ≡ cond b x 65535
-note_number b x e = rw e
-
-pub no_number : (b : Bool) (x : ℕ) → b ≡ false → 65535 ≡ cond b x 65535
-no_number b x e = rw e
-
 -- ---- numbers spread over objects
 
 pub record Spread (kinds numbers out₀ out : List ℕ) (next i : ℕ) : Type 0 where

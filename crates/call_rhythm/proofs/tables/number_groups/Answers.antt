@@ -7,18 +7,6 @@ use Rattle.call_rhythm.proofs.tables.number_groups.Goals as goal
 pub fill_intervals-requires : goal.fill_intervals-requires
 fill_intervals-requires c = intervals_room c.requires
 
-pub slice_bounds-group_by_interval-end : goal.slice_bounds-group_by_interval-end
-slice_bounds-group_by_interval-end c =
-    values-lent c.requires c.args.margin c.fill_intervals.ensures
-
-pub slice_bounds-group_by_interval-end-2 : goal.slice_bounds-group_by_interval-end-2
-slice_bounds-group_by_interval-end-2 c =
-    sym (length-take-le _ _ (values-lent c.requires c.args.margin c.fill_intervals.ensures))
-
-pub group_by_interval-requires : goal.group_by_interval-requires
-group_by_interval-requires c =
-    groups-places c.requires c.args.margin c.fill_intervals.ensures
-
 pub returns : goal.returns
 returns c =
     let r = groups_numbered c.requires c.args.margin c.fill_intervals.ensures _ _ c.group_by_interval.ensures in
