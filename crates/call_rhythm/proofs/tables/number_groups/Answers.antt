@@ -1,7 +1,5 @@
 -- The intervals, as many as the groups, are in front of the scratch slice, and their groups' numbers fill the lent region whole.
-use mathlib.Core.Path.{sym}
-use lib.Seq.{length-take-le}
-use Rattle.call_rhythm.proofs.RegionLaws.{intervals_room, values-lent, groups-places, groups_numbered}
+use Rattle.call_rhythm.proofs.RegionLaws.{intervals_room, groups_numbered}
 use Rattle.call_rhythm.proofs.tables.number_groups.Goals as goal
 
 pub fill_intervals-requires : goal.fill_intervals-requires
