@@ -19,7 +19,7 @@ use Rattle.grouping_chart.specs.Settings.{Settings}
 use Rattle.grouping_chart.specs.declared.refusal.Reason.TheVariants.{BadWindow, OutOfRange}
 use Rattle.grouping_chart.proofs.RangeLaws.{time_range}
 use Rattle.grouping_chart.proofs.OutcomeLaws.{accommodated, nothing-refused, answered-done}
-use Rattle.call_rhythm.proofs.TablesLaws.{accepted-tables}
+use Rattle.call_rhythm.proofs.TablesLaws.{accepted-tables, groups-counted}
 use Rattle.call_record.specs.declared.GroupRecord.{GroupRecord}
 use Rattle.call_record.specs.Record.{record_at}
 use Rattle.call_record.specs.Call.{Memory, answer_lengths, judged, window_good, record_refusal, cleared, groups_of, record_outcome}
@@ -37,19 +37,10 @@ lengths_same c m h = (accommodated c (answer_lengths m) _ _ h).chart.lengths.del
 
 -- ---- what is refused after the chart
 
+-- the groups are counted by the notes' deltas
+pub ruleset counts = (groups-counted)
+
 module _ (window : Float) (g groups : ℕ) where
-  pub window_refused : window_good window ≡ false → Err BadWindow ≡ record_refusal window g groups
-  unfolding record_refusal
-  window_refused h = rw h
-
-  pub group-refused : window_good window ≡ true → groups ≤ g → Err OutOfRange ≡ record_refusal window g groups
-  unfolding record_refusal
-  group-refused h k = rw (h, le-ltb g groups k)
-
-  pub neither_refused : window_good window ≡ true → g < groups → passed ≡ record_refusal window g groups
-  unfolding record_refusal
-  neither_refused h k = rw (h, lt-ltb g groups k)
-
   group-below : record_refusal window g groups ≡ passed → g < groups
   unfolding record_refusal
   group-below e = go (window_good window) (ltb g groups) refl e
