@@ -55,6 +55,8 @@ module _ {kinds numbers out₀ out : List ℕ} {next i : ℕ} (x : Spread kinds 
   pub spread_end : length kinds ≤ i → out ≡ over (by_object numbers kinds) out₀
   spread_end h = fill_end_front x.fill h
 
+pub ruleset spreads = (spread_within, spread_few, spread_end)
+
 -- ---- numbers looked up
 
 module _ (table xs : List ℕ) where
@@ -81,3 +83,5 @@ module _ (table xs : List ℕ) {w : List ℕ} {i : ℕ} (x : Looked table xs w i
       fill_end_front x h
       ∙ sym (take_all (length xs) (over (gathered table xs) xs) (omega (arith, length-over (gathered table xs) xs (omega arith))))
       ∙ front (gathered table xs) xs (length xs) l
+
+pub ruleset looks = (looked_below, looked_turn, looked_end)
