@@ -1,6 +1,6 @@
 -- The outcome of build, case by case, over plain lists: a refusal leaves all as lent, and an accepted call has room in every slice.
 use mathlib.Core.Path.{◌≡◌, refl, sym, ◌∙◌}
-use mathlib.Core.Bool.{Bool}
+use mathlib.Core.Bool.{false}
 use mathlib.Core.List.{List}
 use Prim.Native.Nat.{ℕ}
 use native.Mathlib.Omega.{arith}
@@ -12,9 +12,8 @@ use Rattle.lent.proofs.OverLaws.{front}
 use Rattle.lent.proofs.FillLaws.{length-tabulate}
 use Rattle.grouping_chart.specs.Outcome.{outcome}
 use Rattle.grouping_chart.specs.Refusal.{Check, passed, Verdict, accepted, verdict}
-use Rattle.grouping_chart.specs.Room.{any_short}
 use Rattle.grouping_chart.proofs.RefusalLaws.{all_equal, verdict-objects}
-use Rattle.grouping_chart.proofs.RoomLaws.{all_long}
+use Rattle.grouping_chart.proofs.RoomLaws.{all_long, joined, short_joined}
 use Rattle.grouping_chart.proofs.OutcomeLaws.{answered-done}
 use Rattle.call_build.specs.Build.{Raw, delta_at, built_size, built_starts, built_deltas, built_chart}
 use Rattle.call_build.specs.Call.{Memory, answer_lengths, verdict_of, judged, filled, chart_in, build_outcome}
@@ -35,10 +34,10 @@ build_room rate r m h =
 pub as-many-times : (rate : Float) (r : Raw) (m : Memory) → judged rate r m ≡ accepted → length r.times ≡ length r.kinds
 as-many-times rate r m h = (all_passed rate r _ h).times
 
--- from whether an answer slice is short, and what `judge` answered
-pub judged-told : (rate : Float) (r : Raw) (m : Memory) {n : ℕ} {short : Bool} {v u : Verdict} → built_size r ≡ n → short ≡ any_short n (answer_lengths m)
-    → v ≡ verdict_of rate r short → v ≡ u → judged rate r m ≡ u
-judged-told rate r m size e f g = rw (size, ← e) (sym f ∙ g)
+-- the verdict, from what `judge` answered on the tests of the answer slices
+pub judged-told : (rate : Float) (r : Raw) (m : Memory) {n : ℕ} {v u : Verdict} → built_size r ≡ n → v ≡ verdict_of rate r (joined n false (answer_lengths m))
+    → v ≡ u → judged rate r m ≡ u
+judged-told rate r m {n} size f g = rw (size, ← short_joined n (answer_lengths m)) (sym f ∙ g)
 
 module _ (rate : Float) (r : Raw) (m : Memory) {n : ℕ} (size : built_size r ≡ n) where
   -- the four lists, as the passes leave them, are the built chart's

@@ -2,7 +2,7 @@
 use mathlib.Core.Path.{◌≡◌, refl}
 use mathlib.Core.Bool.{Bool, true, false, cond}
 use Prim.Native.Nat.{◌≤◌, ◌<◌}
-use borrow.Author.Tests.{lt-ltb, le-ltb, ltb-false, eq-eqb, ne_eqb, eqb-true}
+use borrow.Author.Tests.{lt-ltb, le-ltb, ltb-false, eq-eqb, eqb-true}
 use lib.Dec.{eqb, ltb}
 use lib.ListN.{length}
 use lib.Ieee.{Float}
@@ -43,18 +43,10 @@ module _ (rate : Float) (r : Raw) (short : Bool) where
   unfolding verdict_of
   refused_1 h = rw (lt-ltb _ _ h)
 
-  pub refused_2 : length r.kinds ≤ 16386 → (length r.times ≡ length r.kinds → ⊥) → refused UnequalLengths ≡ verdict_of rate r short
+  pub refused_beside : {beside : Check} {reason : Reason} → length r.kinds ≤ 16386 → length r.times ≡ length r.kinds → beside ≡ beside_refusal short rate
+      → beside ≡ Err reason → refused reason ≡ verdict_of rate r short
   unfolding verdict_of
-  refused_2 h e = rw (le-ltb _ _ h, ne_eqb _ _ e)
-
-  module _ {beside : Check} (few : length r.kinds ≤ 16386) (same : length r.times ≡ length r.kinds) (told : beside ≡ beside_refusal short rate) where
-    pub refused_beside : {reason : Reason} → beside ≡ Err reason → refused reason ≡ verdict_of rate r short
-    unfolding verdict_of
-    refused_beside n = rw (le-ltb _ _ few, eq-eqb _ _ same, ← told, n)
-
-    pub objects-judged : {v : Verdict} → beside ≡ passed → v ≡ objects_verdict (built_chart rate r) → v ≡ verdict_of rate r short
-    unfolding verdict_of
-    objects-judged n e = rw (le-ltb _ _ few, eq-eqb _ _ same, ← told, n) e
+  refused_beside few same told n = rw (le-ltb _ _ few, eq-eqb _ _ same, ← told, n)
 
 -- ---- refusal 7 never applies
 

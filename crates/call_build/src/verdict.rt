@@ -59,6 +59,7 @@ fn beside_refusal(short: bool, rate: f64) -> Result<(), Reason>
 }
 
 // The verdict on raw objects; `short` says that an answer slice is too short for those that they build.
+#[tactic(auto, unfolding(crate::specs::Call::verdict_of))]
 pub fn judge(raw: Raw, rate: f64, short: bool) -> Result<(), Refusal>
     ensures { result ≡ verdict_of rate (raw_seen raw.entry) short }
 {

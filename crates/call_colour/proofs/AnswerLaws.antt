@@ -9,7 +9,6 @@ use Rattle.grouping_chart.specs.Chart.{Chart, size}
 use Rattle.grouping_chart.specs.Settings.{Settings}
 use Rattle.std.specs.Prelude.{Ok}
 use Rattle.grouping_chart.specs.Refusal.{accepted}
-use Rattle.grouping_chart.proofs.OutcomeLaws.{nothing-refused}
 use Rattle.evaluator_values.specs.Colour.{values_of}
 use Rattle.evaluator_values.proofs.StandingLaws.{length-values}
 use Rattle.call_colour.specs.Stretch.{GoodStretch, chart_mean, chart_tenths}
@@ -20,10 +19,10 @@ module _ (s : Settings) (c : Chart) (lent : Memory) (good : judged c lent ≡ ac
   pub value-written : (i : ℕ) → i < size c → get_or (colour_outcome s c lent).memory.value i nan ≡ get_or (values_of s c) i nan
   unfolding filled
   value-written i h =
-      rw (← colour-done s c lent (filled s c.kinds c.ratios lent) good refl)
+      rw (← colour-done s c lent refl good refl)
       (get_or-over (values_of s c) lent.value i nan (omega (arith, length-values s.limit s.tolerance c.kinds c.ratios)))
 
   pub stretch-answered : (a b : ℕ) → GoodStretch c.kinds a b
       → (stretch_outcome s c a b lent).answer ≡ Ok (stretch_mean (chart_mean s c a b) (chart_tenths s c a b))
   stretch-answered a b x =
-      rw (← stretch-done s c lent a b _ _ (filled s c.kinds c.ratios lent) (nothing-refused _ good x) refl refl refl)
+      rw (← stretch-done s c lent refl good refl a b x refl refl)

@@ -11,20 +11,26 @@ use Rattle.lent.proofs.PieceLaws.{get_or-over}
 use Rattle.lent.proofs.OverLaws.{length-over, part-alike}
 use Rattle.grouping_chart.specs.Chart.{Chart, size}
 use Rattle.grouping_chart.specs.Settings.{Settings, Permitted}
+use Rattle.grouping_chart.specs.Refusal.{accepted}
 use Rattle.grouping_interval.specs.Notes.{of_notes}
 use Rattle.evaluator_values.specs.Colour.{values_of}
 use Rattle.grouping_chart.proofs.AcceptedLaws.{accepted_good}
 use Rattle.evaluator_values.proofs.StandingLaws.{length-values}
-use Rattle.call_colour.specs.Stretch.{from_to, stretch_values, average_of, chart_mean}
+use Rattle.call_colour.specs.Stretch.{from_to, GoodStretch, stretch_values, average_of, chart_mean}
 use Rattle.call_colour.specs.Call.{Memory, judged, filled}
 use Rattle.call_colour.specs.passes.Rooms.{StretchRoom}
-use Rattle.call_colour.proofs.CallLaws.{StretchAccepted, chart_room}
+use Rattle.call_colour.proofs.CallLaws.{chart_room}
 use Rattle.call_colour.proofs.StretchCases.{StretchLies, good_lies}
 use Rattle.call_colour.proofs.BoundLaws.{mean-tenths}
 
 -- ---- an accepted stretch, after the values are filled
-module _ (s : Settings) (p : Permitted s) (c : Chart) (m : Memory) (a b : ℕ) (w : StretchAccepted (judged c m) c.kinds a b) (new : Memory)
-    (e : new ≡ filled s c.kinds c.ratios m) where
+pub record Stretched (s : Settings) (c : Chart) (m : Memory) (a b : ℕ) (new : Memory) : Type 0 where
+  pub permitted : Permitted s
+  pub taken : judged c m ≡ accepted
+  pub good : GoodStretch c.kinds a b
+  pub made : new ≡ filled s c.kinds c.ratios m
+
+module _ {s : Settings} {c : Chart} {m : Memory} {a b : ℕ} {new : Memory} (x : Stretched s c m a b new) where
   abbrev values : List Float
   values = values_of s c
 
@@ -32,22 +38,22 @@ module _ (s : Settings) (p : Permitted s) (c : Chart) (m : Memory) (a b : ℕ) (
   long = length-values s.limit s.tolerance c.kinds c.ratios
 
   lies : StretchLies c.kinds a b
-  lies = good_lies c.kinds a b w.none
+  lies = good_lies c.kinds a b x.good
 
   room : length values ≤ length m.value
-  room = omega (arith, long, (chart_room s c m p w.chart).values)
+  room = omega (arith, long, (chart_room s c m x.permitted x.taken).values)
 
   written : new.value ≡ over values m.value
   unfolding filled
-  written = rw e
+  written = rw x.made
 
   pub stretch_room : StretchRoom c.kinds new.value a b
   stretch_room = record {
-    known = λ i h. ((accepted_good c _ w.chart).objects i nan h).kind;
+    known = λ i h. ((accepted_good c _ x.taken).objects i nan h).kind;
     ordered = omega (arith, lies.some);
     kinded = lies.inside;
     valued = omega (arith, lies.inside, long, room, ap length written, length-over values m.value room);
-    few = omega (arith, lies.inside, (chart_room s c m p w.chart).regions);
+    few = omega (arith, lies.inside, (chart_room s c m x.permitted x.taken).regions);
   }
 
   -- the values from a to b, read where they were written
@@ -61,9 +67,9 @@ module _ (s : Settings) (p : Permitted s) (c : Chart) (m : Memory) (a b : ℕ) (
   abbrev averaged : Float
   averaged = average_of (of_notes (from_to a b c.kinds) (from_to a b new.value))
 
-  pub mean_is : (mean : Float) → mean ≡ averaged → mean ≡ chart_mean s c a b
+  pub mean_is : {mean : Float} → mean ≡ averaged → mean ≡ chart_mean s c a b
   unfolding chart_mean stretch_values
-  mean_is mean h = h ∙ ap (λ (all : List Float). average_of (of_notes (from_to a b c.kinds) all)) values_there
+  mean_is h = h ∙ ap (λ (all : List Float). average_of (of_notes (from_to a b c.kinds) all)) values_there
 
-  pub mean_in_range : (mean : Float) → mean ≡ averaged → InTenthsRange mean
-  mean_in_range mean h = rw (mean_is mean h) (mean-tenths s c _ w.chart a b w.none)
+  pub mean_in_range : {mean : Float} → mean ≡ averaged → InTenthsRange mean
+  mean_in_range h = rw (mean_is h) (mean-tenths s c _ x.taken a b x.good)

@@ -17,6 +17,7 @@ fn has_note(kind: &[u8]) -> bool
 }
 
 // Whether a stretch is good. One where a is not below b or b is above n is refused, then one that has no note.
+#[tactic(auto, unfolding(crate::specs::Stretch::stretch_refusal), using(lent::proofs::PieceLaws::part_pieces))]
 pub fn stretch_refusal(kind: &[u8], a: usize, b: usize) -> Result<(), Reason>
     ensures { result ≡ stretch_refusal kind.now a b }
 {
@@ -57,6 +58,7 @@ fn average(kind: &[u8], value: &[f64]) -> f64
 }
 
 // The average of the notes from a to b, b not included.
+#[tactic(auto, using(lent::proofs::PieceLaws::part_pieces))]
 pub fn mean(kind: &[u8], value: &[f64], a: usize, b: usize) -> f64
     requires { StretchRoom kind.now value.now a b }
     ensures { result ≡ average_of (of_notes (from_to a b kind.now) (from_to a b value.now)) }

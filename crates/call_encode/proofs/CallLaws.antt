@@ -1,6 +1,5 @@
 -- The outcome of encode, case by case, over plain lists: a refusal leaves all as lent, and an accepted chart has room in every slice.
 use mathlib.Core.Path.{◌≡◌, refl}
-use mathlib.Core.Bool.{false}
 use mathlib.Core.List.{List, []}
 use Prim.Native.Nat.{ℕ, ◌≤◌, ◌<◌}
 use lib.ListN.{length, take, get_or, replicate}
@@ -13,10 +12,8 @@ use Rattle.lent.proofs.PieceLaws.{get_or-over}
 use Rattle.grouping_chart.specs.Chart.{Chart, size}
 use Rattle.grouping_chart.specs.Outcome.{outcome}
 use Rattle.grouping_chart.specs.Settings.{Settings, Permitted}
-use Rattle.grouping_chart.specs.Refusal.{Verdict, accepted, verdict}
-use Rattle.grouping_chart.specs.Room.{short_refusal}
-use Rattle.grouping_chart.proofs.OutcomeLaws.{verdict-judged, answered-done, accommodated}
-use Rattle.grouping_chart.proofs.RoomLaws.{joined, short_joined}
+use Rattle.grouping_chart.specs.Refusal.{accepted}
+use Rattle.grouping_chart.proofs.OutcomeLaws.{answered-done, accommodated}
 use Rattle.grouping_colour.specs.MonoStreak.{streak_of}
 use Rattle.grouping_colour.proofs.StreakListLaws.{length-streak_of}
 use Rattle.grouping_preprocessor.specs.Preprocessor.{alternating_of, hit_of, interval_of, hit_count}
@@ -44,17 +41,12 @@ module _ (limit : ℕ) (kinds : List ℕ) (m : Memory) where
 
 -- ---- each case leaves its outcome
 
--- the verdict of the definition is what `judge` gave on the code's tests of the answer slices
-pub judged-told : (c : Chart) (m : Memory) {v u : Verdict}
-    → v ≡ verdict c (short_refusal (joined (size c) false (answer_lengths m)) (size c) (length m.work) (length m.scratch))
-    → v ≡ u → judged c m ≡ u
-judged-told c m = verdict-judged c (answer_lengths m) _ _ (short_joined (size c) _ _)
-
 module _ (s : Settings) (c : Chart) (m : Memory) where
-  pub done-outcome : (count : ℕ) (new : Memory) → judged c m ≡ accepted → count ≡ hit_count c.kinds → new ≡ filled s c m
+  -- where the settings are the base's
+  pub done-outcome : {set : Settings} {count : ℕ} {new : Memory} → set ≡ s → judged c m ≡ accepted → count ≡ hit_count c.kinds → new ≡ filled set c m
       → outcome (Ok count) new ≡ encode_outcome s c m
   unfolding encode_outcome
-  done-outcome count new h e f = answered-done _ _ m h (λ t. outcome (Ok (e t)) (f t))
+  done-outcome b h e f = answered-done _ _ m h (λ t. outcome (Ok (e t)) ((rw b at f) t))
 
   -- the memory that the passes leave is the definition's
   pub filled_is : {new : Memory} {scratch : List Float} → new ≡ encoded_kinds s.limit c.kinds (with_scratch m [])
@@ -84,7 +76,7 @@ scratch_room c m h = (accommodated c (answer_lengths m) _ _ h).floats
 -- ---- what an accepted call writes, place by place
 module _ (s : Settings) (c : Chart) (lent : Memory) (good : judged c lent ≡ accepted) where
   left : (encode_outcome s c lent).memory ≡ filled s c lent
-  left = rw (← done-outcome s c lent _ (filled s c lent) good refl refl)
+  left = rw (← done-outcome s c lent refl good refl refl)
 
   pub hit-written : (i : ℕ) → i < size c → get_or (encode_outcome s c lent).memory.hit i 0 ≡ get_or (hit_of c.kinds) i 0
   unfolding filled encoded_kinds

@@ -1,10 +1,13 @@
--- The front of a slice that was written over is what was written.
+-- The front of a slice that numbers were looked up to is what was looked up.
 use mathlib.Core.Path.{◌≡◌, ap, ◌∙◌}
-use mathlib.Core.List.{List}
+use mathlib.Core.List.{List, map}
 use Prim.Native.Nat.{ℕ}
 use lib.ListN.{length, take}
 use Rattle.lent.specs.Over.{over}
+use Rattle.lent.specs.Scan.{gathered}
 use Rattle.lent.proofs.OverLaws.{front}
+use Rattle.lent.proofs.FillLaws.{as_wide, length-gathered}
 
-pub written_front : {numbers new : List ℕ} (old : List ℕ) (n : ℕ) → length numbers ≡ n → new ≡ over numbers old → take n new ≡ numbers
-written_front {numbers} old n e w = ap (take n) w ∙ front numbers old n e
+pub gathered_front : (table idx old : List ℕ) {new : List ℕ} {n : ℕ} → length idx ≡ n → new ≡ over (map (λ (x : ℕ). x) (gathered table idx)) old
+    → take n new ≡ gathered table idx
+gathered_front table idx old {n = n} l e = ap (take n) (as_wide _ _ e) ∙ front (gathered table idx) old n (length-gathered table idx ∙ l)

@@ -1,9 +1,9 @@
 -- The outcomes of record, case by case, over plain lists: a refusal leaves all as lent, and an accepted call has room in both slices and finite deltas.
 use mathlib.Core.Path.{◌≡◌, refl}
 use mathlib.Core.Bool.{Bool, true, false, cond}
-use Prim.Native.Nat.{ℕ, ◌≤◌, ◌<◌}
+use Prim.Native.Nat.{ℕ, ◌<◌}
 use native.Mathlib.Omega.{arith}
-use borrow.Author.Tests.{ltb-true, lt-ltb, le-ltb}
+use borrow.Author.Tests.{ltb-true}
 use lib.Dec.{T, ltb}
 use lib.ListN.{length, get_or}
 use lib.Ieee.{Float, nan}
@@ -13,17 +13,13 @@ use Rattle.lent.proofs.NeverLaws.{never}
 use Rattle.numeric.specs.Range.{earliest, latest}
 use Rattle.numeric.proofs.Values.{finite-between}
 use Rattle.grouping_chart.specs.Chart.{Chart, size}
-use Rattle.grouping_chart.specs.Refusal.{passed, Verdict, accepted, at_0, time_good, verdict}
-use Rattle.grouping_chart.specs.Room.{short_refusal}
+use Rattle.grouping_chart.specs.Refusal.{passed, accepted, time_good}
 use Rattle.grouping_chart.specs.Outcome.{outcome}
 use Rattle.grouping_chart.specs.Settings.{Settings}
-use Rattle.grouping_chart.specs.declared.refusal.Reason.{Reason}
 use Rattle.grouping_chart.specs.declared.refusal.Reason.TheVariants.{BadWindow, OutOfRange}
-use Rattle.grouping_chart.specs.declared.refusal.Refusal.{Refusal}
 use Rattle.grouping_chart.proofs.RangeLaws.{time_range}
-use Rattle.grouping_chart.proofs.OutcomeLaws.{verdict-judged, accommodated, chart-refused, nothing-refused, then-refused, answered-refused, answered-done}
-use Rattle.grouping_chart.proofs.RoomLaws.{none_asked}
-use Rattle.call_rhythm.proofs.TablesLaws.{accepted-tables}
+use Rattle.grouping_chart.proofs.OutcomeLaws.{accommodated, nothing-refused, answered-done}
+use Rattle.call_rhythm.proofs.TablesLaws.{accepted-tables, groups-counted}
 use Rattle.call_record.specs.declared.GroupRecord.{GroupRecord}
 use Rattle.call_record.specs.Record.{record_at}
 use Rattle.call_record.specs.Call.{Memory, answer_lengths, judged, window_good, record_refusal, cleared, groups_of, record_outcome}
@@ -35,29 +31,16 @@ finite_time x t =
     let b = time_range x t in
     finite-between earliest x latest tt tt b.0 b.1
 
--- ---- the verdict, from what `judge` answered
-pub told : (c : Chart) (m : Memory) {v u : Verdict} → v ≡ verdict c (short_refusal false (size c) (length m.work) (length m.scratch)) → v ≡ u → judged c m ≡ u
-told c m = verdict-judged c (answer_lengths m) _ _ (none_asked (size c))
-
 -- ---- what is known of an accepted call
 pub lengths_same : (c : Chart) (m : Memory) → judged c m ≡ accepted → length c.deltas ≡ size c
 lengths_same c m h = (accommodated c (answer_lengths m) _ _ h).chart.lengths.delta
 
 -- ---- what is refused after the chart
 
+-- the groups are counted by the notes' deltas
+pub ruleset counts = (groups-counted)
+
 module _ (window : Float) (g groups : ℕ) where
-  pub window_refused : window_good window ≡ false → Err BadWindow ≡ record_refusal window g groups
-  unfolding record_refusal
-  window_refused h = rw h
-
-  pub group-refused : window_good window ≡ true → groups ≤ g → Err OutOfRange ≡ record_refusal window g groups
-  unfolding record_refusal
-  group-refused h k = rw (h, le-ltb g groups k)
-
-  pub neither_refused : window_good window ≡ true → g < groups → passed ≡ record_refusal window g groups
-  unfolding record_refusal
-  neither_refused h k = rw (h, lt-ltb g groups k)
-
   group-below : record_refusal window g groups ≡ passed → g < groups
   unfolding record_refusal
   group-below e = go (window_good window) (ltb g groups) refl e
@@ -67,31 +50,21 @@ module _ (window : Float) (g groups : ℕ) where
       go true false q e = never (cc)
       go false below q e = never (cc)
 
--- ---- each case leaves its outcome
+-- ---- nothing is refused
+module _ (s : Settings) (c : Chart) (m : Memory) (g : ℕ) (window : Float) (taken : judged c m ≡ accepted)
+    (none : record_refusal window g (groups_of s c) ≡ passed) where
+  pub group_room : GroupRoom s.margin c.kinds c.starts c.deltas g m.work m.scratch
+  group_room =
+      let r = accommodated c (answer_lengths m) _ _ taken in
+      let good = r.chart in
+      record {
+        tables = accepted-tables m.work m.scratch r;
+        numbers = λ i k. finite_time (get_or c.deltas i nan) (good.objects i nan (omega (arith, good.lengths.delta))).delta;
+        there = group-below window g (groups_of s c) none;
+      }
 
-module _ (s : Settings) (c : Chart) (m : Memory) (g : ℕ) (window : Float) where
-  pub outcome-refused : {first : Refusal} → judged c m ≡ Err first → outcome (Err first) m ≡ record_outcome s c g window m
+  -- where the settings are the base's
+  pub outcome-done : {base : Settings} {r : GroupRecord} {new : Memory} → s ≡ base → r ≡ record_at s c.kinds c.starts c.deltas g window
+      → new ≡ cleared (size c) m → outcome (Ok r) new ≡ record_outcome base c g window m
   unfolding record_outcome
-  outcome-refused h = answered-refused _ _ m (chart-refused _ h)
-
-  -- the chart is accepted, and the window and the group number are tested
-  module _ (taken : judged c m ≡ accepted) where
-    pub asked_refused : {r : Reason} → record_refusal window g (groups_of s c) ≡ Err r → outcome (Err (at_0 r)) m ≡ record_outcome s c g window m
-    unfolding record_outcome
-    asked_refused e = answered-refused _ _ m (then-refused _ taken e)
-
-    module _ (none : record_refusal window g (groups_of s c) ≡ passed) where
-      pub group_room : GroupRoom s.margin c.kinds c.starts c.deltas g m.work m.scratch
-      group_room =
-          let r = accommodated c (answer_lengths m) _ _ taken in
-          let good = r.chart in
-          record {
-            tables = accepted-tables m.work m.scratch r;
-            numbers = λ i k. finite_time (get_or c.deltas i nan) (good.objects i nan (omega (arith, good.lengths.delta))).delta;
-            there = group-below window g (groups_of s c) none;
-          }
-
-      pub outcome-done : (r : GroupRecord) (new : Memory) → r ≡ record_at s c.kinds c.starts c.deltas g window → new ≡ cleared (size c) m
-          → outcome (Ok r) new ≡ record_outcome s c g window m
-      unfolding record_outcome
-      outcome-done r new a b = answered-done _ _ m (nothing-refused _ taken none) (λ t. outcome (Ok (a t)) (b t))
+  outcome-done b d f = rw (← b) (answered-done _ _ m (nothing-refused _ taken none) (λ t. outcome (Ok (d t)) (f t)))

@@ -47,6 +47,7 @@ fn window_good(window: f64) -> bool
 
 // Whether window and group number are good for an accepted chart. A window that is not good is refused, then a number
 // that no group has.
+#[tactic(auto, unfolding(crate::specs::Call::record_refusal), using(crate::proofs::CallLaws::counts))]
 fn record_refusal(
     kind: &[u8],
     delta: &[f64],

@@ -1,10 +1,9 @@
 -- The outcome of rhythm, case by case, over plain lists: a refusal leaves all as lent, and an accepted call has room in every slice.
 use mathlib.Core.Path.{◌≡◌, refl, ◌∙◌}
-use mathlib.Core.Bool.{true, ◌||◌}
+use mathlib.Core.Bool.{true}
 use Prim.Native.Nat.{ℕ, ◌<◌}
 use native.Mathlib.Omega.{arith}
-use lib.Dec.{ltb}
-use lib.ListN.{length, get_or}
+use lib.ListN.{get_or}
 use Rattle.grouping_marks.specs.Marks.{group_numbers}
 use Rattle.lent.proofs.PieceLaws.{get_or-over}
 use Rattle.grouping_chart.specs.Object.{is_note, note_idx}
@@ -12,25 +11,17 @@ use Rattle.grouping_interval.specs.Notes.{of_notes}
 use Rattle.grouping_chart.specs.Chart.{Chart, size}
 use Rattle.grouping_chart.specs.Outcome.{outcome}
 use Rattle.grouping_chart.specs.Settings.{Settings}
-use Rattle.grouping_chart.proofs.OutcomeLaws.{verdict-judged, accommodated, answered-done}
+use Rattle.grouping_chart.proofs.OutcomeLaws.{accommodated, answered-done}
 use Rattle.grouping_interval.specs.IntervalGrouping.{interval_marks}
 use Rattle.grouping_same_rhythm.proofs.MadeLaws.{rhythm_marks_made}
 use Rattle.std.specs.Prelude.{Ok}
-use Rattle.grouping_chart.specs.Refusal.{Verdict, accepted, verdict}
-use Rattle.grouping_chart.specs.Room.{short_refusal}
-use Rattle.grouping_chart.proofs.RoomLaws.{short_joined}
+use Rattle.grouping_chart.specs.Refusal.{accepted}
 use Rattle.call_rhythm.specs.declared.tables.GroupCounts.{GroupCounts}
 use Rattle.call_rhythm.specs.Rhythm.{note_group, group_of, counts_of}
 use Rattle.call_rhythm.specs.Call.{Memory, answer_lengths, judged, filled, totals, rhythm_outcome}
 use Rattle.call_rhythm.specs.passes.Tables.{GroupsRoom}
 use Rattle.call_rhythm.proofs.TablesLaws.{accepted-tables}
 use Rattle.call_rhythm.proofs.PerNoteLaws.{length_per_note, per_note_at}
-
--- the verdict, from what `judge` answered
-pub told : (c : Chart) (m : Memory) {v u : Verdict}
-    → v ≡ verdict c (short_refusal (ltb (length m.group) (size c) || ltb (length m.pattern) (size c)) (size c) (length m.work) (length m.scratch)) → v ≡ u
-    → judged c m ≡ u
-told c m = verdict-judged c (answer_lengths m) _ _ (short_joined (size c) _ _)
 
 -- an accepted call has room
 pub rhythm_room : (c : Chart) (m : Memory) → judged c m ≡ accepted → GroupsRoom c.kinds c.starts c.deltas m
@@ -41,14 +32,14 @@ rhythm_room c m h =
 -- ---- each case leaves its outcome
 
 module _ (s : Settings) (c : Chart) (m : Memory) where
-  -- the counts and the memory that the passes leave are the definition's
-  pub rhythm-done : (k : GroupCounts) (new : Memory) → judged c m ≡ accepted → k ≡ counts_of s.margin c.kinds c.starts c.deltas
-      → new ≡ filled s c.kinds c.starts c.deltas m → outcome (Ok (totals k)) new ≡ rhythm_outcome s c m
+  -- the counts and the memory that the passes leave are the definition's, where the settings are the base's
+  pub rhythm-done : {set : Settings} {k : GroupCounts} {new : Memory} → set ≡ s → judged c m ≡ accepted → k ≡ counts_of set.margin c.kinds c.starts c.deltas
+      → new ≡ filled set c.kinds c.starts c.deltas m → outcome (Ok (totals k)) new ≡ rhythm_outcome s c m
   unfolding rhythm_outcome
-  rhythm-done k new h e f = answered-done _ _ m h (λ t. outcome (Ok (totals (e t))) (f t))
+  rhythm-done b h e f = rw (← b) (answered-done _ _ m h (λ t. outcome (Ok (totals (e t))) (f t)))
 
   left : judged c m ≡ accepted → (rhythm_outcome s c m).memory ≡ filled s c.kinds c.starts c.deltas m
-  left h = rw (← rhythm-done _ _ h refl refl)
+  left h = rw (← rhythm-done refl h refl refl)
 
   -- what an accepted call writes for an object that is a note: the group of its note, by the notes' deltas
   pub group-written : judged c m ≡ accepted → (o : ℕ) → o < size c → is_note (get_or c.kinds o 0) ≡ true

@@ -18,7 +18,6 @@ use Rattle.grouping_marks.proofs.MarksLaws.{length-firsts as length-firsts-of}
 use Rattle.grouping_marks.proofs.NumberLaws.{number_last}
 use Rattle.grouping_interval.specs.IntervalGrouping.{interval_marks}
 use Rattle.grouping_interval.specs.GroupByInterval.{GroupedByInterval}
-use Rattle.grouping_interval.specs.passes.Rooms.{ValuesRoom}
 use Rattle.grouping_interval.proofs.IntervalLaws.{length_marks}
 use Rattle.grouping_same_rhythm.specs.SameRhythm.{firsts_of, starts_of, intervals_of}
 use Rattle.grouping_same_rhythm.specs.passes.Groups.{IntervalsRoom}
@@ -159,13 +158,6 @@ module _ {starts : List Float} {n groups : ℕ} {work : List ℕ} {scratch₀ : 
 
       pub values-lent : groups ≤ length scratch
       values-lent = omega (arith, ap length filled, length-over intervals scratch₀ (omega (arith, length_all, r.most, r.floats)), r.most, r.floats)
-
-      pub groups-places : ValuesRoom (take groups scratch) (take (3 * n + groups - 3 * n) (drop (3 * n) work))
-      groups-places =
-          let l : length (take groups scratch) ≡ groups = length-take-le groups scratch values-lent in
-          let p : length (take (3 * n + groups - 3 * n) (drop (3 * n) work)) ≡ groups =
-          ap length (lent-part (3 * n) groups work) ∙ length-part (3 * n) groups work (omega (arith, r.most, r.regions)) in
-          record { few = omega (arith, r.few, r.most); room = omega arith }
 
       pub groups_numbered : (region : List ℕ) (count : ℕ)
           → GroupedByInterval margin (take groups scratch) (take (3 * n + groups - 3 * n) (drop (3 * n) work)) region count

@@ -2,7 +2,7 @@
 -- counts the notes among them; of the second: the first i numbers are looked up, and the table, which lies behind them, is as it was.
 use mathlib.Core.Path.{◌≡◌, sym, ◌∙◌}
 use mathlib.Core.Logic.{inr}
-use mathlib.Core.Bool.{Bool, true, false, cond}
+use mathlib.Core.Bool.{true, cond}
 use mathlib.Core.List.{List, []}
 use Prim.Native.Nat.{ℕ, ◌+◌, ◌≤◌, ◌<◌}
 use native.Mathlib.Omega.{arith}
@@ -19,14 +19,6 @@ use Rattle.grouping_chart.specs.Object.{is_note, note_idx}
 use Rattle.grouping_chart.proofs.ObjectLaws.{seen₀, seen_after, seen_few, notes_turn, note_idx_seen}
 use Rattle.call_rhythm.specs.passes.Tables.{SpreadRoom, by_object}
 use Rattle.call_rhythm.proofs.PerNoteLaws.{note_below, length_per_note, per_note_at, same_where}
-
--- ---- one object's number
-
-pub note_number : (b : Bool) (x : ℕ) → b ≡ true → x ≡ cond b x 65535
-note_number b x e = rw e
-
-pub no_number : (b : Bool) (x : ℕ) → b ≡ false → 65535 ≡ cond b x 65535
-no_number b x e = rw e
 
 -- ---- numbers spread over objects
 
@@ -63,6 +55,8 @@ module _ {kinds numbers out₀ out : List ℕ} {next i : ℕ} (x : Spread kinds 
   pub spread_end : length kinds ≤ i → out ≡ over (by_object numbers kinds) out₀
   spread_end h = fill_end_front x.fill h
 
+pub ruleset spreads = (spread_within, spread_few, spread_end)
+
 -- ---- numbers looked up
 
 module _ (table xs : List ℕ) where
@@ -89,3 +83,5 @@ module _ (table xs : List ℕ) {w : List ℕ} {i : ℕ} (x : Looked table xs w i
       fill_end_front x h
       ∙ sym (take_all (length xs) (over (gathered table xs) xs) (omega (arith, length-over (gathered table xs) xs (omega arith))))
       ∙ front (gathered table xs) xs (length xs) l
+
+pub ruleset looks = (looked_below, looked_turn, looked_end)

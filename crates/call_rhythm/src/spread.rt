@@ -27,6 +27,7 @@ fn number_of(kind: u8, numbers: &[u16], next: NoteIndex) -> u16
 
 // Gives each object the number of its note. The loop goes by the place: what a write through `out.iter_mut()` in a zip
 // leaves is unknown to a proof. It is no `fill::by_place`, since it carries the number of the next note.
+#[tactic(auto, using(crate::proofs::SpreadLaws::spreads))]
 pub fn spread(kind: &[u8], numbers: &[u16], out: &mut [u16])
     requires { SpreadRoom kind.now numbers.now out.old }
     ensures { out.new ≡ over (by_object numbers.now kind.now) out.old }
@@ -39,6 +40,7 @@ pub fn spread(kind: &[u8], numbers: &[u16], out: &mut [u16])
 }
 
 // Puts in each number's place what the table has at it.
+#[tactic(auto, using(crate::proofs::SpreadLaws::looks))]
 pub fn look_up(numbers: &mut [u16], table: &[u16])
     requires { AllBelow numbers.old (length table.now) }
     ensures { numbers.new ≡ gathered table.now numbers.old }

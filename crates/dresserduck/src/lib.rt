@@ -52,6 +52,7 @@ impl From<Result<usize, Refusal>> for Built {
 }
 
 #[unsafe(no_mangle)]
+#[tactic(auto, unfolding(crate::specs::Host::for_host))]
 pub extern "C" fn dresserduck_build(
     kind: &[u8],
     time: &[f64],
@@ -98,6 +99,7 @@ impl From<Result<usize, Refusal>> for Encoded {
 }
 
 #[unsafe(no_mangle)]
+#[tactic(auto, unfolding(crate::specs::Host::for_host))]
 pub extern "C" fn dresserduck_encode(
     kind: &[u8],
     start: &[f64],
@@ -163,6 +165,7 @@ impl From<Result<(), Refusal>> for Coloured {
 }
 
 #[unsafe(no_mangle)]
+#[tactic(auto, unfolding(crate::specs::Host::for_host))]
 pub extern "C" fn dresserduck_colour(
     kind: &[u8],
     start: &[f64],
@@ -216,6 +219,7 @@ impl From<Result<StretchMean, Refusal>> for Stretched {
 }
 
 #[unsafe(no_mangle)]
+#[tactic(auto, unfolding(crate::specs::Host::for_host))]
 pub extern "C" fn dresserduck_stretch(
     kind: &[u8],
     start: &[f64],
@@ -271,6 +275,7 @@ impl From<Result<GroupTotals, Refusal>> for Grouped {
 }
 
 #[unsafe(no_mangle)]
+#[tactic(auto, unfolding(crate::specs::Host::for_host))]
 pub extern "C" fn dresserduck_rhythm(
     kind: &[u8],
     start: &[f64],
@@ -353,6 +358,7 @@ impl From<Result<GroupRecord, Refusal>> for Recorded {
 }
 
 #[unsafe(no_mangle)]
+#[tactic(auto, unfolding(crate::specs::Host::for_host))]
 pub extern "C" fn dresserduck_record(
     kind: &[u8],
     start: &[f64],

@@ -1,23 +1,23 @@
 -- The verdict on a call, what it refuses after its chart, and the two cases of what it comes to. The calls cite these.
-use mathlib.Core.Path.{◌≡◌, refl, sym, ◌∙◌}
-use mathlib.Core.Bool.{Bool}
+use mathlib.Core.Path.{◌≡◌, sym, ◌∙◌}
+use mathlib.Core.Bool.{false}
 use mathlib.Core.List.{List}
 use Prim.Native.Nat.{ℕ, ◌*◌, ◌≤◌}
 use Rattle.std.specs.Prelude.{Result, Ok, Err}
-use Rattle.lent.proofs.NeverLaws.{never}
 use Rattle.grouping_chart.specs.Chart.{Chart, size}
 use Rattle.grouping_chart.specs.Refusal.{Check, passed, Verdict, accepted, refused, verdict}
-use Rattle.grouping_chart.specs.Room.{any_short, short_refusal, refusal_beside}
+use Rattle.grouping_chart.specs.Room.{short_refusal, refusal_beside}
 use Rattle.grouping_chart.specs.Outcome.{Outcome, outcome, refused_then, answered}
 use Rattle.grouping_chart.specs.declared.refusal.Reason.{Reason}
 use Rattle.grouping_chart.specs.declared.refusal.Refusal.{Refusal}
-use Rattle.grouping_chart.proofs.AcceptedLaws.{GoodChart, accepted_good, none_refused}
-use Rattle.grouping_chart.proofs.RoomLaws.{AllLong, roomy, all_long}
+use Rattle.grouping_chart.proofs.AcceptedLaws.{GoodChart, accepted_good}
+use Rattle.grouping_chart.proofs.RoomLaws.{AllLong, roomy, all_long, joined, short_joined}
 
--- from whether an answer slice is short, and what `judge` answered
-pub verdict-judged : (c : Chart) (answers : List ℕ) (work scratch : ℕ) {short : Bool} {v u : Verdict} → short ≡ any_short (size c) answers
-    → v ≡ verdict c (short_refusal short (size c) work scratch) → v ≡ u → verdict c (refusal_beside (size c) answers work scratch) ≡ u
-verdict-judged c answers work scratch e f g = rw (← e) (sym f ∙ g)
+-- the verdict, from what `judge` answered on the tests of the answer slices
+pub judged-told : (c : Chart) (answers : List ℕ) (work scratch : ℕ) {v u : Verdict}
+    → v ≡ verdict c (short_refusal (joined (size c) false answers) (size c) work scratch) → v ≡ u
+    → verdict c (refusal_beside (size c) answers work scratch) ≡ u
+judged-told c answers work scratch e f = rw (← short_joined (size c) answers) (sym e ∙ f)
 
 -- an accepted call: its chart is good, and every slice has room for its objects
 pub record Accommodated (c : Chart) (answers : List ℕ) (work scratch : ℕ) : Type 0 where
@@ -48,22 +48,12 @@ module _ {v : Verdict} (asked : Check) where
   unfolding refused_then
   then-refused h e = rw (h, e)
 
--- neither is refused
-pub record BothAccepted (v : Verdict) (asked : Check) : Type 0 where
-  pub chart : v ≡ accepted
-  pub none : asked ≡ passed
-
-pub both-accepted : (v : Verdict) (asked : Check) → refused_then v asked ≡ accepted → BothAccepted v asked
-unfolding refused_then
-both-accepted (Ok done) asked e = record { chart = refl; none = (none_refused asked _ _ e).0 }
-both-accepted (Err first) asked e = never (cc)
-
 -- ---- what a call comes to
 
 module _ {Answer Memory : Type 0} {v : Verdict} (answer : Answer) (filled lent : Memory) where
-  pub answered-refused : {first : Refusal} → v ≡ Err first → outcome (Err first) lent ≡ answered v answer filled lent
+  pub answered-refused : {first : Refusal} {r : Result Answer Refusal} → v ≡ Err first → r ≡ Err first → outcome r lent ≡ answered v answer filled lent
   unfolding answered
-  answered-refused h = rw h
+  answered-refused h e = rw (e, h)
 
   pub answered-done : {o : Outcome (Result Answer Refusal) Memory} → v ≡ accepted → o ≡ outcome (Ok answer) filled → o ≡ answered v answer filled lent
   unfolding answered

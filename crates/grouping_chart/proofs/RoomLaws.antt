@@ -54,10 +54,5 @@ unfolding any_short
 joined_short n found [] = sym (or-false found)
 joined_short n found (l ∷ ls) = joined_short n (found || ltb l n) ls ∙ or_assoc found (ltb l n) (any_short n ls)
 
-pub short_joined : (n l : ℕ) (ls : List ℕ) → joined n (ltb l n) ls ≡ any_short n (l ∷ ls)
-unfolding any_short
-short_joined n l ls = joined_short n (ltb l n) ls
-
-pub none_asked : (n : ℕ) → false ≡ any_short n []
-unfolding any_short
-none_asked n = refl
+pub short_joined : (n : ℕ) (ls : List ℕ) → joined n false ls ≡ any_short n ls
+short_joined n ls = joined_short n false ls

@@ -1,6 +1,6 @@
--- Answers that tell whether something holds: of a false one, of a true one, of some put together, and of the same said in other words.
-use mathlib.Core.Path.{◌≡◌, refl, ◌∙◌, subst}
-use mathlib.Core.Bool.{Bool, true, false, ◌&&◌}
+-- Answers that tell whether something holds: of a false one, of a true one, and of the same said in other words.
+use mathlib.Core.Path.{◌≡◌, refl, subst}
+use mathlib.Core.Bool.{Bool, true, false}
 use Prim.Native.Nat.{ℕ}
 use borrow.Author.Tests.{eqb-true, eq-eqb}
 use lib.Dec.{eqb}
@@ -12,11 +12,6 @@ denied f = (λ e. never (cc), λ p. absurd (f p))
 
 pub granted : {P : Type 0} → P → Tells true P
 granted p = (λ e. p, λ q. refl)
-
-pub tells_both : {P Q : Type 0} (a b : Bool) {r : Bool} → r ≡ (a && b) → Tells a P → Tells b Q → Tells r (P × Q)
-tells_both true true e t u = (λ h. (t.0 refl, u.0 refl), λ p. e)
-tells_both true false e t u = (λ h. never (cc), λ p. e ∙ u.1 p.1)
-tells_both false b e t u = (λ h. never (cc), λ p. e ∙ t.1 p.0)
 
 pub tells_as : {P Q : Type 0} {r : Bool} → (P → Q) → (Q → P) → Tells r P → Tells r Q
 tells_as f g t = (λ e. f (t.0 e), λ q. t.1 (g q))

@@ -1,17 +1,7 @@
 -- `fill_chart` meets its contract: the values by the encoder's tables, which are then cleared.
-use Rattle.evaluator_values.proofs.TablesLaws.{tabled}
 use Rattle.call_colour.specs.Call.{memory}
 use Rattle.call_colour.proofs.FilledLaws.{filled_is}
 use Rattle.call_colour.proofs.fill_chart.Goals as goal
-
-pub fill_values-requires : goal.fill_values-requires
-fill_values-requires c =
-    let room = c.requires in
-    record {
-      sources =
-          record { tabled = tabled room.regions c.encode_levels-k.ensures.tables; ratio = room.ratio };
-      room = room.values;
-    }
 
 pub returns : goal.returns
 returns c =

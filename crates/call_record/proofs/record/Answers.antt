@@ -1,49 +1,37 @@
 -- The verdict of the definition is the one that the tests gave, and each case leaves its outcome.
-use Rattle.std.proofs.Common.{◌≡◌, sym, ◌∙◌, ap, Err, rules}
+use Rattle.std.proofs.Common.{◌≡◌, sym, ◌∙◌, rules}
 use Rattle.grouping_chart.specs.Lent.{seen}
-use Rattle.grouping_chart.specs.Refusal.{at_0}
-use Rattle.grouping_chart.specs.Settings.{base_settings}
-use Rattle.grouping_chart.specs.Outcome.{outcome}
-use Rattle.call_record.specs.Call.{memory}
-use Rattle.call_record.proofs.CallLaws.{told, lengths_same, outcome-refused, asked_refused, group_room, outcome-done}
+use Rattle.grouping_chart.specs.Refusal.{accepted}
+use Rattle.grouping_chart.proofs.OutcomeLaws.{judged-told, chart-refused, then-refused, answered-refused}
+use Rattle.call_record.specs.Call.{judged, memory, record_outcome}
+use Rattle.call_record.proofs.CallLaws.{lengths_same, group_room, outcome-done}
+use Rattle.call_record.proofs.record.Goals.{In_ok-judge}
 use Rattle.call_record.proofs.record.Goals as goal
 
+-- the chart is accepted
+taken : (c : In_ok-judge) → judged (seen c.args.chart) (memory c.args.work.now c.args.scratch.now) ≡ accepted
+taken c = judged-told _ _ _ _ c.judge.ensures c.in_ok-judge.was
+
 pub returns-in_err-judge : goal.returns-in_err-judge
+unfolding record_outcome
 returns-in_err-judge c =
-    let a = c.args in
-    let m = memory a.work.now a.scratch.now in
-    let judged = told (seen a.chart) m c.judge.ensures c.in_err-judge.was in
-    let same : c.from_residual.result ≡ Err c.in_err-judge.field-0.0 = search rules in
-    ap (λ r. outcome r m) same ∙ outcome-refused base_settings (seen a.chart) m a.group a.window judged
+    answered-refused _ _ _ (chart-refused _ (judged-told _ _ _ _ c.judge.ensures c.in_err-judge.was)) (search rules)
 
 pub record_refusal-requires : goal.record_refusal-requires
-record_refusal-requires c =
-    let a = c.args in
-    let m = memory a.work.now a.scratch.now in
-    lengths_same (seen a.chart) m (told (seen a.chart) m c.judge.ensures c.in_ok-judge.was)
+record_refusal-requires c = lengths_same _ _ (taken (goal.at.record_refusal-requires c).In_ok-judge)
 
 pub returns-in_err-record_refusal : goal.returns-in_err-record_refusal
+unfolding record_outcome
 returns-in_err-record_refusal c =
-    let a = c.args in
-    let m = memory a.work.now a.scratch.now in
-    let judged = told (seen a.chart) m c.judge.ensures c.in_ok-judge.was in
-    let asked = sym c.record_refusal.ensures ∙ c.in_err-record_refusal.was in
-    let same : c.from_residual-in_err-record_refusal.result ≡ Err (at_0 c.in_err-record_refusal.field-0.0) = search rules in
-    ap (λ r. outcome r m) same
-    ∙ rw c.base-s.ensures at (asked_refused c.base-s.result (seen a.chart) m a.group a.window judged asked)
+    let asked = rw c.base-s.ensures at (sym c.record_refusal.ensures ∙ c.in_err-record_refusal.was) in
+    answered-refused _ _ _ (then-refused _ (judged-told _ _ _ _ c.judge.ensures c.in_ok-judge.was) asked) (search rules)
 
 pub make_record-requires : goal.make_record-requires
 make_record-requires c =
-    let a = c.args in
-    let m = memory a.work.now a.scratch.now in
-    let judged = told (seen a.chart) m c.judge.ensures c.in_ok-judge.was in
-    group_room c.base-s.result (seen a.chart) m a.group a.window judged (sym c.record_refusal.ensures ∙ c.in_ok-record_refusal.was)
+    group_room c.base-s.result _ _ _ _ (taken (goal.at.make_record-requires c).In_ok-judge) (sym c.record_refusal.ensures ∙ c.in_ok-record_refusal.was)
 
 pub returns : goal.returns
 returns c =
-    let a = c.args in
-    let m = memory a.work.now a.scratch.now in
-    let judged = told (seen a.chart) m c.judge.ensures c.in_ok-judge.was in
-    let none = sym c.record_refusal.ensures ∙ c.in_ok-record_refusal.was in
     let made = c.make_record.ensures in
-    rw c.base-s.ensures at (outcome-done c.base-s.result (seen a.chart) m a.group a.window judged none _ _ made.made made.cleared)
+    let none = sym c.record_refusal.ensures ∙ c.in_ok-record_refusal.was in
+    outcome-done c.base-s.result _ _ _ _ (taken (goal.at.returns c).In_ok-judge) none c.base-s.ensures made.made made.cleared

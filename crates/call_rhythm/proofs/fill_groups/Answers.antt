@@ -7,12 +7,8 @@ fill_answers-requires c =
     let t = c.group_notes-k.ensures in
     tables_there c.args.s c.requires t.count t.work t.scratch
 
-pub returns : goal.returns
-returns c =
+pub returns-clause-filled : goal.returns-clause-filled
+returns-clause-filled c =
     let t = c.group_notes-k.ensures in
     let e = c.fill_answers.ensures in
-    record {
-      counts = t.count;
-      filled =
-          filled_is c.args.s c.requires t.count t.work t.scratch e.group e.pattern e.work c.front.ensures c.front-2.ensures;
-    }
+    filled_is c.args.s c.requires t.count t.work t.scratch e.group e.pattern e.work c.front.ensures c.front-2.ensures

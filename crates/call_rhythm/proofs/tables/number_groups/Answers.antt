@@ -1,23 +1,9 @@
 -- The intervals, as many as the groups, are in front of the scratch slice, and their groups' numbers fill the lent region whole.
-use mathlib.Core.Path.{sym}
-use lib.Seq.{length-take-le}
-use Rattle.call_rhythm.proofs.RegionLaws.{intervals_room, values-lent, groups-places, groups_numbered}
+use Rattle.call_rhythm.proofs.RegionLaws.{intervals_room, groups_numbered}
 use Rattle.call_rhythm.proofs.tables.number_groups.Goals as goal
 
 pub fill_intervals-requires : goal.fill_intervals-requires
 fill_intervals-requires c = intervals_room c.requires
-
-pub slice_bounds-group_by_interval-end : goal.slice_bounds-group_by_interval-end
-slice_bounds-group_by_interval-end c =
-    values-lent c.requires c.args.margin c.fill_intervals.ensures
-
-pub slice_bounds-group_by_interval-end-2 : goal.slice_bounds-group_by_interval-end-2
-slice_bounds-group_by_interval-end-2 c =
-    sym (length-take-le _ _ (values-lent c.requires c.args.margin c.fill_intervals.ensures))
-
-pub group_by_interval-requires : goal.group_by_interval-requires
-group_by_interval-requires c =
-    groups-places c.requires c.args.margin c.fill_intervals.ensures
 
 pub returns : goal.returns
 returns c =
