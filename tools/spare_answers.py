@@ -10,6 +10,8 @@ import sys
 
 ANSWER = re.compile(r"pub (\S+) : goal\.\S+$")
 ASKED = re.compile(r"note: `(\S+)` of (proofs/\S+Answers\.antt) must prove")
+OPEN = re.compile(r"note: src/.*\(`(\S+)`\)")
+JUDGED = re.compile(r"fn ([^:]+)::(\S+): (not proved|proved)")
 
 
 def blocks(text):
@@ -32,9 +34,24 @@ def write(files, kept):
         path.write_text("\n".join(lines).rstrip("\n") + "\n")
 
 
+def asked_in(output, answers):
+    """The answers that the check asks for: by its notes on a proof file, or on a function that it then calls not proved.
+    A goal of several clauses is asked for clause by clause."""
+    asked, goals = ASKED.findall(output), []
+    for line in output.splitlines():
+        note, judged = OPEN.match(line), JUDGED.match(line)
+        if note:
+            goals.append(note.group(1))
+        if judged and judged.group(3) == "not proved":
+            asked += [(goal, f"proofs/{judged.group(2).replace('::', '/')}/Answers.antt") for goal in goals]
+        goals = [] if judged else goals
+    wanted = {(path, goal.split("-clause-")[0]) for goal, path in asked} | {(path, goal) for goal, path in asked}
+    return {(path, name) for path, name in answers if any(str(path).endswith(file) and name == goal for file, goal in wanted)}
+
+
 def check(crate):
     run = subprocess.run(["rt", "check"], cwd=crate, capture_output=True, text=True)
-    return run.returncode == 0, [(crate / path, name) for name, path in ASKED.findall(run.stdout + run.stderr)]
+    return run.returncode == 0, run.stdout + run.stderr
 
 
 def main():
@@ -44,8 +61,8 @@ def main():
     kept, proved = set(), False
     while not proved:
         write(files, kept)
-        proved, asked = check(crate)
-        back = answers.intersection(asked) - kept
+        proved, output = check(crate)
+        back = asked_in(output, answers) - kept
         kept |= back
         if not proved and not back:
             write(files, answers)

@@ -6,26 +6,16 @@ use native.Mathlib.Omega.{arith}
 use lib.ListN.{length, get_or}
 use lib.Ieee.{Float, nan, binary64, mul}
 use Rattle.lent.proofs.FillLaws.{length-gathered, get_or-gathered}
-use Rattle.grouping_preprocessor.specs.Preprocessor.{hit_intervals}
 use Rattle.grouping_colour.proofs.StreakListLaws.{length-streak_of}
-use Rattle.grouping_preprocessor.specs.passes.Steps.{Regions}
-use Rattle.grouping_preprocessor.specs.passes.Steps as steps
 use Rattle.grouping_preprocessor.specs.passes.LookUps.{streaks, streak_places, patterns, pattern_places, hits, intervals, TablesOf}
-use Rattle.grouping_preprocessor.specs.declared.Levels.{Levels}
 use Rattle.grouping_preprocessor.specs.declared.tables.Tables.{Tables}
 use Rattle.grouping_preprocessor.proofs.LookUpsLaws.{streak_places_are, patterns_are, pattern_places_are, hits_are, intervals_are, linked}
 use Rattle.evaluator_colour.specs.Formulas.{object_sum}
 use Rattle.evaluator_colour.specs.RatioPenalty.{ratio_penalty}
 use Rattle.evaluator_values.specs.Colour.{is_first, standing_at, colour_at}
-use Rattle.evaluator_values.specs.passes.Tables.{Tabled, ObjectIn, NumbersAt, looked_up, looked_colour}
+use Rattle.evaluator_values.specs.passes.Tables.{ObjectIn, NumbersAt, looked_up, looked_colour}
 use Rattle.evaluator_values.specs.declared.Numbers.{Numbers}
 use Rattle.evaluator_values.proofs.StandingLaws.{same_standing}
-
--- ---- the encoder's answer says where its tables lie
-pub tabled : {limit : ℕ} {kinds w₀ w : List ℕ} {k : Levels} → Regions (length kinds) w₀ → steps.Tables limit kinds w₀ w k → Tabled kinds w k
-tabled {limit} {kinds} r t =
-    let found = t.interval ∙ ap (λ (l : ℕ). hit_intervals l kinds) (sym t.searched) in
-    record { regions = record { few = r.few; room = omega (arith, r.room, t.outside.same) }; tables = search found }
 
 -- ---- what is looked up
 module _ {t : Tables} {i : ℕ} (o : ObjectIn t i) where

@@ -201,9 +201,6 @@ pub record Counts (margin : Float) (ks : List ℕ) (ds : List Float) (s : Option
   pub few : FewOf s i
   pub upto : i ≤ length ks
 
-pub counts-start : (margin : Float) (ks : List ℕ) (ds : List Float) → length ds ≡ length ks → Counts margin ks ds None 0
-counts-start margin ks ds e = record { whole = e; left = refl; few = _; upto = omega arith }
-
 more_few : (margin : Float) (s : Option Counting) (d : Float) (i : ℕ) → FewOf s i → FewOf (counted margin s d) (i + 1)
 unfolding counted counted_first
 more_few margin None d i f = record { groups_le = omega arith; notes_le = omega arith }
