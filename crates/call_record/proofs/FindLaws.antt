@@ -38,6 +38,14 @@ pub record LocatedIs (margin : Float) (kinds : List ℕ) (starts deltas : List F
   pub past : drop (length kinds) scratch ≡ drop (length kinds) scratch₀
   pub same : length scratch ≡ length scratch₀
 
+-- from what `locate` asks and ensures
+pub located_is : {margin : Float} {kinds : List ℕ} {starts deltas : List Float} {g : ℕ} {work₀ work : List ℕ} {scratch₀ scratch : List Float}
+    {r : LocatedGroup} → GroupRoom margin kinds starts deltas g work₀ scratch₀ → r ≡ located_at margin kinds starts deltas g
+    → work ≡ written (notes_writes margin kinds deltas) work₀ → scratch ≡ written (locate_writes margin kinds deltas g) scratch₀
+    → drop (length kinds) scratch ≡ drop (length kinds) scratch₀ → length scratch ≡ length scratch₀
+    → LocatedIs margin kinds starts deltas g work₀ work scratch₀ scratch r
+located_is room at noted settled past same = record { room = room; at = at; noted = noted; settled = settled; past = past; same = same }
+
 module _ {margin : Float} {kinds : List ℕ} {starts deltas : List Float} {g : ℕ} {work₀ work : List ℕ} {scratch₀ scratch₁ : List Float} {r : LocatedGroup}
     (x : LocatedIs margin kinds starts deltas g work₀ work scratch₀ scratch₁ r) where
   tables : TablesRoom kinds starts deltas work₀ scratch₀
