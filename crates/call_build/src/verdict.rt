@@ -58,7 +58,8 @@ fn beside_refusal(short: bool, rate: f64) -> Result<(), Reason>
     Err(Reason::BadRate)
 }
 
-// The verdict on raw objects; `short` says that an answer slice is too short for those that they build.
+// The verdict on raw objects; `short` says that an answer slice is too short for those that they build. The steps are
+// those of `refusal::check`: one function of both would take a limit, lengths and two closures, which is no plainer.
 #[tactic(auto, unfolding(crate::specs::Call::verdict_of))]
 pub fn judge(raw: Raw, rate: f64, short: bool) -> Result<(), Refusal>
     ensures { result ≡ verdict_of rate (raw_seen raw.entry) short }

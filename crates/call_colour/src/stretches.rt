@@ -16,7 +16,8 @@ fn has_note(kind: &[u8]) -> bool
     kind.iter().any(|k| is_note(*k))
 }
 
-// Whether a stretch is good. One where a is not below b or b is above n is refused, then one that has no note.
+// Whether a stretch is good. One where a is not below b or b is above n is refused, then one that has no note. The ends
+// stay two numbers, as C lends them: that they are in order is what is tested.
 #[tactic(auto, unfolding(crate::specs::Stretch::stretch_refusal), using(lent::proofs::PieceLaws::part_pieces))]
 pub fn stretch_refusal(kind: &[u8], a: usize, b: usize) -> Result<(), Reason>
     ensures { result ≡ stretch_refusal kind.now a b }

@@ -21,7 +21,7 @@ pub mod spread;
 pub mod tables;
 
 // How many rhythm groups and pattern groups there are.
-#[derive(Clone, Copy)]
+#[derive(Clone, Copy, PartialEq, Eq)]
 pub struct GroupTotals {
     pub groups: usize,
     pub patterns: usize,

@@ -112,7 +112,7 @@ fn build_formed(m: usize, room: Room) -> bool
     formed(room.case, Call::Build, 8, 8, 10 + 9 * m + 25 * n) && n == m.saturating_sub(2)
 }
 
-// Whether build answers as the case has it, in slices with so many places to spare.
+// Whether build answers as the case has it, in slices with so many places to spare: as in cases_rhythm.
 #[tactic(auto, unfolding(crate::specs::Build::BuildHolds))]
 pub fn holds(case: Case, spare: Spare) -> bool
     ensures { Tells result (BuildHolds case.entry.head case.entry.bytes.now spare.places) }

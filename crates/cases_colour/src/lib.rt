@@ -165,7 +165,7 @@ fn colour_formed(room: Room) -> bool
     formed(room.case, Call::Colour, 1, 2, size)
 }
 
-// Whether colour answers as the case has it, in slices with so many places to spare.
+// Whether colour answers as the case has it, in slices with so many places to spare: as in cases_rhythm.
 #[tactic(auto, unfolding(crate::specs::Colour::ColourHolds, crate::specs::Colour::ColourForm))]
 pub fn holds(chart: Case, spare: Spare) -> bool
     ensures { Tells result (ColourHolds chart.entry.head chart.entry.bytes.now spare.places) }

@@ -35,10 +35,11 @@ pub fn read_times(n: usize, body: &[u8], start: &mut [f64], delta: &mut [f64])
 fn counts_hold(body: &[u8], answer: Result<GroupTotals, Refusal>) -> bool
     ensures { Tells result (answer ≡ Ok (totals_at body.now)) }
 {
-    answer.is_ok_and(|k| {
-        k.groups == usize::from(case::pair_at(body, 0))
-            && k.patterns == usize::from(case::pair_at(body, 2))
-    })
+    answer
+        == Ok(GroupTotals {
+            groups: usize::from(case::pair_at(body, 0)),
+            patterns: usize::from(case::pair_at(body, 2)),
+        })
 }
 
 // Whether an answer and slices are those of the body.
@@ -119,7 +120,8 @@ pub fn rhythm_formed(room: Room) -> bool
     formed(room.case, Call::Rhythm, 2, 2, size)
 }
 
-// Whether rhythm answers as the case has it, in slices with so many places to spare.
+// Whether rhythm answers as the case has it, in slices with so many places to spare. The calls' cases go alike here: one
+// function of a form and a call would take their meanings and laws with it, which is no plainer.
 #[tactic(auto, unfolding(crate::specs::Rhythm::RhythmHolds, crate::specs::Rhythm::RhythmForm))]
 pub fn holds(case: Case, spare: Spare) -> bool
     ensures { Tells result (RhythmHolds case.entry.head case.entry.bytes.now spare.places) }

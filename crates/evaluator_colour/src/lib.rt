@@ -67,7 +67,8 @@ fn lower(r: f64) -> f64
     1.0 - r / 2.0 * 0.8
 }
 
-// By the object's ratio c and the ratio p of the object two before it. Below object 2 there is none, and p is not read.
+// By the object's ratio c and the ratio p of the object two before it. Below object 2 there is none, and p is not read:
+// no plainer as an Option, as the index tells.
 pub fn ratio_penalty(idx: ObjectIndex, c: f64, p: f64, tolerance: f64) -> f64
     ensures { result ≡ ratio_penalty tolerance idx.0 c p }
 {

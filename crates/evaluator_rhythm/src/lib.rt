@@ -36,7 +36,7 @@ fn some_pair(owns: &[f64], threshold: f64) -> bool
     }
 }
 
-// The own intervals of K groups, if they all exist.
+// The own intervals of K groups, if they all exist. By the place: an array's `map` can't stop at one that is absent.
 #[tactic(auto, unfolding(crate::specs::passes::Walk::newest_of))]
 fn newest<const K: usize>(owns: [Option<f64>; K]) -> Option<[f64; K]>
     ensures { result ≡ newest_of K owns.entry }

@@ -70,7 +70,8 @@ fn standing_at(tables: Tables, idx: ObjectIndex) -> Standing
     }
 }
 
-// The ratio of the object two before. Below object 2 there is none, and the first stands in: the penalty reads none.
+// The ratio of the object two before. Below object 2 there is none, and the first stands in: the penalty reads none. No
+// plainer as an Option, as the index says already that there is none.
 fn earlier_ratio(ratio: &[f64], idx: ObjectIndex) -> f64
     requires { idx.0 < length ratio.now }
     ensures { result ≡ get_or ratio.now (idx.0 - 2) nan }

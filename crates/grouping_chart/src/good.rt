@@ -17,7 +17,8 @@ pub fn kind_good(kind: u8) -> bool
     Kind::try_from(kind).is_ok()
 }
 
-// Whether a test passes at each of the first n places.
+// Whether a test passes at each of the first n places. `all` would jump at each (docs/DECISIONS.md); tried as a fold,
+// whose two goals want proofs by the iterator's steps where the check finds the loop's alone.
 #[tactic(auto, unfolding(crate::specs::passes::Good::all_places))]
 pub fn all_places<F: Fn(usize) -> bool>(n: usize, test: F) -> bool
     requires callable { (i : ℕ) → i < n → F.pre test i }

@@ -1,4 +1,4 @@
-// Streaks: which objects open one.
+// Streaks: which objects open one. A mark is a number, as in grouping_marks.
 ghost use Rattle.std.specs.Prelude.{◌≡◌, ◌≤◌, length};
 ghost use Rattle.lent.specs.Over.{over};
 ghost use Rattle.grouping_colour.specs.MonoStreak.{streak_marks};

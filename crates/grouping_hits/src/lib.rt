@@ -2,7 +2,7 @@
 // in grouping_marks: its group's number comes into its place.
 #![tactic(auto)]
 
-ghost use Rattle.std.specs.Prelude.{◌≡◌, cond, ◌≤◌, ◌<◌, eqb, length};
+ghost use Rattle.std.specs.Prelude.{◌≡◌, cond, ◌≤◌, ◌<◌, length};
 ghost use Rattle.lent.specs.Over.{over};
 ghost use Rattle.grouping_hits.specs.RepeatingHitPatterns.{hit_marks, second_at, second_lengths, intervals};
 ghost use Rattle.grouping_hits.specs.passes.Stages.{stage_after, opens_hit, matches_taken};
@@ -10,6 +10,7 @@ ghost use Rattle.grouping_hits.specs.passes.Stages.{stage_after, opens_hit, matc
 pub mod limit;
 
 use grouping_marks::alike::Features;
+use grouping_marks::by_mark;
 use lent::fill;
 use limit::SearchLimit;
 
@@ -60,13 +61,7 @@ pub fn mark_hits(flags: &mut [u16])
     }
 }
 
-// A length whose pattern, by its mark, opens no hit pattern; else 0.
-fn second_by(mark: u16, length: u16) -> u16
-    ensures { result ≡ cond (eqb mark 0) length 0 }
-{
-    if mark == 0 { length } else { 0 }
-}
-
+// The length of the pattern behind, where that one, by its mark, opens no hit pattern; else 0.
 #[tactic(auto, unfolding(crate::specs::RepeatingHitPatterns::second_at))]
 fn second_at(lengths: &[u16], marks: &[u16], i: usize) -> u16
     requires each { length lengths.now ≤ length marks.now }
@@ -75,7 +70,7 @@ fn second_at(lengths: &[u16], marks: &[u16], i: usize) -> u16
 {
     let next = i + 1;
     if next < lengths.len() {
-        second_by(marks[next], lengths[next])
+        by_mark(marks[next], lengths[next], 0)
     } else {
         0
     }

@@ -1,5 +1,6 @@
 // A walk over the groups: it holds the lent values and the position where the next group starts. They stay whole, since
-// a group's end depends on how many values there are in all, which a slice of the rest no longer tells.
+// a group's end depends on how many values there are in all, which a slice of the rest no longer tells. A struct with a
+// step and no impl of Iterator, as the scope asks.
 ghost use Rattle.std.specs.Prelude.{◌≡◌};
 ghost use Rattle.grouping_interval.specs.GroupEnd.{group_end};
 

@@ -49,7 +49,8 @@ pub struct Reached {
     pub end: usize,
 }
 
-// Group g. The notes' deltas are lent to be put in order, group by group.
+// Group g. The notes' deltas are lent to be put in order, group by group. The margin is a setting and g a question, so
+// that a struct of the two would be no plainer.
 pub fn reach(deltas: &mut [f64], margin: f64, g: usize) -> Reached
     requires { GroupThere margin deltas.old g }
     ensures { ReachedIs margin deltas.old deltas.new g result }

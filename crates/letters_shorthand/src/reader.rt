@@ -21,7 +21,8 @@ fn refuse(fault: Fault, place: usize) -> Result<Cursor, Refusal>
 }
 
 // A text, how many brackets are open around what is read, and whether d and k are exchanged there.
-// The kinds are not in it: a contract would have to say of each method that they are still those that were lent.
+// The kinds are not in it: a contract would have to say of each method that they are still those that were lent. Nor is
+// a cursor's place or count an invariant, as `Room` speaks of text, kinds and cursor together.
 #[derive(Clone, Copy)]
 struct Reader<'a> {
     text: &'a [u8],

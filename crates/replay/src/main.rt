@@ -49,41 +49,33 @@ impl fmt::Display for Line<'_> {
     }
 }
 
-fn print_charts(rt: &impl Print, call: &str, r: Replay, name: &str) -> io::Result<()> {
-    let tally = r.charts;
-    let objects = Some((r.objects, name));
-    println!(rt;
-        "{}",
-        Line {
-            call,
-            tally,
-            objects
-        }
-    )
+// Of a call whose cases have charts of their own, and what their objects are called.
+fn charts<'a>(call: &'a str, r: Replay, name: &'a str) -> Line<'a> {
+    Line {
+        call,
+        tally: r.charts,
+        objects: Some((r.objects, name)),
+    }
 }
 
-fn print_parts(rt: &impl Print, call: &str, r: Replay) -> io::Result<()> {
-    let tally = r.parts;
-    let objects = None;
-    println!(rt;
-        "{}",
-        Line {
-            call,
-            tally,
-            objects
-        }
-    )
+// Of a call whose cases are parts of such a chart.
+fn parts(call: &str, r: Replay) -> Line<'_> {
+    Line {
+        call,
+        tally: r.parts,
+        objects: None,
+    }
 }
 
 fn main(rt: HostRuntime) -> io::Result<()> {
     let build = replay(&rt, "build", Call::Build);
-    print_charts(&rt, "build", build, "objects")?;
+    println!(&rt; "{}", charts("build", build, "objects"))?;
     let encode = replay(&rt, "encode", Call::Encode);
-    print_charts(&rt, "encode", encode, "objects")?;
+    println!(&rt; "{}", charts("encode", encode, "objects"))?;
     let colour = replay(&rt, "colour", Call::Colour);
-    print_charts(&rt, "colour", colour, "values")?;
-    print_parts(&rt, "stretch", colour)?;
+    println!(&rt; "{}", charts("colour", colour, "values"))?;
+    println!(&rt; "{}", parts("stretch", colour))?;
     let rhythm = replay(&rt, "rhythm", Call::Rhythm);
-    print_charts(&rt, "rhythm", rhythm, "objects")?;
-    print_parts(&rt, "record", rhythm)
+    println!(&rt; "{}", charts("rhythm", rhythm, "objects"))?;
+    println!(&rt; "{}", parts("record", rhythm))
 }

@@ -91,7 +91,8 @@ pub extern "C" fn grouping_normal_of(deltas: &mut [f64], margin: f64, x: f64) ->
     grouping_normalizer::normal_of(deltas, margin, x)
 }
 
-// An input: 0, 1 for one that is too long, or the refusal's number; its place; how many objects were read.
+// An input: 0, 1 for one that is too long, or the refusal's number; its place; how many objects were read. C has no
+// Result, so these are plain numbers.
 #[repr(C)]
 #[derive(Clone, Copy, Default)]
 pub struct LettersRead {

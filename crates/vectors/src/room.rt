@@ -8,7 +8,8 @@ use crate::case;
 use crate::case::Case;
 use crate::sentinel::MOST_OBJECTS;
 
-// How many places the slices have to spare: at most 7.
+// How many places the slices have to spare: at most 7. It travels beside the case, from which each call's replay makes
+// its room: made before, a case that has none would have to be told in another way.
 #[derive(Clone, Copy)]
 pub struct Spare {
     pub places: usize,

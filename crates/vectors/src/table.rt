@@ -21,6 +21,7 @@ fn entry_at(table: &Column, names: &Column, i: usize) -> f64
 }
 
 // Reads the floats whose bits a column has.
+#[tactic(auto, unfolding(crate::specs::Table::floats))]
 pub fn read(bits: &Column, out: &mut [f64])
     requires { length bits.now ≤ length out.old }
     ensures { out.new ≡ over (floats bits.now) out.old }
@@ -29,6 +30,7 @@ pub fn read(bits: &Column, out: &mut [f64])
 }
 
 // Reads those of the table that a column names by their numbers.
+#[tactic(auto, unfolding(crate::specs::Table::entries))]
 pub fn read_named(table: &Column, names: &Column, out: &mut [f64])
     requires { length names.now ≤ length out.old }
     ensures { out.new ≡ over (entries table.now names.now) out.old }

@@ -3,4 +3,4 @@ use Rattle.grouping_marks.proofs.PassLaws.{firsts_turn}
 use Rattle.grouping_marks.proofs.group_firsts.Goals as goal
 
 pub loop-i-preserved : goal.loop-i-preserved
-loop-i-preserved c = firsts_turn c.loop-i.invariant _ _ c.loop-i-test.true c.first_after-first.ensures c.opens-groups.ensures
+loop-i-preserved c = firsts_turn c.loop-i.invariant _ _ c.loop-i-test.true c.by_mark-first.ensures c.opens-groups.ensures
