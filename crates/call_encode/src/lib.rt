@@ -110,8 +110,8 @@ pub fn encode(
         | (interval.len() < n);
     judge(chart, short, work.len(), scratch.len())?;
     let s = settings::base();
-    // by `as`: a set's limit is a u64 by its type, of which fewer bits would ask more, and that it fits is known, so that
-    // TryFrom's Err can't come
+    // by `as`: a set's limit is a u64 by its type, of which fewer bits would ask more, and that it fits is known, so
+    // that TryFrom's Err can't come
     let limit = SearchLimit {
         value: s.limit as u16,
     };

@@ -120,8 +120,8 @@ pub fn rhythm_formed(room: Room) -> bool
     formed(room.case, Call::Rhythm, 2, 2, size)
 }
 
-// Whether rhythm answers as the case has it, in slices with so many places to spare. The calls' cases go alike here: one
-// function of a form and a call would take their meanings and laws with it, which is no plainer.
+// Whether rhythm answers as the case has it, in slices with so many places to spare. The calls' cases go alike here:
+// one function of a form and a call would take their meanings and laws with it, which is no plainer.
 #[tactic(auto, unfolding(crate::specs::Rhythm::RhythmHolds, crate::specs::Rhythm::RhythmForm))]
 pub fn holds(case: Case, spare: Spare) -> bool
     ensures { Tells result (RhythmHolds case.entry.head case.entry.bytes.now spare.places) }

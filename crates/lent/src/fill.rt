@@ -27,8 +27,8 @@ pub fn by_place<T: Copy, F: Fn(usize) -> T>(n: usize, out: &mut [T], f: F)
     }
 }
 
-// Sets the first n places to a value. `fill` asks that a clone cannot fail, and gives the value only where a clone is it:
-// Copy says neither, and clauses here would ask both of each caller.
+// Sets the first n places to a value. `fill` asks that a clone cannot fail, and gives the value only where a clone is
+// it: Copy says neither, and clauses here would ask both of each caller.
 pub fn front<T: Copy>(s: &mut [T], n: usize, value: T)
     requires { n ≤ length s.old }
     ensures { s.new ≡ over (replicate n value) s.old }

@@ -65,7 +65,8 @@ pub fn read_letters(s: &[u8], kinds: &mut [u8]) -> Result<usize, TextError>
     read_text(s.strip_suffix(b"\n").unwrap_or(s), kinds)
 }
 
-// Each `put_` function writes a text behind what is printed so far. Room is a clause of each, as each uses some of it up.
+// Each `put_` function writes a text behind what is printed so far. Room is a clause of each, as each uses some of it
+// up.
 // The digits are itoa's: `write!` hands back a result of which no promise says that it is Ok.
 fn put_number<const N: usize>(out: &mut ArrayString<N>, n: usize)
     requires { array_string_len out.old + length (decimal n) ≤ N }

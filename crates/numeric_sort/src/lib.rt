@@ -9,8 +9,8 @@ use numeric::order::total_order;
 use std::cmp::Ordering;
 
 // How two values stand in the total order. It has no place for a NaN, which stands last here: `sort_unstable_by` asks
-// that any two values can be compared. `total_cmp` behind the test would be no plainer, as it is a second order, which a
-// law would have to tie to `total_order`; `OrderedFloat` takes the two zeros for equal.
+// that any two values can be compared. `total_cmp` behind the test would be no plainer, as it is a second order, which
+// a law would have to tie to `total_order`; `OrderedFloat` takes the two zeros for equal.
 fn compare(a: &f64, b: &f64) -> Ordering
     ensures { result ≡ comparison a.now b.now }
 {

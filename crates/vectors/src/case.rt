@@ -40,8 +40,8 @@ fn bytes_at<const N: usize>(s: &[u8], at: usize) -> [u8; N]
     array::from_fn(|k| byte_at(s, at + k))
 }
 
-// The number of two bytes at a place. One each for two, four and eight bytes: `from_le_bytes` is of no trait, and one of
-// our own with three impls would be no plainer.
+// The number of two bytes at a place. One each for two, four and eight bytes: `from_le_bytes` is of no trait, and a
+// trait of our own with three impls would be no plainer.
 #[tactic(auto, unfolding(crate::specs::Case::pair_at, crate::specs::Case::bytes_at))]
 pub fn pair_at(s: &[u8], at: usize) -> u16
     requires { at + 1 < 2 ^ 64 }
@@ -60,7 +60,6 @@ pub fn quad_at(s: &[u8], at: usize) -> u32
 }
 
 // The number of eight bytes at a place.
-#[tactic(auto, unfolding(crate::specs::Case::bytes_at, crate::specs::Case::pair_at, crate::specs::Case::quad_at, crate::specs::Case::word_at))]
 pub fn word_at(s: &[u8], at: usize) -> u64
     requires { at + 7 < 2 ^ 64 }
     ensures { result ≡ word_at s.now at }

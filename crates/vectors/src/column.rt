@@ -50,8 +50,8 @@ impl<'a> Model for Column<'a> {
 }
 
 impl<'a> Column<'a> {
-    // Numbers of the width that a head says. A function for each width: each promises the list by a definition of its own
-    // and asks for other room, so that one of the width would be no plainer.
+    // Numbers of the width that a head says. A function for each width: each promises the list by a definition of its
+    // own and asks for other room, so that one of the width would be no plainer.
     #[tactic(auto, using(crate::proofs::ColumnLaws::values_numbers, crate::proofs::ColumnLaws::long))]
     pub fn numbers(bytes: &'a [u8], at: usize, width: u8, count: usize) -> Column<'a>
         requires { at + 2 * count < 2 ^ 64 }

@@ -15,8 +15,8 @@ pub const BYTE_SENTINEL: u8 = 190;
 // A value is at most 83,886,085 in size, and a start, a delta or a ratio that is built at most 2^24.
 pub const FLOAT_SENTINEL: f64 = -1.0e300;
 
-// The most places of a slice: one for each object, and 7 to spare. Slices are cut from arrays of so many, as there is no
-// heap.
+// The most places of a slice: one for each object, and 7 to spare. Slices are cut from arrays of so many, as there is
+// no heap.
 pub const MOST_PLACES: usize = MOST_OBJECTS + 7;
 
 // The most places of a work slice: eight for each object, and 7 to spare.
