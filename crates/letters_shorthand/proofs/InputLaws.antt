@@ -12,7 +12,7 @@ use Rattle.lent.proofs.NeverLaws.{never}
 use Rattle.letters_grammar.specs.Reading.{Finding, good, refused, shorthand}
 use Rattle.letters_grammar.specs.Letters.{trimmed, LettersAlone, kinds_of}
 use Rattle.letters_grammar.proofs.LetterLaws.{trimmed_front}
-use Rattle.letters_grammar.proofs.BoundLaws.{good_few, refused_bounds}
+use Rattle.letters_grammar.proofs.BoundLaws.{refused_bounds}
 use Rattle.letters_grammar.proofs.PlainLaws.{plain_good}
 use Rattle.std.proofs.Common.{Result, Ok, Err}
 use Rattle.letters_count.specs.declared.Refusal.{Refusal}
@@ -20,7 +20,7 @@ use Rattle.letters_count.specs.Numbers.{number_of}
 use Rattle.letters_shorthand.specs.declared.InputError.{InputError}
 use Rattle.letters_shorthand.specs.declared.InputError.TheVariants.{Long, Refused}
 use Rattle.letters_grammar.specs.Reading.{most_objects, most_brackets}
-use Rattle.letters_shorthand.specs.Input.{most_bytes, drill_bytes}
+use Rattle.letters_shorthand.specs.Input.{most_bytes, input_bytes}
 use Rattle.letters_shorthand.specs.Input.{Input, long, read, input_of, objects_read, too_long, refused_at, so_many, answer_of, told, ReadDrill}
 
 -- ---- what an input is
@@ -38,7 +38,7 @@ pub input_plain : (t : List ℕ) → LettersAlone t → length t ≤ most_object
 input_plain t a h = rw (input_short t (omega arith), plain_good most_objects most_brackets t a h)
 
 -- a program that reads only so many bytes of an input, or more, reads what it would read of the whole
-pub input_front : (n : ℕ) (s : List ℕ) → drill_bytes ≤ n → input_of (trimmed (take n s)) ≡ input_of (trimmed s)
+pub input_front : (n : ℕ) (s : List ℕ) → input_bytes ≤ n → input_of (trimmed (take n s)) ≡ input_of (trimmed s)
 input_front n s h = trimmed_front input_of most_bytes n s (λ t u a b. input_long t a ∙ sym (input_long u b)) h
 
 -- ---- what an answer tells
@@ -98,9 +98,3 @@ module _ {t old new : List ℕ} {r : Result ℕ InputError} (x : ReadDrill t old
       let i = told_count n e in
       let f : take n new ≡ objects_read (input_of t) = rw x.memory (front (objects_read (input_of t)) old n i.1) in
       omega (arith, i.1, ap length f, length-take n new)
-
-  pub read_count : (n : ℕ) → r ≡ Ok n → n ≤ 1024
-  read_count n e =
-      let i = told_count n e in
-      let b = good_few most_objects most_brackets t (objects_read (input_of t)) (input_read t (good (objects_read (input_of t))) i.0).1 in
-      omega arith

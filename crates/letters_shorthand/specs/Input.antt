@@ -1,6 +1,6 @@
 -- What the letters program reads, by the scope's paragraph on it as request 5/12 amends it: the text of a drill, and
 -- behind it one line feed that counts for nothing. A text that is too long is told as that, whatever its bytes are.
-use Rattle.std.specs.Prelude.{◌≡◌, ℕ, cond, List, [], ltb, length, Result, Ok, Err}
+use Rattle.std.specs.Prelude.{◌≡◌, ℕ, ◌+◌, cond, List, [], ltb, length, Result, Ok, Err}
 use Rattle.lent.specs.Over.{over}
 use Rattle.letters_grammar.specs.Reading.{Finding, good, refused, shorthand, most_objects, most_brackets}
 use Rattle.letters_count.specs.Numbers.{number_of}
@@ -50,5 +50,5 @@ pub record ReadDrill (t old new : List ℕ) (r : Result ℕ InputError) : Type 0
 
 -- so many bytes of an input tell all that is printed for it: the longest text, a line feed, and a byte more, which
 -- tells a longer one
-abbrev pub drill_bytes : ℕ
-drill_bytes = 4098
+abbrev pub input_bytes : ℕ
+input_bytes = most_bytes + 2

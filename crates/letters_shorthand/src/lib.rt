@@ -11,7 +11,7 @@ use letters_count::{MOST_OBJECTS, Refusal};
 mod reader;
 
 // The most bytes of a text.
-const MOST_BYTES: usize = 4096;
+pub const MOST_BYTES: usize = 4096;
 
 // What is wrong with an input: over 4,096 bytes, or a text that is refused.
 #[derive(Clone, Copy, Debug, PartialEq, Eq)]
