@@ -1,22 +1,21 @@
 -- Bytes: which are letters and digits, a letter's kind and a kind's letter, and one line feed at the end, case by case.
-use mathlib.Core.Path.{◌≡◌, refl, sym, ◌∙◌}
+use mathlib.Core.Path.{◌≡◌, refl, sym}
 use mathlib.Core.Logic.{◌⊎◌, inl, inr, ⊎_elim}
 use mathlib.Core.Bool.{Bool, true, false, cond}
 use mathlib.Core.List.{List, [], ◌∷◌}
 use Prim.Native.Nat.{ℕ, zero, suc, ◌+◌, ◌-◌, ◌≤◌, ◌<◌}
 use native.Mathlib.Omega.{arith}
 use denote.Ref.{Bor}
-use lib.ListN.{length, take, drop, get_or, length-map}
+use lib.ListN.{length, take, drop, get_or}
 use lib.Seq.{take_all, length-take-le}
 use Rattle.std.proofs.Common.{Option, MatchOption}
-use Rattle.std.proofs.lemmas.List.{get_or-map}
 use Rattle.std.specs.Option.{unwrap_or}
 use Rattle.std.specs.Cmp.Lexicographic.{pointwise}
 use Rattle.lent.proofs.SuffixLaws.{stripped}
 use borrow.Author.Tests.{lt-ltb, le-ltb, ltb-true, ltb-false, eqb-true}
 use lib.Dec.{eqb, ltb}
 use Rattle.lent.proofs.NeverLaws.{never}
-use Rattle.letters_grammar.specs.Letters.{trimmed, is_digit, is_letter, kind_of, letter_of, kinds_of, exchanged_kind, exchanged_if}
+use Rattle.letters_grammar.specs.Letters.{trimmed, is_digit, is_letter, kind_of, letter_of, exchanged_kind, exchanged_if}
 
 -- ---- letters
 
@@ -113,14 +112,6 @@ letter_ascii k = go (eqb k 0) (eqb k 1)
     go true r = omega arith
     go false true = omega arith
     go false false = omega arith
-
-pub length-kinds : (t : List ℕ) → length (kinds_of t) ≡ length t
-unfolding kinds_of
-length-kinds t = length-map t kind_of
-
-pub kind_at : (t : List ℕ) (i : ℕ) (k : ℕ) → i < length t → k ≡ kind_of (get_or t i 0) → k ≡ get_or (kinds_of t) i 0
-unfolding kinds_of
-kind_at t i k h e = e ∙ sym (get_or-map kind_of t i 0 0 h)
 
 -- ---- one line feed at the end
 
