@@ -1,4 +1,4 @@
-// Reads letters from standard input and prints a line for each hit pattern, or what is wrong with the input.
+// Reads a drill from standard input and prints a line for each of its hit patterns, or what is wrong with the text.
 #![tactic(auto)]
 
 use letters_answer::INPUT_BYTES;

@@ -1,4 +1,4 @@
--- What is lent to the writing of the lines is what the definition shows, and what each case of a reading has written is the whole output.
+-- What is lent to the writing of the lines is what the definition shows, and what each case of an input has written is the whole output.
 -- What is read of an input is enough to answer all of it. What a reader gave is what it had, up to what is left of that.
 use mathlib.Core.Path.{◌≡◌, sym, ap, ◌∙◌}
 use mathlib.Core.List.{List, ◌++◌}
@@ -9,24 +9,25 @@ use Rattle.std.proofs.Common.{Some, None, IfSome, Result, Ok, Err, le_refl, take
 use Rattle.std.proofs.lemmas.List.{append_cancel_right}
 use Rattle.std.specs.Io.KnownBytes.{Consumes}
 use Rattle.std.specs.declared.option.Option.{Option}
-use Rattle.lent.proofs.OverLaws.{front}
 use Rattle.grouping_chart.specs.Settings.{base_settings}
 use Rattle.call_encode.specs.Call.{Memory, encoded_kinds}
 use Rattle.call_encode.proofs.CallLaws.{streaks_front, patterns_front, hits_front, intervals_front}
-use Rattle.letters_text.specs.declared.TextError.{TextError}
-use Rattle.letters_text.specs.declared.TextError.TheVariants.{Long, Bad}
-use Rattle.letters_grammar.specs.Letters.{trimmed, kinds_of}
-use Rattle.letters_grammar.proofs.LetterLaws.{length-kinds}
-use Rattle.letters_text.specs.Letters.{ReadText, input_bytes}
-use Rattle.letters_text.specs.Lines.{Columns, lines, bad_line, long_line}
+use Rattle.letters_count.specs.declared.Refusal.{Refusal}
+use Rattle.letters_count.specs.Numbers.{number_of}
+use Rattle.letters_grammar.specs.Letters.{trimmed}
+use Rattle.letters_grammar.specs.Reading.{most_objects}
+use Rattle.letters_shorthand.specs.declared.InputError.{InputError}
+use Rattle.letters_shorthand.specs.declared.InputError.TheVariants.{Long, Refused}
+use Rattle.letters_shorthand.specs.Input.{ReadDrill, input_bytes}
+use Rattle.letters_shorthand.proofs.InputLaws.{input_front, read_long, read_refused, read_objects}
+use Rattle.letters_text.specs.Lines.{Columns, lines, refused_line, long_line}
 use Rattle.letters_text.specs.passes.Memory.{LinesFit}
-use Rattle.letters_text.proofs.PrintedLaws.{read_long, read_bad, read_letters, read_all, read_kinds, printed_front}
-use Rattle.letters_answer.specs.Output.{columns, letters_output, InputAnswered}
+use Rattle.letters_answer.specs.Output.{columns, printed, letters_output, InputAnswered}
 use Rattle.letters_answer.proofs.IntervalLaws.{interval-small}
 
 -- ---- the columns that are lent
 
-columns_fit : (kinds : List ℕ) → length kinds ≤ 1024 → LinesFit (columns kinds) 0 5120
+columns_fit : (kinds : List ℕ) → length kinds ≤ most_objects → LinesFit (columns kinds) 0 5120
 unfolding columns
 columns_fit kinds h = record { small = interval-small kinds; enough = omega arith }
 
@@ -49,37 +50,30 @@ module _ (kinds : List ℕ) (old : Memory) {new : Memory} (x : new ≡ encoded_k
       let limit : ℕ = base_settings.limit in
       rw (x, streaks_front limit kinds old, patterns_front limit kinds old, hits_front limit kinds old, intervals_front limit kinds old)
 
-  pub lines_fit : length kinds ≤ 1024 → LinesFit (lent kinds new) 0 5120
+  pub lines_fit : length kinds ≤ most_objects → LinesFit (lent kinds new) 0 5120
   lines_fit h = rw lent-columns at (columns_fit kinds h)
 
--- ---- the three cases of a reading
+-- ---- the three cases of an input
 
-module _ (text : List ℕ) {kinds₀ kinds : List ℕ} {r : Result ℕ TextError} (x : ReadText (trimmed text) kinds₀ kinds r) where
-  -- the kinds' first places hold those of the letters
-  kinds_read : (n : ℕ) → r ≡ Ok n → kinds_of (trimmed text) ≡ take n kinds
-  kinds_read n e =
-      let l : length (kinds_of (trimmed text)) ≡ n = omega (arith, length-kinds (trimmed text), (read_all x n e).count) in
-      sym (rw (read_kinds x n e) (front (kinds_of (trimmed text)) kinds₀ n l))
+module _ (text : List ℕ) {old kinds : List ℕ} {r : Result ℕ InputError} (x : ReadDrill (trimmed text) old kinds r) where
+  pub answer_long : r ≡ Err Long → long_line ≡ letters_output text
+  unfolding letters_output printed
+  answer_long e = rw (read_long x e)
 
-  module _ {out : List ℕ} where
-    pub answer_long : r ≡ Err Long → out ≡ long_line → out ≡ letters_output text
-    unfolding letters_output
-    answer_long e y = y ∙ sym (read_long x e (lines (columns (kinds_of (trimmed text)))))
+  pub answer_refused : (f : Refusal) → r ≡ Err (Refused f) → refused_line (number_of f.fault) f.place ≡ letters_output text
+  unfolding letters_output printed
+  answer_refused f e = rw (read_refused x f e)
 
-    pub answer_bad : (p q : ℕ) → r ≡ Err (Bad p) → q ≡ p → out ≡ bad_line q → out ≡ letters_output text
-    unfolding letters_output
-    answer_bad p q e s y = y ∙ ap bad_line s ∙ sym (read_bad x p e (lines (columns (kinds_of (trimmed text)))))
-
-    pub answer-lines : (n : ℕ) → r ≡ Ok n → out ≡ lines (columns (take n kinds)) → out ≡ letters_output text
-    unfolding letters_output
-    answer-lines n e y = y ∙ sym (read_letters x n e (lines (columns (kinds_of (trimmed text)))) ∙ rw (kinds_read n e))
+  pub answer-objects : (n : ℕ) → r ≡ Ok n → lines (columns (take n kinds)) ≡ letters_output text
+  unfolding letters_output printed
+  answer-objects n e = rw (read_objects x n e)
 
 -- ---- the first bytes of an input
 
 -- so many bytes of the input are enough
 output_front : (n : ℕ) (text : List ℕ) → input_bytes ≤ n → letters_output (take n text) ≡ letters_output text
 unfolding letters_output
-output_front n text h = printed_front (λ (t : List ℕ). lines (columns (kinds_of t))) n text h
+output_front n text h = ap printed (input_front n text h)
 
 -- a reader that has only left what follows the first bytes of its text gave those, and they are enough
 pub whole_answered : {out : List ℕ} (known left : Option (List ℕ)) (bytes : List ℕ) → Consumes known left bytes → out ≡ letters_output bytes

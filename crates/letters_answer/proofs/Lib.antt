@@ -1,4 +1,6 @@
 -- The laws of this crate. Those that are public are for the crates above, or are results of their own; the others serve the proofs of this crate alone.
 pub mod AnswerLaws
+pub mod DrillLaws
+pub mod PlainLaws
 mod IntervalLaws
 mod Examples

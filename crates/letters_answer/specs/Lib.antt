@@ -1,2 +1,3 @@
--- The letters program's output.
+-- The letters program's output, and what it was for letters alone.
 pub mod Output
+pub mod Plain

@@ -2,41 +2,44 @@
 #![tactic(auto)]
 
 ghost use Rattle.std.specs.Prelude.{◌≡◌, ◌≤◌, [], Some, IfSome, length, drop};
-ghost use Rattle.letters_text.specs.Letters.{most_letters, input_bytes};
+ghost use Rattle.letters_grammar.specs.Reading.{most_objects};
+ghost use Rattle.letters_shorthand.specs.Input.{input_bytes};
 ghost use Rattle.letters_text.specs.Lines.{lines};
 ghost use Rattle.letters_answer.specs.Output.{columns, letters_output, InputAnswered};
 
 use arrayvec::ArrayString;
 use grouping_chart::settings::SEARCH_LIMIT;
 use grouping_hits::limit::SearchLimit;
-use letters_text::{Columns, MOST_LETTERS, TextError};
+use letters_count::MOST_OBJECTS;
+use letters_shorthand::{InputError, MOST_BYTES};
+use letters_text::Columns;
 use std::io::Read;
 
-// 1,024 letters, a line feed, and a byte more that tells a longer input.
-pub const INPUT_BYTES: usize = MOST_LETTERS + 2;
+// The longest text, a line feed, and a byte more that tells a longer input.
+pub const INPUT_BYTES: usize = MOST_BYTES + 2;
 
-// Five bytes a letter.
-pub const OUTPUT_BYTES: usize = 5 * MOST_LETTERS;
+// Five bytes an object.
+pub const OUTPUT_BYTES: usize = 5 * MOST_OBJECTS;
 
 // All that is printed for an input.
 pub type Output = ArrayString<OUTPUT_BYTES>;
 
-// What encoding needs as memory, eight places a letter.
-const WORK: usize = 8 * MOST_LETTERS;
+// What encoding needs as memory, eight places an object.
+const WORK: usize = 8 * MOST_OBJECTS;
 
-// The lines of a text of letters, by the kinds of its letters.
-fn write_letters(kinds: &[u8], out: &mut Output)
-    requires { (length kinds.now ≤ most_letters) × (out.old.bytes ≡ []) }
+// The lines of a drill, by the kinds of its objects.
+fn write_objects(kinds: &[u8], out: &mut Output)
+    requires { (length kinds.now ≤ most_objects) × (out.old.bytes ≡ []) }
     ensures { out.new.bytes ≡ lines (columns kinds.now) }
 {
     let n = kinds.len();
-    // the memory that encoding is lent is fixed, with room for the most letters
-    let mut streak = [0u16; MOST_LETTERS];
-    let mut streak_place = [0u16; MOST_LETTERS];
-    let mut pattern = [0u16; MOST_LETTERS];
-    let mut pattern_place = [0u16; MOST_LETTERS];
-    let mut hit = [0u16; MOST_LETTERS];
-    let mut interval = [0u8; MOST_LETTERS];
+    // the memory that encoding is lent is fixed, with room for the most objects
+    let mut streak = [0u16; MOST_OBJECTS];
+    let mut streak_place = [0u16; MOST_OBJECTS];
+    let mut pattern = [0u16; MOST_OBJECTS];
+    let mut pattern_place = [0u16; MOST_OBJECTS];
+    let mut hit = [0u16; MOST_OBJECTS];
+    let mut interval = [0u8; MOST_OBJECTS];
     let mut work = [0u16; WORK];
     let limit = SearchLimit {
         value: SEARCH_LIMIT,
@@ -67,11 +70,11 @@ fn write_answer(text: &[u8], out: &mut Output)
     requires { out.old.bytes ≡ [] }
     ensures { out.new.bytes ≡ letters_output text.now }
 {
-    let mut kinds = [0u8; MOST_LETTERS];
-    match letters_text::read_letters(text, &mut kinds) {
-        Ok(n) => write_letters(&kinds[..n], out),
-        Err(TextError::Long) => letters_text::write_long(out),
-        Err(TextError::Bad(place)) => letters_text::write_bad(place, out),
+    let mut kinds = [0u8; MOST_OBJECTS];
+    match letters_shorthand::read_input(text, &mut kinds) {
+        Ok(n) => write_objects(&kinds[..n], out),
+        Err(InputError::Long) => letters_text::write_long(out),
+        Err(InputError::Refused(refusal)) => letters_text::write_refused(refusal, out),
     }
 }
 

@@ -1,6 +1,4 @@
 -- The laws of this crate. Those that are public are for the crates above, or are results of their own; the others serve the proofs of this crate alone.
-pub mod LetterLaws
-pub mod PrintedLaws
 mod DecimalLaws
 mod LinesLaws
 mod Examples

@@ -15,6 +15,9 @@ use Rattle.std.proofs.lemmas.Str.{encode_ascii}
 use Rattle.lent.proofs.FillLaws.{length-tabulate, get_or-tabulate}
 use Rattle.letters_grammar.specs.Letters.{letter_of}
 use Rattle.letters_grammar.proofs.LetterLaws.{letter_ascii}
+use Rattle.letters_count.specs.declared.Fault.{Fault}
+use Rattle.letters_count.specs.declared.Fault.TheVariants.{Misplaced, Crowded, TooDeep}
+use Rattle.letters_count.specs.Numbers.{number_of}
 use Rattle.letters_text.specs.declared.columns.Object.{Object}
 use Rattle.letters_text.specs.Lines.{Columns, object_at, objects, line_head, parting, first_letter, next_letter, lines_after, lines_of, lines}
 use Rattle.letters_text.specs.passes.Memory.{LinesFit}
@@ -48,6 +51,14 @@ parting_short p o h = go (eqb o.hit p.hit) (eqb o.pattern p.pattern) (eqb o.stre
 
 pub decimal_four : (n : ℕ) → n < 10000 → length (decimal n) ≤ 4
 decimal_four n h = length-decimal-le 4 n (omega arith) h (omega arith)
+
+pub number_two : (f : Fault) → length (decimal (number_of f)) ≤ 2
+number_two f = length-decimal-le 2 (number_of f) (omega arith) (small f) (omega (arith, small f))
+  where
+    small : (f : Fault) → number_of f < 100
+    small Misplaced = omega arith
+    small Crowded = omega arith
+    small TooDeep = omega arith
 
 -- each object's interval has at most two digits
 abbrev Small : List Object → Type 0
@@ -166,4 +177,4 @@ module _ {c : Columns} {before out : List ℕ} {last : Object} {i : ℕ} (x : Li
 
 -- ---- what the functions that print need
 
-pub ruleset steps = (letter_ascii, encode_ascii, decimal_four, length-append, append_assoc)
+pub ruleset steps = (letter_ascii, encode_ascii, decimal_four, number_two, length-append, append_assoc)

@@ -1,4 +1,3 @@
--- The letters program's text: what is read, what is printed, and what lent memory holds.
-pub mod Letters
+-- The letters program's text: what is printed, and what lent memory holds.
 pub mod Lines
 pub mod passes

@@ -1,13 +1,11 @@
--- What the letters program prints, by the scope's paragraph on it: a line for each hit pattern, with its interval
--- and its letters, among which `|` parts alternating patterns and `,` streaks; or one line on what is wrong with the
--- text. No letters, no line.
-use Rattle.std.specs.Prelude.{ℕ, cond, List, [], ◌∷◌, ◌++◌, eqb, length, get_or, decimal, Result, Ok, Err}
+-- What the letters program prints, by the scope's paragraph on it as request 5/12 amends it: a line for each hit
+-- pattern of a drill, with its interval and its letters, among which `|` parts alternating patterns and `,` streaks; or
+-- one line on a text that is refused or too long. No objects, no line.
+use Rattle.std.specs.Prelude.{ℕ, cond, List, [], ◌∷◌, ◌++◌, eqb, length, get_or, decimal}
 use Rattle.lent.specs.Scan.{tabulate}
 use Rattle.letters_grammar.specs.Letters.{line_feed, letter_of}
 use Rattle.letters_text.specs.declared.columns.Object.{Object}
 use Rattle.letters_text.specs.declared.columns.Columns as lent
-use Rattle.letters_text.specs.declared.TextError.{TextError}
-use Rattle.letters_text.specs.declared.TextError.TheVariants.{Long, Bad}
 
 -- a line begins with the interval and a space
 unfoldable pub line_head : Object → List ℕ
@@ -78,17 +76,10 @@ unfoldable pub lines : Columns → List ℕ
 unfolding objects lines_of
 lines c = lines_of (objects c)
 
--- `bad P` and a line feed
-unfoldable pub bad_line : ℕ → List ℕ
-bad_line p = (98 ∷ 97 ∷ 100 ∷ 32 ∷ []) ++ (decimal p ++ line_feed ∷ [])
+-- `no N P` and a line feed: a refusal's number, and its place
+unfoldable pub refused_line : ℕ → ℕ → List ℕ
+refused_line n p = (110 ∷ 111 ∷ 32 ∷ []) ++ (decimal n ++ 32 ∷ (decimal p ++ line_feed ∷ []))
 
 -- `long` and a line feed
 unfoldable pub long_line : List ℕ
 long_line = 108 ∷ 111 ∷ 110 ∷ 103 ∷ line_feed ∷ []
-
--- all that is printed for a text, where `ls` are the lines of its letters
-unfoldable pub printed : Result ℕ TextError → List ℕ → List ℕ
-unfolding bad_line long_line
-printed (Err Long) ls = long_line
-printed (Err (Bad p)) ls = bad_line p
-printed (Ok n) ls = ls

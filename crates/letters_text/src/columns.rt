@@ -1,4 +1,4 @@
-// The numbers of a text's objects, in columns, and those of one object.
+// The numbers of a drill's objects, in columns, and those of one object.
 ghost use Rattle.std.specs.Prelude.{◌≡◌, ◌<◌, length};
 
 // An object's kind, the numbers of its groups, and its hit pattern's interval.
