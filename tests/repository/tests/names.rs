@@ -50,9 +50,10 @@ const KIT: [&str; 8] = [
     "to_bits",
 ];
 
-/// A variable, or kinds as letters.
-fn is_short_or_letters(name: &str) -> bool {
-    name.len() == 1 || name.chars().all(|c| "dkn".contains(c))
+/// A variable, or a drill: letters, which may have counts.
+fn is_short_or_drill(name: &str) -> bool {
+    let is_drill = |c: char| "dkn".contains(c) || c.is_ascii_digit();
+    name.len() == 1 || (name.starts_with(['d', 'k', 'n']) && name.chars().all(is_drill))
 }
 
 fn text_of(document: &str) -> String {
@@ -87,7 +88,7 @@ fn function_fault(function: &str, private: bool) -> Option<String> {
 
 fn alone_fault(tree: &BTreeSet<String>, name: &str) -> Option<String> {
     let known = ORIGINAL.contains(&name) || KIT.contains(&name);
-    let there = tree.contains(name) || known || is_short_or_letters(name);
+    let there = tree.contains(name) || known || is_short_or_drill(name);
     (!there).then(|| format!("nothing has the name {name}"))
 }
 
