@@ -1,4 +1,4 @@
--- Plain letters, up to 1,024, print what they printed before there was a shorthand.
+-- A text of at most 1,024 letters, and nothing else, prints the same as before there was a shorthand.
 use mathlib.Core.Path.{◌≡◌, refl, ap}
 use mathlib.Core.List.{List, [], ◌∷◌}
 use Prim.Native.Nat.{ℕ, suc, ◌≤◌}

@@ -1,5 +1,5 @@
--- What the letters program printed before request 5/12, when it read letters alone. It is kept to say that plain
--- letters print what they printed.
+-- What the letters program printed before request 5/12, when it read letters alone. It is kept to say that for these
+-- nothing has changed.
 use Rattle.std.specs.Prelude.{ℕ, suc, cond, List, [], ◌∷◌, ◌++◌, ltb, length, decimal}
 use Rattle.letters_grammar.specs.Letters.{line_feed, trimmed, is_letter, kinds_of}
 use Rattle.letters_text.specs.Lines.{lines, long_line}
