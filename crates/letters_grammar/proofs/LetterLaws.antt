@@ -119,9 +119,9 @@ letter_ascii k = go (eqb k 0) (eqb k 1)
 pub trimmed_is : (s : Bor (List ℕ)) (r : Option (Bor (List ℕ))) {x : Bor (List ℕ)}
     → MatchOption r (pointwise eqb (drop (length s.now - 1) s.now) (10 ∷ []) ≡ false)
     (λ x. (pointwise eqb (drop (length s.now - 1) s.now) (10 ∷ []) ≡ true) × (x.now ≡ take (length s.now - 1) s.now) × (length x.now + 1 ≡ length s.now))
-    → x ≡ unwrap_or r s → trimmed s.now ≡ x.now
+    → x ≡ unwrap_or r s → x.now ≡ trimmed s.now
 unfolding trimmed
-trimmed_is s r h e = rw e (stripped 10 (omega arith) s r h)
+trimmed_is s r h e = rw e (sym (stripped 10 (omega arith) s r h))
 
 length-trimmed : (s : List ℕ) → length s ≤ length (trimmed s) + 1
 unfolding trimmed

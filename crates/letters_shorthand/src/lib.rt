@@ -1,6 +1,7 @@
 // Reads drills in shorthand: what an input is, and the kinds of a good text's objects.
 #![tactic(auto)]
 
+ghost use Rattle.std.specs.Prelude.{◌≡◌};
 ghost use Rattle.letters_grammar.specs.Letters.{trimmed};
 ghost use Rattle.letters_shorthand.specs.Input.{ReadDrill};
 
@@ -21,7 +22,6 @@ pub enum InputError {
 }
 
 impl From<Refusal> for InputError {
-    ghost use Rattle.std.specs.Prelude.{◌≡◌};
     ghost use Rattle.letters_shorthand.specs.declared.InputError.TheVariants.{Refused};
 
     ghost from_gives = { λ r e. e ≡ Refused r };
@@ -31,13 +31,20 @@ impl From<Refusal> for InputError {
     }
 }
 
+// A text without one line feed at its end.
+fn trimmed(s: &[u8]) -> &[u8]
+    ensures { result.now ≡ trimmed s.now }
+{
+    s.strip_suffix(b"\n").unwrap_or(s)
+}
+
 // How many objects the text has, but for one line feed at its end, or what is wrong with the input.
 // The kinds' front holds the objects of a good text; else the kinds are left as they are: lent, fixed memory, so the
 // objects' number is handed back.
 pub fn read_input(s: &[u8], kinds: &mut [u8; MOST_OBJECTS]) -> Result<usize, InputError>
     ensures { ReadDrill (trimmed s.now) kinds.old kinds.new result }
 {
-    let text = s.strip_suffix(b"\n").unwrap_or(s);
+    let text = trimmed(s);
     if MOST_BYTES < text.len() {
         return Err(InputError::Long);
     }
