@@ -129,6 +129,7 @@ while read -r shorthand letters; do
     means "$shorthand" "$letters"
 done << 'ROWS'
 ~dk kk
+~dd kd
 ~~d d
 ~nk nk
 ~(dk)2 kdkd

@@ -12,7 +12,7 @@ use Rattle.letters_grammar.specs.Reading.{Finding, good, refused, shorthand, mos
 use Rattle.letters_grammar.specs.Faults.{FirstFault}
 use Rattle.letters_grammar.proofs.Sound.{sound}
 use Rattle.letters_grammar.proofs.Complete.{complete}
-use Rattle.letters_grammar.proofs.Refusals.{refused_first, first_refused_lem}
+use Rattle.letters_grammar.proofs.Refusals.{refused_first, good_faultless, first_refused_lem}
 use Rattle.letters_shorthand.specs.Input.{most_bytes}
 use Rattle.letters_shorthand.proofs.InputLaws.{input_long, input_short}
 use Rattle.letters_text.specs.Lines.{lines, refused_line, long_line}
@@ -43,16 +43,20 @@ module _ (text : List ℕ) where
   -- and every input is one of the three
   pub data Case : Type 0 where
     too_long : most_bytes < length (trimmed text) → letters_output text ≡ long_line → Case
-    drill : (kinds : List ℕ) → Within (trimmed text) kinds → letters_output text ≡ lines (columns kinds) → Case
-    fault : (n p : ℕ) → First (trimmed text) n p → letters_output text ≡ refused_line n p → Case
+    drill : length (trimmed text) ≤ most_bytes → (kinds : List ℕ) → Within (trimmed text) kinds → letters_output text ≡ lines (columns kinds) → Case
+    fault : length (trimmed text) ≤ most_bytes → (n p : ℕ) → First (trimmed text) n p → letters_output text ≡ refused_line n p → Case
 
   pub one_of_three : Case
   one_of_three = by_length (ltb most_bytes (length (trimmed text))) refl
     where
       read : length (trimmed text) ≤ most_bytes → (o : Finding) → shorthand most_objects most_brackets (trimmed text) ≡ o → Case
-      read h (good ks) e = let d = sound most_objects most_brackets (trimmed text) ks e in drill ks d (drill_printed h ks d)
-      read h (refused n p) e = let f = refused_first most_objects most_brackets (trimmed text) n p e in fault n p f (fault_printed h n p f)
+      read h (good ks) e = let d = sound most_objects most_brackets (trimmed text) ks e in drill h ks d (drill_printed h ks d)
+      read h (refused n p) e = let f = refused_first most_objects most_brackets (trimmed text) n p e in fault h n p f (fault_printed h n p f)
 
       by_length : (a : Bool) → ltb most_bytes (length (trimmed text)) ≡ a → Case
       by_length true e = let l : most_bytes < length (trimmed text) = ltb-true _ _ e in too_long l (long_printed l)
       by_length false e = read (ltb-false _ _ e) (shorthand most_objects most_brackets (trimmed text)) refl
+
+-- and no more than one: no drill has a fault
+pub no_drill_faulty : (t kinds : List ℕ) (n p : ℕ) → Within t kinds → First t n p → ⊥
+no_drill_faulty t kinds n p d f = good_faultless most_objects most_brackets t kinds (complete most_objects most_brackets t kinds d) n p f.fault

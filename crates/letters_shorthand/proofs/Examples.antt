@@ -51,7 +51,8 @@ examples =
     -- 16 brackets are good, 17 are not
     ∷ given (replicate 16 40 ++ 100 ∷ replicate 16 41) (0 ∷ []) 1
     ∷ bare (replicate 17 40 ++ 100 ∷ replicate 17 41) (refused_at 14 16)
-    -- `(d32)32` has 1,024 objects; `(d32)32d` and `(d41)25` have one more
+    -- `(d99)10` has 990 objects, `(d32)32` has 1,024; `(d32)32d` and `(d41)25` have one more
+    ∷ given (40 ∷ 100 ∷ 57 ∷ 57 ∷ 41 ∷ 49 ∷ 48 ∷ []) (replicate 990 0) 990
     ∷ given (40 ∷ 100 ∷ 51 ∷ 50 ∷ 41 ∷ 51 ∷ 50 ∷ []) (replicate 1024 0) 1024
     ∷ bare (40 ∷ 100 ∷ 51 ∷ 50 ∷ 41 ∷ 51 ∷ 50 ∷ 100 ∷ []) (refused_at 13 7)
     ∷ bare (40 ∷ 100 ∷ 52 ∷ 49 ∷ 41 ∷ 50 ∷ 53 ∷ []) (refused_at 13 6)
