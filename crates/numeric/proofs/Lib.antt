@@ -2,6 +2,7 @@
 pub mod Tests
 pub mod Values
 pub mod Monotone
+pub mod Ordered
 pub mod Bounded
 pub mod ConstantLaws
 pub mod Minus

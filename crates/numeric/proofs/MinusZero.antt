@@ -26,7 +26,7 @@ module _ (s : Bool) (m : ℕ) (e : ℤ) (f : T (fits binary64 (fin s m e))) wher
       λ i. fin (v.0 i) (same.0 i) (same.1 i)
 
   -- so its own size, rounded, is itself
-  kept : round binary64 s (units_of m e) L ≡ fin s m e
+  pub kept : round binary64 s (units_of m e) L ≡ fin s m e
   kept =
       let k = in_format s m e f in
       let below : units_of m e < 2 ^ (low binary64 + suc (emax binary64)) = rw (pow-add, mul_comm (2 ^ low binary64)) k.below_top in

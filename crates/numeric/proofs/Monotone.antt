@@ -12,7 +12,7 @@ use lib.Ieee.{Float, nan, inf, fin, binary64, low, fits, le, round, sum, add, su
 use lib.Ieee.Order.{round_mono}
 use lib.Ieee.Scale.{finite}
 use Rattle.numeric.proofs.Values.{Number}
-use Rattle.numeric.proofs.Units.{L, units_of, plus, minus, sum_units, leq_units}
+use Rattle.numeric.proofs.Units.{L, units_of, plus, minus, sum_units, above, under, le_to_units}
 use Rattle.numeric.proofs.Sign.{neg_round, le_neg, round_signed, across, neg_number}
 
 -- ---- four ways two rounded numbers can stand
@@ -52,11 +52,11 @@ rounded_mono p q p' q' (inl a) (inr b) h =
     let z = nothing p q a.0 p' q' b.0 a.1 b.1 h in
     both (rw z.0 at a.2) (rw z.1 at b.2) zeros
 
-over : (u v : ℕ) → u < v → 0 + v ≡ u + 0 + (v - u)
-over u v h = omega arith
+over_is : (u v : ℕ) → u < v → 0 + v ≡ u + 0 + (v - u)
+over_is u v h = omega arith
 
-under : (u v : ℕ) → v ≤ u → u + 0 ≡ 0 + v + (u - v)
-under u v h = omega arith
+under_is : (u v : ℕ) → v ≤ u → u + 0 ≡ 0 + v + (u - v)
+under_is u v h = omega arith
 
 level_zero : (u v : ℕ) → v ≤ u → u ≤ v → 0 + v ≡ u + 0 + (u - v)
 level_zero u v h k = omega arith
@@ -64,45 +64,39 @@ level_zero u v h k = omega arith
 same_sign : (u v : ℕ) → u + v ≡ 0 + 0 + (u + v)
 same_sign u v = omega arith
 
-pub rounded_sum : (s : Bool) (u : ℕ) (t : Bool) (v : ℕ) → Rounded (sum binary64 s u t v L) (plus s u + plus t v) (minus s u + minus t v)
+rounded_sum : (s : Bool) (u : ℕ) (t : Bool) (v : ℕ) → Rounded (sum binary64 s u t v L) (plus s u + plus t v) (minus s u + minus t v)
 unfolding sum
 rounded_sum false u false v = inl (u + v, same_sign u v, refl)
 rounded_sum true u true v = inr (u + v, same_sign u v, refl)
 rounded_sum false u true v = go (ltb u v) (ltb→lt u v) (nltb→le u v)
   where
     go : (b : Bool) → (T b → u < v) → (T (not b) → v ≤ u) → Rounded (cond b (round binary64 true (v - u) L) (round binary64 false (u - v) L)) (u + 0) (0 + v)
-    go true h k = inr (v - u, over u v (h tt), refl)
-    go false h k = inl (u - v, under u v (k tt), refl)
+    go true h k = inr (v - u, over_is u v (h tt), refl)
+    go false h k = inl (u - v, under_is u v (k tt), refl)
 rounded_sum true u false v = go (ltb u v) (ltb→lt u v) (nltb→le u v) (ltb v u) (ltb→lt v u) (nltb→le v u)
   where
     go : (b : Bool) → (T b → u < v) → (T (not b) → v ≤ u) → (c : Bool) → (T c → v < u) → (T (not c) → u ≤ v)
         → Rounded (cond b (round binary64 false (v - u) L) (round binary64 (true && c) (u - v) L)) (0 + v) (u + 0)
-    go true h k c i j = inl (v - u, over u v (h tt), refl)
-    go false h k true i j = inr (u - v, under u v (le_of_lt (i tt)), refl)
+    go true h k c i j = inl (v - u, over_is u v (h tt), refl)
+    go false h k true i j = inr (u - v, under_is u v (le_of_lt (i tt)), refl)
     go false h k false i j = inl (u - v, level_zero u v (k tt) (j tt), refl)
 
--- ---- the sum grows with its first term
-ordered : (p q p' q' r w : ℕ) → p + q' ≤ p' + q → p + r + (q' + w) ≤ p' + r + (q + w)
-ordered p q p' q' r w h = omega arith
+-- ---- the sum of two numbers, and that it grows with its first term
+add_rounded_fin : (x y : Float) → T (finite x) → T (finite y) → T (fits binary64 x) → T (fits binary64 y)
+    → Rounded (add binary64 x y) (above x + above y) (under x + under y)
+add_rounded_fin nan y p q f g = absurd p
+add_rounded_fin (inf s) y p q f g = absurd p
+add_rounded_fin (fin s m e) nan p q f g = absurd q
+add_rounded_fin (fin s m e) (inf t) p q f g = absurd q
+add_rounded_fin (fin s m e) (fin t n d) p q f g = rw (sum_units s m e t n d f g) (rounded_sum s (units_of m e) t (units_of n d))
 
-add_mono_fin : (x x' y : Float) → T (finite x) → T (finite x') → T (finite y) → T (fits binary64 x) → T (fits binary64 x') → T (fits binary64 y) → T (le x x')
-    → T (le (add binary64 x y) (add binary64 x' y))
-add_mono_fin nan x' y a b c f g k h = absurd a
-add_mono_fin (inf s) x' y a b c f g k h = absurd a
-add_mono_fin (fin s m e) nan y a b c f g k h = absurd b
-add_mono_fin (fin s m e) (inf r) y a b c f g k h = absurd b
-add_mono_fin (fin s m e) (fin r o z) nan a b c f g k h = absurd c
-add_mono_fin (fin s m e) (fin r o z) (inf t) a b c f g k h = absurd c
-add_mono_fin (fin s m e) (fin r o z) (fin t n d) a b c f g k h =
-    let u = units_of m e in
-    let u' = units_of o z in
-    let v = units_of n d in
-    both (sum_units s m e t n d f k) (sum_units r o z t n d g k)
-    (rounded_mono (plus s u + plus t v) (minus s u + minus t v) (plus r u' + plus t v) (minus r u' + minus t v) (rounded_sum s u t v) (rounded_sum r u' t v)
-    (ordered (plus s u) (minus s u) (plus r u') (minus r u') (plus t v) (minus t v) (leq_units s m e r o z f g h)))
+pub add_rounded : {x y : Float} → Number x → Number y → Rounded (add binary64 x y) (above x + above y) (under x + under y)
+add_rounded {x} {y} p q = add_rounded_fin x y p.is_finite q.is_finite p.is_held q.is_held
 
 pub add_mono : {x x' y : Float} → Number x → Number x' → Number y → T (le x x') → T (le (add binary64 x y) (add binary64 x' y))
-add_mono {x} {x'} {y} p q r h = add_mono_fin x x' y p.is_finite q.is_finite r.is_finite p.is_held q.is_held r.is_held h
+add_mono {x} {x'} {y} p q r h =
+    rounded_mono (above x + above y) (under x + under y) (above x' + above y) (under x' + under y) (add_rounded p r) (add_rounded q r)
+    (omega (arith, le_to_units p q h))
 
 pub sub_mono : {x x' y : Float} → Number x → Number x' → Number y → T (le x x') → T (le (sub binary64 x y) (sub binary64 x' y))
 unfolding sub

@@ -4,7 +4,7 @@ use mathlib.Core.Logic.{inl, inr}
 use mathlib.Core.Bool.{Bool, true, false, not, ◌&&◌, ◌||◌, beq, cond, true≢false, false≢true}
 use Prim.Native.Nat.{ℕ, zero, suc, ◌+◌, ◌-◌, ◌*◌, ◌/◌, ◌^◌}
 use native.Mathlib.Nat.{add_comm}
-use lib.Dec.{T, ltb, eqb, lt→ltb, eqb→eq}
+use lib.Dec.{T, ltb, eqb, eqb→eq}
 use lib.Ieee.{Float, nan, inf, fin, binary64, prec, emax, low, up, down, size, odd, units, le, below, level, round, neg}
 use lib.Ieee.Fits.{and_l, and_r, and_i, eq→eqb, round_is, neg-fits}
 use lib.Ieee.Nearest.{closest}
@@ -12,7 +12,7 @@ use lib.Ieee.Scale.{finite}
 use mir.Facts.{or_yes}
 use Rattle.numeric.proofs.Tests.{or_l, or_r}
 use Rattle.numeric.proofs.Values.{Number}
-use Rattle.numeric.proofs.Units.{sum_pos}
+use Rattle.numeric.proofs.Units.{minus_plus}
 
 -- ---- the sign
 neg_odd : (d q k l : ℕ) → neg (odd d false q k l) ≡ odd d true q k l
@@ -117,13 +117,7 @@ across (fin true m e) nan p q = absurd q
 across (fin true m e) (inf true) p q = absurd (true≢false q)
 across (fin true m e) (inf false) p q = tt
 across (fin true m e) (fin true n d) p q = absurd (true≢false q)
-across (fin true m e) (fin false n d) p q =
-    let a = m * up e * down d in
-    let b = n * up d * down e in
-    elim (sum_pos a b) [
-      | inl h ↦ or_l (ltb 0 (a + b)) (eqb a b && (false || eqb a 0)) (lt→ltb 0 (a + b) h)
-      | inr z ↦ or_r (ltb 0 (a + b)) (eqb a b && (false || eqb a 0)) (and_i (eqb a b) (eqb a 0) (eq→eqb (z.0 ∙ sym z.1)) (eq→eqb z.0))
-    ]
+across (fin true m e) (fin false n d) p q = minus_plus (m * up e * down d) (n * up d * down e)
 
 neg_finite : (y : Float) → T (finite y) → T (finite (neg y))
 unfolding neg

@@ -1,10 +1,10 @@
--- Near, of finite values: it is symmetric, a value is near itself, and of three values in order the middle one is near the first if the last is.
+-- Near goes both ways, for all values. A number is near itself, and of three numbers in order, where the last is near the first, the middle one is near both.
 -- The margin may be any value.
--- All go by the distance of the two values in units of the smallest value, which the difference rounds.
-use mathlib.Core.Path.{◌≡◌, refl, sym, ap, ◌∙◌, subst}
+-- The size of a difference is the distance of the two values, rounded; of two numbers, in units of the smallest value.
+use mathlib.Core.Path.{◌≡◌, refl, sym, ap, ◌∙◌}
 use mathlib.Core.Bool.{Bool, true, false, not, ◌&&◌, cond, true≢false}
 use Prim.Native.Nat.{ℕ, zero, suc, ◌+◌, ◌-◌, ◌*◌, ◌≤◌, ◌<◌}
-use native.Mathlib.Nat.{mul-le-mul_right, mul-pos, zero-lt-suc, zero-mul}
+use native.Mathlib.Nat.{mul_comm, mul-le-mul_right, mul-pos, zero-lt-suc, zero-mul}
 use native.Mathlib.Omega.{arith}
 use lib.IntN.{ℤ}
 use lib.Dec.{T, ltb, eqb, ltb→lt, nltb→le, eqb→eq}
@@ -18,7 +18,7 @@ use lib.Ieee.Scale.{finite}
 use Rattle.numeric.specs.Constants.{zero64}
 use Rattle.numeric.specs.Near.{abs_of, is_near}
 use Rattle.numeric.proofs.Values.{Number, at_most, of_at_most, not_zero}
-use Rattle.numeric.proofs.Units.{L, units_of, plus, minus, dist, sum_units, leq_units}
+use Rattle.numeric.proofs.Units.{L, units_of, plus, minus, dist, sum_units, above, under, le_to_units}
 use Rattle.numeric.proofs.Sign.{Signed, neg_round, round_signed}
 
 -- ---- le is transitive from two values with the sign +
@@ -81,28 +81,29 @@ abs_plus nan h = absurd h
 abs_plus (inf s) h = rw h
 abs_plus (fin s m e) h = rw h
 
-abs_round : (s : Bool) (n : ℕ) → abs_of (round binary64 s n L) ≡ round binary64 false n L
-abs_round false n = abs_plus (round binary64 false n L) (round_signed false n L)
-abs_round true n = ap abs_of (sym (neg_round n L)) ∙ abs_neg (round binary64 false n L) ∙ abs_plus (round binary64 false n L) (round_signed false n L)
+abs_round : (s : Bool) (n c : ℕ) → abs_of (round binary64 s n c) ≡ round binary64 false n c
+abs_round false n c = abs_plus (round binary64 false n c) (round_signed false n c)
+abs_round true n c = ap abs_of (sym (neg_round n c)) ∙ abs_neg (round binary64 false n c) ∙ abs_plus (round binary64 false n c) (round_signed false n c)
 
--- ---- how far apart two signed numbers of units are: x - y
-abbrev pub distance : Bool → ℕ → Bool → ℕ → ℕ
-distance s u t v = dist (plus s u + minus t v) (plus t v + minus s u)
+-- ---- the size of a difference
+over_is : (u v : ℕ) → u < v → v - u ≡ u - v + (v - u)
+over_is u v h = omega arith
 
-over : (u v : ℕ) → u < v → v - u ≡ u - v + (v - u)
-over u v h = omega arith
+under_is : (u v : ℕ) → v ≤ u → u - v ≡ u - v + (v - u)
+under_is u v h = omega arith
 
-under : (u v : ℕ) → v ≤ u → u - v ≡ u - v + (v - u)
-under u v h = omega arith
-
-abs_mixed : (s t : Bool) (u v : ℕ)
-    → abs_of (cond (ltb u v) (round binary64 t (v - u) L) (round binary64 (s && ltb v u) (u - v) L)) ≡ round binary64 false (dist u v) L
-abs_mixed s t u v = go (ltb u v) (ltb→lt u v) (nltb→le u v)
+abs_mixed : (s t : Bool) (u v c : ℕ)
+    → abs_of (cond (ltb u v) (round binary64 t (v - u) c) (round binary64 (s && ltb v u) (u - v) c)) ≡ round binary64 false (dist u v) c
+abs_mixed s t u v c = go (ltb u v) (ltb→lt u v) (nltb→le u v)
   where
     go : (b : Bool) → (T b → u < v) → (T (not b) → v ≤ u)
-        → abs_of (cond b (round binary64 t (v - u) L) (round binary64 (s && ltb v u) (u - v) L)) ≡ round binary64 false (dist u v) L
-    go true h k = abs_round t (v - u) ∙ rw (← over u v (h tt))
-    go false h k = abs_round (s && ltb v u) (u - v) ∙ rw (← under u v (k tt))
+        → abs_of (cond b (round binary64 t (v - u) c) (round binary64 (s && ltb v u) (u - v) c)) ≡ round binary64 false (dist u v) c
+    go true h k = abs_round t (v - u) c ∙ rw (← over_is u v (h tt))
+    go false h k = abs_round (s && ltb v u) (u - v) c ∙ rw (← under_is u v (k tt))
+
+-- how far apart two signed numbers are
+abbrev distance : Bool → ℕ → Bool → ℕ → ℕ
+distance s u t v = dist (plus s u + minus t v) (plus t v + minus s u)
 
 dist_ff : (u v : ℕ) → dist u v ≡ dist (u + 0) (v + 0)
 dist_ff u v = omega arith
@@ -116,15 +117,46 @@ dist_ft u v = omega arith
 dist_tf : (u v : ℕ) → u + v ≡ dist (0 + 0) (v + u)
 dist_tf u v = omega arith
 
--- the difference of ±u and ±v
-abs_diff : (s : Bool) (u : ℕ) (t : Bool) (v : ℕ) → abs_of (sum binary64 s u (not t) v L) ≡ round binary64 false (distance s u t v) L
+-- the difference of ±u / c and ±v / c
+abs_diff : (s : Bool) (u : ℕ) (t : Bool) (v c : ℕ) → abs_of (sum binary64 s u (not t) v c) ≡ round binary64 false (distance s u t v) c
 unfolding sum
-abs_diff false u false v = abs_mixed false true u v ∙ rw (← dist_ff u v)
-abs_diff true u true v = abs_mixed true false u v ∙ rw (← dist_tt u v)
-abs_diff false u true v = abs_round false (u + v) ∙ rw (← dist_ft u v)
-abs_diff true u false v = abs_round true (u + v) ∙ rw (← dist_tf u v)
+abs_diff false u false v c = abs_mixed false true u v c ∙ rw (← dist_ff u v)
+abs_diff true u true v c = abs_mixed true false u v c ∙ rw (← dist_tt u v)
+abs_diff false u true v c = abs_round false (u + v) c ∙ rw (← dist_ft u v)
+abs_diff true u false v c = abs_round true (u + v) c ∙ rw (← dist_tf u v)
 
--- ---- near, by the distance
+-- ---- a - b and b - a have one size, whatever a and b are
+swap : (a b : ℕ) → dist a b ≡ dist b a
+swap a b = omega arith
+
+turned : (s : Bool) (u : ℕ) (t : Bool) (v c : ℕ) → abs_of (sum binary64 s u (not t) v c) ≡ abs_of (sum binary64 t v (not s) u c)
+turned s u t v c = abs_diff s u t v c ∙ rw (swap (plus s u + minus t v) (plus t v + minus s u)) (sym (abs_diff t v s u c))
+
+size_turned : (a b : Float) → abs_of (sub binary64 a b) ≡ abs_of (sub binary64 b a)
+unfolding sub add neg abs_of
+size_turned nan nan = refl
+size_turned nan (inf t) = refl
+size_turned nan (fin t n d) = refl
+size_turned (inf s) nan = refl
+size_turned (inf true) (inf true) = refl
+size_turned (inf true) (inf false) = refl
+size_turned (inf false) (inf true) = refl
+size_turned (inf false) (inf false) = refl
+size_turned (inf s) (fin t n d) = refl
+size_turned (fin s m e) nan = refl
+size_turned (fin s m e) (inf t) = refl
+size_turned (fin s m e) (fin t n d) =
+    turned s (m * up e * down d) t (n * up d * down e) (down e * down d)
+    ∙ rw (mul_comm (down e) (down d))
+
+pub near_turned : (margin a b : Float) → is_near margin a b ≡ is_near margin b a
+unfolding is_near
+near_turned margin a b = rw (size_turned a b)
+
+-- ---- near, of numbers
+abbrev apart : Float → Float → ℕ
+apart x y = dist (above x + under y) (above y + under x)
+
 sub_opened : (s : Bool) (m : ℕ) (e : ℤ) (t : Bool) (n : ℕ) (d : ℤ) → sub binary64 (fin s m e) (fin t n d) ≡ add binary64 (fin s m e) (fin (not t) n d)
 unfolding sub neg
 sub_opened s m e t n d = refl
@@ -133,8 +165,14 @@ flipped : (t : Bool) (n : ℕ) (d : ℤ) → T (fits binary64 (fin t n d)) → T
 unfolding neg
 flipped t n d g = neg-fits binary64 (fin t n d) g
 
-swap : (a b : ℕ) → dist a b ≡ dist b a
-swap a b = omega arith
+size_units : (x y : Float) → T (finite x) → T (finite y) → T (fits binary64 x) → T (fits binary64 y)
+    → abs_of (sub binary64 x y) ≡ round binary64 false (apart x y) L
+size_units nan y p q f g = absurd p
+size_units (inf s) y p q f g = absurd p
+size_units (fin s m e) nan p q f g = absurd q
+size_units (fin s m e) (inf t) p q f g = absurd q
+size_units (fin s m e) (fin t n d) p q f g =
+    rw (sub_opened s m e t n d, sum_units s m e (not t) n d f (flipped t n d g)) (abs_diff s (units_of m e) t (units_of n d) L)
 
 nowhere : (a : ℕ) → dist a a ≡ 0
 nowhere a = omega arith
@@ -143,15 +181,10 @@ zero_rounded : round binary64 false 0 L ≡ zero64
 unfolding round
 zero_rounded = refl
 
-shorter : (a a' b b' c c' : ℕ) → a + b' ≤ b + a' → b + c' ≤ c + b' → dist (b + a') (a + b') ≤ dist (c + a') (a + c')
-shorter a a' b b' c c' h k = omega arith
-
 module _ (margin : Float) where
-  near_units : (s : Bool) (m : ℕ) (e : ℤ) (t : Bool) (n : ℕ) (d : ℤ) → T (fits binary64 (fin s m e)) → T (fits binary64 (fin t n d))
-      → is_near margin (fin s m e) (fin t n d) ≡ le (round binary64 false (distance s (units_of m e) t (units_of n d)) L) margin
+  near_units : {x y : Float} → Number x → Number y → is_near margin x y ≡ le (round binary64 false (apart x y) L) margin
   unfolding is_near
-  near_units s m e t n d f g =
-      rw (sub_opened s m e t n d, sum_units s m e (not t) n d f (flipped t n d g), abs_diff s (units_of m e) t (units_of n d))
+  near_units {x} {y} p q = rw (size_units x y p.is_finite q.is_finite p.is_held q.is_held)
 
   -- what rounds a smaller distance is no larger
   le_less : (n k : ℕ) → n ≤ k → T (le (round binary64 false k L) margin) → T (le (round binary64 false n L) margin)
@@ -159,44 +192,20 @@ module _ (margin : Float) where
       le_trans_plus (round binary64 false n L) (round binary64 false k L) margin (round_signed false n L) (round_signed false k L)
       (round_mono binary64 n L k L (pow_pos (low binary64)) (pow_pos (low binary64)) (mul-le-mul_right L h)) t
 
-  sym_fin : (x y : Float) → T (finite x) → T (finite y) → T (fits binary64 x) → T (fits binary64 y) → is_near margin x y ≡ is_near margin y x
-  sym_fin nan y p q f g = absurd p
-  sym_fin (inf s) y p q f g = absurd p
-  sym_fin (fin s m e) nan p q f g = absurd q
-  sym_fin (fin s m e) (inf t) p q f g = absurd q
-  sym_fin (fin s m e) (fin t n d) p q f g =
-      near_units s m e t n d f g
-      ∙ rw (swap (plus s (units_of m e) + minus t (units_of n d)) (plus t (units_of n d) + minus s (units_of m e))) (sym (near_units t n d s m e g f))
+  -- of three in order
+  module _ {x y z : Float} (p : Number x) (q : Number y) (r : Number z) (h : T (le x y)) (k : T (le y z)) (t : T (is_near margin z x)) where
+    wide : T (le (round binary64 false (apart z x) L) margin)
+    wide = rw (near_units r p) at t
 
-  between_fin : (x y z : Float) → T (finite x) → T (finite y) → T (finite z) → T (fits binary64 x) → T (fits binary64 y) → T (fits binary64 z) → T (le x y)
-      → T (le y z) → T (is_near margin z x) → T (is_near margin y x)
-  between_fin nan y z p q r f g h a b c = absurd p
-  between_fin (inf s) y z p q r f g h a b c = absurd p
-  between_fin (fin s m e) nan z p q r f g h a b c = absurd q
-  between_fin (fin s m e) (inf t) z p q r f g h a b c = absurd q
-  between_fin (fin s m e) (fin t n d) nan p q r f g h a b c = absurd r
-  between_fin (fin s m e) (fin t n d) (inf o) p q r f g h a b c = absurd r
-  between_fin (fin s m e) (fin t n d) (fin o i j) p q r f g h a b c =
-      let u = units_of m e in
-      let v = units_of n d in
-      let w = units_of i j in
-      subst T (sym (near_units t n d s m e g f))
-      (le_less (distance t v s u) (distance o w s u) (shorter (plus s u) (minus s u) (plus t v) (minus t v) (plus o w) (minus o w)
-      (leq_units s m e t n d f g a) (leq_units t n d o i j g h b))
-      (subst T (near_units o i j s m e h f) c))
+    pub near-between : T (is_near margin y x)
+    near-between =
+        rw (near_units q p)
+        (le_less (apart y x) (apart z x) (omega (arith, le_to_units p q h, le_to_units q r k)) wide)
 
-  pub near_sym : {x y : Float} → Number x → Number y → is_near margin x y ≡ is_near margin y x
-  near_sym {x} {y} p q = sym_fin x y p.is_finite q.is_finite p.is_held q.is_held
-
-  pub near-between : {x y z : Float} → Number x → Number y → Number z → T (le x y) → T (le y z) → T (is_near margin z x) → T (is_near margin y x)
-  near-between {x} {y} {z} p q r = between_fin x y z p.is_finite q.is_finite r.is_finite p.is_held q.is_held r.is_held
-
-  self_fin : (x : Float) → T (finite x) → T (fits binary64 x) → T (le zero64 margin) → is_near margin x x ≡ true
-  self_fin nan p f t = absurd p
-  self_fin (inf s) p f t = absurd p
-  self_fin (fin s m e) p f t =
-      near_units s m e s m e f f
-      ∙ rw (nowhere (plus s (units_of m e) + minus s (units_of m e)), zero_rounded) (is_true (le zero64 margin) t)
+    pub near_above : T (is_near margin z y)
+    near_above =
+        rw (near_units r q)
+        (le_less (apart z y) (apart z x) (omega (arith, le_to_units p q h, le_to_units q r k)) wide)
 
   pub near_self : {x : Float} → Number x → T (le zero64 margin) → is_near margin x x ≡ true
-  near_self {x} p t = self_fin x p.is_finite p.is_held t
+  near_self {x} p t = near_units p p ∙ rw (nowhere (above x + under x), zero_rounded) (is_true (le zero64 margin) t)
