@@ -18,7 +18,7 @@ use Rattle.grouping_marks.proofs.NumberLaws.{count_from, count_all, count-over, 
 use Rattle.grouping_chart.specs.Object.{is_note}
 use Rattle.grouping_interval.specs.Notes.{of_notes}
 use Rattle.grouping_interval.proofs.NoteLaws.{of_notes-step, of_notes-over}
-use Rattle.grouping_interval.specs.IntervalGrouping.{is_rise, last_taken, marks_after, interval_marks}
+use Rattle.grouping_interval.specs.IntervalGrouping.{is_rise, pair_class, last_taken, marks_after, interval_marks}
 use Rattle.grouping_interval.proofs.IntervalLaws.{marks_near, marks_rise, marks_neither, marks_one, marks_none, marks_first, length_marks}
 use Rattle.grouping_interval.proofs.GroupLaws.{marks_all}
 use Rattle.grouping_interval.specs.declared.notes.Counting.{Counting}
@@ -87,7 +87,7 @@ behind (Some next) ds = next ∷ ds
 abbrev Meets : Float → Counting → List Float → Type 0
 Meets margin c ds =
     groups_in_all margin (end_state (counted margin) (Some c) ds)
-    ≡ count_from c.groups (marks_after margin (ltb 2 (c.notes + length ds)) c.last (behind c.pending ds))
+    ≡ count_from c.groups (marks_after (pair_class margin) (ltb 2 (c.notes + length ds)) c.last (behind c.pending ds))
 
 meets_none : (margin : Float) (c : Counting) → Begun c → Meets margin c []
 unfolding groups_in_all groups_counted
@@ -97,11 +97,11 @@ meets_none margin c h = rw (after_none (counted margin) (Some c), add-zero c.not
     last_by true = sym (count_same c.groups [] h ∙ count-over c.groups)
     last_by false = sym (count_new c.groups [] ∙ count-over (c.groups + 1))
 
-    by : (p : Option Float) → counted_with margin c p ≡ count_from c.groups (marks_after margin (ltb 2 c.notes) c.last (behind p []))
+    by : (p : Option Float) → counted_with margin c p ≡ count_from c.groups (marks_after (pair_class margin) (ltb 2 c.notes) c.last (behind p []))
     by (Some next) =
         let many : Bool = ltb 2 c.notes in
-        last_by (last_taken margin many c.last next) ∙ ap (count_from c.groups) (sym (marks_one margin many c.last next))
-    by None = sym (ap (count_from c.groups) (marks_none margin (ltb 2 c.notes) c.last) ∙ count-over c.groups)
+        last_by (last_taken many (pair_class margin c.last next)) ∙ ap (count_from c.groups) (sym (marks_one (pair_class margin) many c.last next))
+    by None = sym (ap (count_from c.groups) (marks_none (pair_class margin) (ltb 2 c.notes) c.last) ∙ count-over c.groups)
 
 module _ (margin : Float) (c : Counting) (d : Float) (ds : List Float) (h : Begun c) (u : (c' : Counting) → Begun c' → Meets margin c' ds) where
   many : Bool
@@ -109,8 +109,8 @@ module _ (margin : Float) (c : Counting) (d : Float) (ds : List Float) (h : Begu
 
   -- one note more
   meets_on : (c' : Counting) → c' ≡ counted_further margin c d → Begun c'
-      → count_from c.groups (marks_after margin many c.last (behind c.pending (d ∷ ds)))
-      ≡ count_from c'.groups (marks_after margin (ltb 2 (c'.notes + length ds)) c'.last (behind c'.pending ds))
+      → count_from c.groups (marks_after (pair_class margin) many c.last (behind c.pending (d ∷ ds)))
+      ≡ count_from c'.groups (marks_after (pair_class margin) (ltb 2 (c'.notes + length ds)) c'.last (behind c'.pending ds))
       → Meets margin c (d ∷ ds)
   unfolding many counted
   meets_on c' e b k =
@@ -119,7 +119,7 @@ module _ (margin : Float) (c : Counting) (d : Float) (ds : List Float) (h : Begu
       ∙ ap (λ (x : Counting). groups_in_all margin (end_state (counted margin) (Some x) ds)) (sym e)
       ∙ u c' b
       ∙ sym k
-      ∙ ap (λ (n : ℕ). count_from c.groups (marks_after margin (ltb 2 n) c.last (behind c.pending (d ∷ ds)))) n
+      ∙ ap (λ (n : ℕ). count_from c.groups (marks_after (pair_class margin) (ltb 2 n) c.last (behind c.pending (d ∷ ds)))) n
 
   meets_open : c.pending ≡ None → Meets margin c (d ∷ ds)
   unfolding many
@@ -160,9 +160,9 @@ counted_all margin (d ∷ ds) =
     let one : 1 + length ds ≡ suc (length ds) = omega arith in
     ap (groups_in_all margin) (after_first (counted margin) None d ds)
     ∙ meets margin (counted_first d) ds (omega arith)
-    ∙ ap (λ (n : ℕ). count_from 1 (marks_after margin (ltb 2 n) d ds)) one
-    ∙ sym (count_new 0 (marks_after margin (ltb 2 (suc (length ds))) d ds))
-    ∙ ap (count_from 0) (sym (marks_all margin (d ∷ ds) ∙ marks_first margin (ltb 2 (suc (length ds))) d ds))
+    ∙ ap (λ (n : ℕ). count_from 1 (marks_after (pair_class margin) (ltb 2 n) d ds)) one
+    ∙ sym (count_new 0 (marks_after (pair_class margin) (ltb 2 (suc (length ds))) d ds))
+    ∙ ap (count_from 0) (sym (marks_all margin (d ∷ ds) ∙ marks_first (pair_class margin) (ltb 2 (suc (length ds))) d ds))
     ∙ sym (count_all (interval_marks margin (d ∷ ds)))
 
 -- ---- the loop of `count_groups`

@@ -14,6 +14,7 @@ use Rattle.grouping_marks.specs.Marks.{group_count}
 use Rattle.grouping_marks.specs.Parted.{parted}
 use Rattle.grouping_marks.proofs.MarksLaws.{count_none}
 use Rattle.grouping_marks.proofs.PartedLaws.{parted_none, parted_first, count_first}
+use Rattle.grouping_interval.specs.IntervalGrouping.{pair_class}
 use Rattle.grouping_interval.specs.GroupEnd.{grow, group_end}
 use Rattle.grouping_interval.specs.passes.MarkPass.{marks_from}
 use Rattle.grouping_interval.proofs.GroupLaws.{marks_at, grown}
@@ -23,7 +24,7 @@ pub use Rattle.grouping_interval.proofs.GroupLaws.{end_past, end_after_lem, end-
 
 -- the end, from what stands from `at` on
 grown_from : (margin : Float) (v : List Float) (at : ℕ) → at < length v
-    → group_end margin v at ≡ suc at + grow margin (ltb 2 (length v)) (get_or (drop at v) 0 nan) (drop 1 (drop at v))
+    → group_end margin v at ≡ suc at + grow (pair_class margin) (ltb 2 (length v)) (get_or (drop at v) 0 nan) (drop 1 (drop at v))
 grown_from margin v at h =
     rw (drop-cons v at nan h) (grown margin v at h)
 
@@ -43,28 +44,28 @@ end_same margin xs ys at l e = by (ltb at (length xs)) refl
 -- ---- the groups' items and their count
 
 -- the first mark, if there is one, is 1
-opens_first : (margin : Float) (many : Bool) (values : List Float) → get_or (marks_from margin many values) 0 1 ≡ 1
+opens_first : (margin : Float) (many : Bool) (values : List Float) → get_or (marks_from (pair_class margin) many values) 0 1 ≡ 1
 unfolding marks_from
 opens_first margin many [] = refl
 opens_first margin many (v ∷ rest) = refl
 
 -- the items from a group's first one on: those up to the group's end, and the groups from there on
 pub parted-end : {A : Type 0} (margin : Float) (values : List Float) (xs : List A) (at : ℕ) → at < length values → length xs ≡ length values
-    → parted (marks_from margin (ltb 2 (length values)) (drop at values)) (drop at xs)
+    → parted (marks_from (pair_class margin) (ltb 2 (length values)) (drop at values)) (drop at xs)
     ≡ take (group_end margin values at - at) (drop at xs)
-    ∷ parted (marks_from margin (ltb 2 (length values)) (drop (group_end margin values at) values)) (drop (group_end margin values at) xs)
+    ∷ parted (marks_from (pair_class margin) (ltb 2 (length values)) (drop (group_end margin values at) values)) (drop (group_end margin values at) xs)
 parted-end {A} margin values xs at h l =
     rw (marks_at margin values at h)
     (by (group_end margin values at) (end_after_lem margin values at h) (end-within margin values at h) (drop at xs) refl)
   where
     by : (end : ℕ) → at < end → end ≤ length values → (ys : List A) → drop at xs ≡ ys
-        → parted (1 ∷ replicate (end - at - 1) 0 ++ marks_from margin (ltb 2 (length values)) (drop end values)) ys
-        ≡ take (end - at) ys ∷ parted (marks_from margin (ltb 2 (length values)) (drop end values)) (drop end xs)
+        → parted (1 ∷ replicate (end - at - 1) 0 ++ marks_from (pair_class margin) (ltb 2 (length values)) (drop end values)) ys
+        ≡ take (end - at) ys ∷ parted (marks_from (pair_class margin) (ltb 2 (length values)) (drop end values)) (drop end xs)
     by end a w [] e = absurd (omega (arith, ap length e, length-drop at xs))
     by end a w (y ∷ ys) e =
         let many : Bool = ltb 2 (length values) in
         let k : ℕ = end - at - 1 in
-        let rest : List ℕ = marks_from margin many (drop end values) in
+        let rest : List ℕ = marks_from (pair_class margin) many (drop end values) in
         let s : suc k ≡ end - at = omega arith in
         let p : at + suc k ≡ end = omega arith in
         let d : drop k ys ≡ drop end xs = ap (drop (suc k)) (sym e) ∙ drop-drop (suc k) at xs ∙ ap (λ (n : ℕ). drop n xs) p in
@@ -73,18 +74,18 @@ parted-end {A} margin values xs at h l =
         ∙ rw d
 
 -- past the last value there is no group
-pub parted_past : {A : Type 0} (margin : Float) (many : Bool) (xs : List A) → parted (marks_from margin many []) xs ≡ []
+pub parted_past : {A : Type 0} (margin : Float) (many : Bool) (xs : List A) → parted (marks_from (pair_class margin) many []) xs ≡ []
 unfolding marks_from
 parted_past margin many xs = parted_none xs
 
-pub count_past : (margin : Float) (many : Bool) → group_count (marks_from margin many []) ≡ 0
+pub count_past : (margin : Float) (many : Bool) → group_count (marks_from (pair_class margin) many []) ≡ 0
 unfolding marks_from
 count_past margin many = count_none [] refl
 
 -- one group, and those from its end on
 pub count_from_lem : (margin : Float) (values : List Float) (at : ℕ) → at < length values
-    → group_count (marks_from margin (ltb 2 (length values)) (drop at values))
-    ≡ 1 + group_count (marks_from margin (ltb 2 (length values)) (drop (group_end margin values at) values))
+    → group_count (marks_from (pair_class margin) (ltb 2 (length values)) (drop at values))
+    ≡ 1 + group_count (marks_from (pair_class margin) (ltb 2 (length values)) (drop (group_end margin values at) values))
 count_from_lem margin values at h =
     ap group_count (marks_at margin values at h)
     ∙ count_first 1 (group_end margin values at - at - 1) _ (opens_first margin (ltb 2 (length values)) (drop (group_end margin values at) values))

@@ -6,7 +6,7 @@ use Prim.Native.Nat.{ℕ}
 use lib.IntN.{pos}
 use lib.Ieee.{Float, fin, binary64, round, add, sub, le, lt, of_int, of_bits}
 use Rattle.numeric.specs.Near.{abs_of, is_near}
-use Rattle.grouping_interval.specs.IntervalGrouping.{is_rise, marks_after, interval_marks}
+use Rattle.grouping_interval.specs.IntervalGrouping.{is_rise, pair_class, marks_after, class_marks, interval_marks}
 
 -- 5.0
 margin : Float
@@ -46,5 +46,5 @@ examples =
 
 -- every list comes out as it says
 examples_right : map (λ (e : Example). interval_marks margin e.deltas) examples ≡ map (λ (e : Example). e.marks) examples
-unfolding examples margin whole interval_marks marks_after is_rise is_near abs_of add sub le lt of_int of_bits round
+unfolding examples margin whole interval_marks class_marks marks_after pair_class is_rise is_near abs_of add sub le lt of_int of_bits round
 examples_right = refl

@@ -5,24 +5,25 @@ use mathlib.Core.List.{List, [], ◌∷◌, ◌++◌}
 use Prim.Native.Nat.{ℕ, suc, ◌+◌, ◌-◌, ◌≤◌, ◌<◌}
 use native.Mathlib.Numerals.{add-one}
 use native.Mathlib.Omega.{arith}
-use lib.Dec.{ltb}
+use lib.Dec.{eqb, ltb}
 use lib.ListN.{length, drop, get_or, replicate, length-drop, drop_of_length-le}
 use lib.Seq.{drop-cons, drop-drop}
 use lib.Ieee.{Float, nan}
 use borrow.Author.Tests.{lt-ltb, le-ltb, ltb-true, ltb-false}
 use Rattle.numeric.specs.Near.{is_near}
-use Rattle.grouping_interval.specs.IntervalGrouping.{is_rise, last_taken, marks_after, interval_marks}
+use Rattle.grouping_interval.specs.IntervalGrouping.{is_rise, pair_class, last_taken, marks_after, class_marks, interval_marks}
 use Rattle.grouping_interval.specs.GroupEnd.{grow, end_after, group_end}
 use Rattle.grouping_interval.specs.passes.MarkPass.{marks_from}
+use Rattle.grouping_interval.proofs.IntervalLaws.{near_class, rise_class}
 
 -- ---- the cases
 
-module _ (margin : Float) (many : Bool) (last v w : Float) (rest : List Float) where
-  grow-near : is_near margin v w ≡ true → grow margin many last (v ∷ w ∷ rest) ≡ suc (grow margin many v (w ∷ rest))
+module _ {A : Type 0} (class : A → A → ℕ) (many : Bool) (last v w : A) (rest : List A) where
+  grow-near : eqb (class v w) 0 ≡ true → grow class many last (v ∷ w ∷ rest) ≡ suc (grow class many v (w ∷ rest))
   unfolding grow
   grow-near e = rw (e, grow)
 
-  grow_turn : (r : Bool) → is_near margin v w ≡ false → is_rise margin v w ≡ r → grow margin many last (v ∷ w ∷ rest) ≡ cond r 1 0
+  grow_turn : (r : Bool) → eqb (class v w) 0 ≡ false → eqb (class v w) 1 ≡ r → grow class many last (v ∷ w ∷ rest) ≡ cond r 1 0
   unfolding grow
   grow_turn r e f = rw (e, f, grow)
 
@@ -30,39 +31,39 @@ plus : (i : ℕ) (b : Bool) → i + cond b 1 0 ≡ cond b (i + 1) i
 plus i true = refl
 plus i false = omega arith
 
-module _ (v : List Float) (i : ℕ) where
+module _ {A : Type 0} (v : List A) (i : ℕ) (z : A) where
   -- two values or more from i on
-  pub two_left : i + 1 < length v → drop i v ≡ get_or v i nan ∷ get_or v (i + 1) nan ∷ drop (suc (i + 1)) v
-  two_left h = let k : i < length v = omega arith in rw (drop-cons v i nan k, ← add-one i, drop-cons v (i + 1) nan h)
+  pub two_left : i + 1 < length v → drop i v ≡ get_or v i z ∷ get_or v (i + 1) z ∷ drop (suc (i + 1)) v
+  two_left h = let k : i < length v = omega arith in rw (drop-cons v i z k, ← add-one i, drop-cons v (i + 1) z h)
 
   -- the last value alone
-  pub one_left : i < length v → length v ≤ i + 1 → drop i v ≡ get_or v i nan ∷ []
-  one_left h k = let z : length v ≤ suc i = omega arith in rw (drop-cons v i nan h, drop_of_length-le v z)
+  pub one_left : i < length v → length v ≤ i + 1 → drop i v ≡ get_or v i z ∷ []
+  one_left h k = let e : length v ≤ suc i = omega arith in rw (drop-cons v i z h, drop_of_length-le v e)
 
 module _ (margin : Float) (v : List Float) (i : ℕ) where
   -- the value is near the next one: the group goes on
-  pub end-near : i + 1 < length v → is_near margin (get_or v i nan) (get_or v (i + 1) nan) ≡ true → end_after margin v i ≡ end_after margin v (i + 1)
+  pub end-near : i + 1 < length v → eqb (pair_class margin (get_or v i nan) (get_or v (i + 1) nan)) 0 ≡ true → end_after margin v i ≡ end_after margin v (i + 1)
   unfolding end_after
   end-near h e =
       let many : Bool = ltb 2 (length v) in
       let x : Float = get_or v i nan in
-      let g : grow margin many (get_or v (i - 1) nan) (drop i v) ≡ suc (grow margin many x (drop (i + 1) v)) =
-      ap (grow margin many (get_or v (i - 1) nan)) (two_left v i h)
-      ∙ grow-near margin many (get_or v (i - 1) nan) x (get_or v (i + 1) nan) (drop (suc (i + 1)) v) e
-      ∙ ap (λ (l : List Float). suc (grow margin many x l)) (sym (drop-cons v (i + 1) nan h)) in
+      let g : grow (pair_class margin) many (get_or v (i - 1) nan) (drop i v) ≡ suc (grow (pair_class margin) many x (drop (i + 1) v)) =
+      ap (grow (pair_class margin) many (get_or v (i - 1) nan)) (two_left v i nan h)
+      ∙ grow-near (pair_class margin) many (get_or v (i - 1) nan) x (get_or v (i + 1) nan) (drop (suc (i + 1)) v) e
+      ∙ ap (λ (l : List Float). suc (grow (pair_class margin) many x l)) (sym (drop-cons v (i + 1) nan h)) in
       let b : i + 1 - 1 ≡ i = omega arith in
-      let k : grow margin many (get_or v (i + 1 - 1) nan) (drop (i + 1) v) ≡ grow margin many x (drop (i + 1) v) =
-      ap (λ (n : ℕ). grow margin many (get_or v n nan) (drop (i + 1) v)) b in
+      let k : grow (pair_class margin) many (get_or v (i + 1 - 1) nan) (drop (i + 1) v) ≡ grow (pair_class margin) many x (drop (i + 1) v) =
+      ap (λ (n : ℕ). grow (pair_class margin) many (get_or v n nan) (drop (i + 1) v)) b in
       omega arith
 
   -- it is not: the group ends, with the value if the next one rises
-  pub end_turn : (r : Bool) → i + 1 < length v → is_near margin (get_or v i nan) (get_or v (i + 1) nan) ≡ false
-      → is_rise margin (get_or v i nan) (get_or v (i + 1) nan) ≡ r → end_after margin v i ≡ cond r (i + 1) i
+  pub end_turn : (r : Bool) → i + 1 < length v → eqb (pair_class margin (get_or v i nan) (get_or v (i + 1) nan)) 0 ≡ false
+      → eqb (pair_class margin (get_or v i nan) (get_or v (i + 1) nan)) 1 ≡ r → end_after margin v i ≡ cond r (i + 1) i
   unfolding end_after
   end_turn r h e f =
       let many : Bool = ltb 2 (length v) in
       let last : Float = get_or v (i - 1) nan in
-      rw (two_left v i h, grow_turn margin many last (get_or v i nan) (get_or v (i + 1) nan) (drop (suc (i + 1)) v) r e f) (plus i r)
+      rw (two_left v i nan h, grow_turn (pair_class margin) many last (get_or v i nan) (get_or v (i + 1) nan) (drop (suc (i + 1)) v) r e f) (plus i r)
 
   -- no value is left
   pub end_none : length v ≤ i → end_after margin v i ≡ i
@@ -70,41 +71,41 @@ module _ (margin : Float) (v : List Float) (i : ℕ) where
   end_none h = rw (drop_of_length-le v h) (omega arith)
 
   -- the last value alone is left
-  pub end_last : (b : Bool) → i < length v → length v ≤ i + 1 → last_taken margin (ltb 2 (length v)) (get_or v (i - 1) nan) (get_or v i nan) ≡ b
+  pub end_last : (b : Bool) → i < length v → length v ≤ i + 1 → last_taken (ltb 2 (length v)) (pair_class margin (get_or v (i - 1) nan) (get_or v i nan)) ≡ b
       → end_after margin v i ≡ cond b (i + 1) i
   unfolding end_after grow
-  end_last b h k e = rw (one_left v i h k, e) (plus i b)
+  end_last b h k e = rw (one_left v i nan h k, e) (plus i b)
 
 -- ---- the marks
 
 -- the values that the group takes are 0, and the next one opens a group
-pub marks_grow : (margin : Float) (many : Bool) (last : Float) (values : List Float)
-    → marks_after margin many last values ≡ replicate (grow margin many last values) 0 ++ marks_from margin many (drop (grow margin many last values) values)
+pub marks_grow : {A : Type 0} (class : A → A → ℕ) (many : Bool) (last : A) (values : List A)
+    → marks_after class many last values ≡ replicate (grow class many last values) 0 ++ marks_from class many (drop (grow class many last values) values)
 unfolding marks_after marks_from grow
-marks_grow margin many last [] = refl
-marks_grow margin many last (v ∷ []) = by (last_taken margin many last v)
+marks_grow class many last [] = refl
+marks_grow class many last (v ∷ []) = by (last_taken many (class last v))
   where
-    by : (n : Bool) → cond n 0 1 ∷ [] ≡ replicate (cond n 1 0) 0 ++ marks_from margin many (drop (cond n 1 0) (v ∷ []))
+    by : (n : Bool) → cond n 0 1 ∷ [] ≡ replicate (cond n 1 0) 0 ++ marks_from class many (drop (cond n 1 0) (v ∷ []))
     by true = refl
     by false = refl
-marks_grow margin many last (v ∷ w ∷ rest) = by (is_near margin v w) (is_rise margin v w) (grow margin many v (w ∷ rest)) (marks_grow margin many v (w ∷ rest))
+marks_grow class many last (v ∷ w ∷ rest) = by (eqb (class v w) 0) (eqb (class v w) 1) (grow class many v (w ∷ rest)) (marks_grow class many v (w ∷ rest))
   where
-    by : (n r : Bool) (g : ℕ) → marks_after margin many v (w ∷ rest) ≡ replicate g 0 ++ marks_from margin many (drop g (w ∷ rest))
-        → cond n (0 ∷ marks_after margin many v (w ∷ rest)) (cond r (0 ∷ 1 ∷ marks_after margin many w rest) (1 ∷ marks_after margin many v (w ∷ rest)))
-        ≡ replicate (cond n (suc g) (cond r 1 0)) 0 ++ marks_from margin many (drop (cond n (suc g) (cond r 1 0)) (v ∷ w ∷ rest))
+    by : (n r : Bool) (g : ℕ) → marks_after class many v (w ∷ rest) ≡ replicate g 0 ++ marks_from class many (drop g (w ∷ rest))
+        → cond n (0 ∷ marks_after class many v (w ∷ rest)) (cond r (0 ∷ 1 ∷ marks_after class many w rest) (1 ∷ marks_after class many v (w ∷ rest)))
+        ≡ replicate (cond n (suc g) (cond r 1 0)) 0 ++ marks_from class many (drop (cond n (suc g) (cond r 1 0)) (v ∷ w ∷ rest))
     by true r g e = rw e
     by false true g e = refl
     by false false g e = refl
 
-pub grow_le : (margin : Float) (many : Bool) (last : Float) (values : List Float) → grow margin many last values ≤ length values
+pub grow_le : {A : Type 0} (class : A → A → ℕ) (many : Bool) (last : A) (values : List A) → grow class many last values ≤ length values
 unfolding grow
-grow_le margin many last [] = omega arith
-grow_le margin many last (v ∷ []) = by (last_taken margin many last v)
+grow_le class many last [] = omega arith
+grow_le class many last (v ∷ []) = by (last_taken many (class last v))
   where
     by : (n : Bool) → cond n 1 0 ≤ 1
     by true = omega arith
     by false = omega arith
-grow_le margin many last (v ∷ w ∷ rest) = by (is_near margin v w) (is_rise margin v w) (grow margin many v (w ∷ rest)) (grow_le margin many v (w ∷ rest))
+grow_le class many last (v ∷ w ∷ rest) = by (eqb (class v w) 0) (eqb (class v w) 1) (grow class many v (w ∷ rest)) (grow_le class many v (w ∷ rest))
   where
     by : (n r : Bool) (g : ℕ) → g ≤ suc (length rest) → cond n (suc g) (cond r 1 0) ≤ suc (suc (length rest))
     by true r g e = omega arith
@@ -119,10 +120,14 @@ more n = by (ltb 1 n) refl
     by false e = e ∙ sym (le-ltb 2 (suc n) (omega (arith, ltb-false 1 n e)))
 
 -- all the marks: the first value opens a group
-pub marks_all : (margin : Float) (values : List Float) → interval_marks margin values ≡ marks_from margin (ltb 2 (length values)) values
-unfolding interval_marks marks_from
-marks_all margin [] = refl
-marks_all margin (v ∷ values) = rw (more (length values))
+pub class_marks_all : {A : Type 0} (class : A → A → ℕ) (values : List A) → class_marks class values ≡ marks_from class (ltb 2 (length values)) values
+unfolding class_marks marks_from
+class_marks_all class [] = refl
+class_marks_all class (v ∷ values) = rw (more (length values))
+
+pub marks_all : (margin : Float) (values : List Float) → interval_marks margin values ≡ marks_from (pair_class margin) (ltb 2 (length values)) values
+unfolding interval_marks
+marks_all margin values = class_marks_all (pair_class margin) values
 
 module _ (margin : Float) (values : List Float) (at : ℕ) where
   pub end_past : length values ≤ at → group_end margin values at ≡ at
@@ -133,7 +138,8 @@ module _ (margin : Float) (values : List Float) (at : ℕ) where
   unfolding group_end
   end-inside h = rw (lt-ltb _ _ h)
 
-  pub grown : at < length values → group_end margin values at ≡ suc at + grow margin (ltb 2 (length values)) (get_or values at nan) (drop (suc at) values)
+  pub grown : at < length values
+      → group_end margin values at ≡ suc at + grow (pair_class margin) (ltb 2 (length values)) (get_or values at nan) (drop (suc at) values)
   unfolding end_after
   grown h =
       let b : at + 1 - 1 ≡ at = omega arith in
@@ -146,21 +152,23 @@ module _ (margin : Float) (values : List Float) (at : ℕ) where
   -- and only values
   pub end-within : at < length values → group_end margin values at ≤ length values
   end-within h =
-      omega (arith, grown h, grow_le margin (ltb 2 (length values)) (get_or values at nan) (drop (suc at) values), length-drop (suc at) values)
+      omega (arith, grown h, grow_le (pair_class margin) (ltb 2 (length values)) (get_or values at nan) (drop (suc at) values), length-drop (suc at) values)
 
   -- the marks from a group's first value on: 1 and zeros up to the group's end, and the marks from there on, where the next value, if one is left, opens a
   -- group
-  pub marks_at : at < length values → marks_from margin (ltb 2 (length values)) (drop at values)
-      ≡ 1 ∷ replicate (group_end margin values at - at - 1) 0 ++ marks_from margin (ltb 2 (length values)) (drop (group_end margin values at) values)
+  pub marks_at : at < length values → marks_from (pair_class margin) (ltb 2 (length values)) (drop at values)
+      ≡ 1 ∷ replicate (group_end margin values at - at - 1) 0
+      ++ marks_from (pair_class margin) (ltb 2 (length values)) (drop (group_end margin values at) values)
   unfolding marks_from
   marks_at h =
-      ap (marks_from margin (ltb 2 (length values))) (drop-cons values at nan h)
+      ap (marks_from (pair_class margin) (ltb 2 (length values))) (drop-cons values at nan h)
       ∙ by (ltb 2 (length values)) (get_or values at nan) _ _ (grown h)
-      (marks_grow margin (ltb 2 (length values)) (get_or values at nan) (drop (suc at) values))
+      (marks_grow (pair_class margin) (ltb 2 (length values)) (get_or values at nan) (drop (suc at) values))
     where
       by : (many : Bool) (x : Float) (g end : ℕ) → end ≡ suc at + g
-          → marks_after margin many x (drop (suc at) values) ≡ replicate g 0 ++ marks_from margin many (drop g (drop (suc at) values))
-          → 1 ∷ marks_after margin many x (drop (suc at) values) ≡ 1 ∷ replicate (end - at - 1) 0 ++ marks_from margin many (drop end values)
+          → marks_after (pair_class margin) many x (drop (suc at) values) ≡ replicate g 0 ++ marks_from (pair_class margin) many (drop g (drop (suc at) values))
+          → 1 ∷ marks_after (pair_class margin) many x (drop (suc at) values)
+          ≡ 1 ∷ replicate (end - at - 1) 0 ++ marks_from (pair_class margin) many (drop end values)
       by many x g end e m =
           let k : end - at - 1 ≡ g = omega arith in
           rw (m, drop-drop g (suc at) values, ← e, k)
@@ -180,17 +188,20 @@ module _ {margin : Float} {values : List Float} {at : ℕ} where
   within_turn {i} x h e = record {
     here = omega (arith, x.here);
     upto = omega arith;
-    same = sym (end-near margin values i (omega arith) e) ∙ x.same;
+    same = sym (end-near margin values i (omega arith) (near_class margin (get_or values i nan) (get_or values (i + 1) nan) ∙ e)) ∙ x.same;
   }
 
   pub within_end : {i : ℕ} → Within margin values at i → i < length values - 1 → (r : Bool)
       → is_near margin (get_or values i nan) (get_or values (i + 1) nan) ≡ false
       → is_rise margin (get_or values i nan) (get_or values (i + 1) nan) ≡ r → cond r (i + 1) i ≡ group_end margin values at
-  within_end {i} x h r e f = sym (end_turn margin values i r (omega arith) e f) ∙ x.same
+  within_end {i} x h r e f =
+      let v : Float = get_or values i nan in
+      let w : Float = get_or values (i + 1) nan in
+      sym (end_turn margin values i r (omega arith) (near_class margin v w ∙ e) (rise_class margin v w e ∙ f)) ∙ x.same
 
   -- the last value has none behind it
   pub within_last : {i : ℕ} → Within margin values at i → i ≡ length values - 1 → i < length values
-      → cond (last_taken margin (ltb 2 (length values)) (get_or values (length values - 2) nan) (get_or values (length values - 1) nan))
+      → cond (last_taken (ltb 2 (length values)) (pair_class margin (get_or values (length values - 2) nan) (get_or values (length values - 1) nan)))
       (length values) (length values - 1) ≡ group_end margin values at
   within_last {i} x p k =
       let q : i - 1 ≡ length values - 2 = omega arith in

@@ -88,6 +88,50 @@ module _ (ks : List ℕ) (i : ℕ) (h : i < length ks) (n : is_note (get_or ks i
   unfolding note_objects
   note_within = rw (note_number ks i n) (number_of 0 ks i h n).within
 
+-- ---- note number j is an object of which j notes stand before it
+
+record NoteAt (a : ℕ) (ks : List ℕ) (j : ℕ) : Type 0 where
+  place : ℕ
+  object : get_or (notes_from a ks) j 0 ≡ a + place
+  within : place < length ks
+  note : is_note (get_or ks place 0) ≡ true
+  number : length (notes (take place ks)) ≡ j
+
+note_at : (a : ℕ) (ks : List ℕ) (j : ℕ) → j < length (notes_from a ks) → NoteAt a ks j
+unfolding notes_from
+note_at a [] j h = absurd (omega arith)
+note_at a (k ∷ ks) j h = by (is_note k) refl j (λ n l. note_at (a + 1) ks n l) h
+  where
+    -- one object further on, with as many notes more as this one is
+    counted : (b : Bool) (ns : List ℕ) → length (cond b (k ∷ ns) ns) ≡ cond b (suc (length ns)) (length ns)
+    counted true ns = refl
+    counted false ns = refl
+
+    later : (b : Bool) → is_note k ≡ b → {j n : ℕ} → NoteAt (a + 1) ks j → cond b (suc j) j ≡ n
+        → get_or (cond b (a ∷ notes_from (a + 1) ks) (notes_from (a + 1) ks)) n 0 ≡ get_or (notes_from (a + 1) ks) j 0
+        → get_or (notes_from a (k ∷ ks)) n 0 ≡ get_or (cond b (a ∷ notes_from (a + 1) ks) (notes_from (a + 1) ks)) n 0 → NoteAt a (k ∷ ks) n
+    later b e u q o p = record {
+      place = suc u.place;
+      object = p ∙ o ∙ u.object ∙ omega arith;
+      within = omega (arith, u.within);
+      note = u.note;
+      number = rw (notes_first, e, counted b (notes (take u.place ks)), u.number) q;
+    }
+
+    by : (b : Bool) → is_note k ≡ b → (j : ℕ) → ((n : ℕ) → n < length (notes_from (a + 1) ks) → NoteAt (a + 1) ks n)
+        → j < length (cond (is_note k) (a ∷ notes_from (a + 1) ks) (notes_from (a + 1) ks)) → NoteAt a (k ∷ ks) j
+    by true e zero u h = record { place = 0; object = rw e (omega arith); within = omega arith; note = e; number = rw notes_none refl }
+    by true e (suc j) u h = later true e (u j (omega (arith, rw e at h))) refl refl (rw e refl)
+    by false e j u h = later false e (u j (rw e at h)) refl refl (rw e refl)
+
+pub note_idx_object : (ks : List ℕ) (j : ℕ) → j < length (note_objects ks)
+    → (is_note (get_or ks (get_or (note_objects ks) j 0) 0) ≡ true) × (note_idx ks (get_or (note_objects ks) j 0) ≡ j)
+unfolding note_objects
+note_idx_object ks j h =
+    let u : NoteAt 0 ks j = note_at 0 ks j h in
+    let o : get_or (notes_from 0 ks) j 0 ≡ u.place = u.object ∙ omega arith in
+    rw o (u.note, note_number ks u.place u.note ∙ u.number)
+
 -- ---- each note's delta is that of its object
 
 delta_from : (f : ℕ → Float) (a : ℕ) (ks : List ℕ) (ds : List Float) → length ds ≡ length ks → ((i : ℕ) → get_or ds i nan ≡ f (a + i))

@@ -10,14 +10,15 @@ use lib.Seq.{drop_at, drop-drop, get_or-drop}
 use lib.Ieee.{Float}
 use Rattle.grouping_marks.specs.Marks.{group_numbers}
 use Rattle.grouping_marks.proofs.NumberLaws.{numbers_from, numbers_all, numbers-group}
-use Rattle.grouping_interval.specs.IntervalGrouping.{interval_marks}
+use Rattle.grouping_interval.specs.IntervalGrouping.{pair_class, interval_marks}
 use Rattle.grouping_interval.specs.GroupEnd.{group_end}
 use Rattle.grouping_interval.specs.passes.MarkPass.{marks_from}
 use Rattle.grouping_interval.proofs.GroupLaws.{marks_all, marks_at, end_after_lem}
 
 -- the numbers from `at` on, where `number` groups end before it
 pub record Numbering (margin : Float) (values : List Float) (number at : ℕ) : Type 0 where
-  pub left : drop at (group_numbers (interval_marks margin values)) ≡ numbers_from number (marks_from margin (ltb 2 (length values)) (drop at values))
+  pub left : drop at (group_numbers (interval_marks margin values))
+      ≡ numbers_from number (marks_from (pair_class margin) (ltb 2 (length values)) (drop at values))
   pub few : number ≤ at
 
 pub numbering_start : (margin : Float) (values : List Float) → Numbering margin values 0 0
@@ -30,14 +31,14 @@ module _ {margin : Float} {values : List Float} {number at : ℕ} (x : Numbering
     (end : ℕ) (e : end ≡ group_end margin values at) where
   -- the numbers behind the group that starts at `at`
   behind : List ℕ
-  behind = numbers_from (number + 1) (marks_from margin (ltb 2 (length values)) (drop end values))
+  behind = numbers_from (number + 1) (marks_from (pair_class margin) (ltb 2 (length values)) (drop end values))
 
   here_on : drop at (group_numbers (interval_marks margin values)) ≡ replicate (end - at) number ++ behind
   unfolding behind
   here_on =
       let b : at < end = rw e (end_after_lem margin values at h) in
       let s : suc (end - at - 1) ≡ end - at = omega arith in
-      let rest : List ℕ = marks_from margin (ltb 2 (length values)) (drop end values) in
+      let rest : List ℕ = marks_from (pair_class margin) (ltb 2 (length values)) (drop end values) in
       x.left
       ∙ ap (numbers_from number) (rw e (marks_at margin values at h))
       ∙ numbers-group number (end - at - 1) rest

@@ -7,7 +7,7 @@ ghost use Rattle.grouping_interval.specs.passes.Rooms.{NotesRoom, NotesListed};
 ghost use Rattle.grouping_interval.specs.passes.Counting.{SumsFit, counted_first, counted_behind};
 ghost use Rattle.grouping_interval.specs.passes.Counting.{counted_further, groups_counted};
 
-use crate::{last_taken, rise};
+use crate::{last_taken, pair_class, rise};
 use grouping_chart::object::{NoteIndex, is_note};
 use numeric::near::near;
 
@@ -113,7 +113,7 @@ impl Counting {
         match self.pending {
             None => self.groups,
             Some(next) => {
-                if last_taken(self.notes, self.last, next, margin) {
+                if last_taken(2 < self.notes, pair_class(self.last, next, margin)) {
                     self.groups
                 } else {
                     self.groups + 1

@@ -14,7 +14,7 @@ use Rattle.lent.specs.Over.{part}
 use Rattle.grouping_marks.specs.Marks.{group_count}
 use Rattle.grouping_marks.specs.Parted.{parted}
 use Rattle.lent.proofs.PieceLaws.{part_pieces, part-rest}
-use Rattle.grouping_interval.specs.IntervalGrouping.{interval_marks}
+use Rattle.grouping_interval.specs.IntervalGrouping.{pair_class, interval_marks}
 use Rattle.grouping_interval.specs.GroupEnd.{group_end}
 use Rattle.grouping_interval.specs.passes.MarkPass.{marks_from}
 use Rattle.grouping_interval.proofs.EndLaws.{end_after_lem, end-within, marks_all, parted-end, parted_past, count_from_lem, count_past}
@@ -24,7 +24,7 @@ use Rattle.grouping_same_rhythm.specs.passes.Owns.{settled_up_to}
 
 -- the items of the groups from position `at` on, where a group opens
 unfoldable pub groups_from : {A : Type 0} → Float → List Float → List A → ℕ → List (List A)
-groups_from margin values xs at = parted (marks_from margin (ltb 2 (length values)) (drop at values)) (drop at xs)
+groups_from margin values xs at = parted (marks_from (pair_class margin) (ltb 2 (length values)) (drop at values)) (drop at xs)
 
 module _ {A : Type 0} (margin : Float) (values : List Float) (xs : List A) where
   pub groups_all : parted (interval_marks margin values) xs ≡ groups_from margin values xs 0
@@ -79,7 +79,7 @@ pub record Notes (margin : Float) (deltas : List Float) (at end j : ℕ) : Type 
 pub record Walk (margin : Float) (deltas : List Float) (at end k : ℕ) : Type 0 where
   pub upto : end ≤ length deltas
   pub few : k ≤ end
-  pub count : k + group_count (marks_from margin (ltb 2 (length deltas)) (drop end deltas)) ≡ group_count (interval_marks margin deltas)
+  pub count : k + group_count (marks_from (pair_class margin) (ltb 2 (length deltas)) (drop end deltas)) ≡ group_count (interval_marks margin deltas)
   pub rest : (xs : List ℕ) → length xs ≡ length deltas → drop k (parted (interval_marks margin deltas) xs) ≡ groups_from margin deltas xs end
   pub last : (j : ℕ) → k ≡ suc j → Notes margin deltas at end j
 
@@ -102,7 +102,7 @@ module _ {margin : Float} {deltas : List Float} {at end k : ℕ} (x : Walk margi
       by false t =
           let many : Bool = ltb 2 (length deltas) in
           let p : length deltas ≤ end = ltb-false end (length deltas) t in
-          let z : group_count (marks_from margin many (drop end deltas)) ≡ 0 =
+          let z : group_count (marks_from (pair_class margin) many (drop end deltas)) ≡ 0 =
           rw (drop_of_length-le deltas p) (count_past margin many) in
           absurd (omega (arith, x.count))
 

@@ -13,7 +13,7 @@ use Rattle.lent.specs.Over.{part}
 use Rattle.grouping_marks.specs.Parted.{parted}
 use Rattle.lent.proofs.OverLaws.{length-part, get_or-part, lent-part}
 use Rattle.lent.proofs.PieceLaws.{part_pieces}
-use Rattle.grouping_interval.specs.IntervalGrouping.{interval_marks}
+use Rattle.grouping_interval.specs.IntervalGrouping.{pair_class, interval_marks}
 use Rattle.grouping_interval.specs.GroupEnd.{group_end}
 use Rattle.grouping_interval.specs.passes.MarkPass.{marks_from}
 use Rattle.grouping_interval.proofs.NumberLaws.{Numbering, numbering_start, numbering_next, numbering_here}
@@ -71,7 +71,8 @@ pub record Lies (margin : Float) (intervals : List Float) (p at end : ℕ) : Typ
 -- the walk stands at pattern `number`, of the groups from `at` to `end`; group g is not before it
 pub record Found (margin : Float) (intervals : List Float) (g number before at end : ℕ) : Type 0 where
   pub numbering : Numbering margin intervals number at
-  pub left : drop number (patterns margin intervals) ≡ parted (marks_from margin (ltb 2 (length intervals)) (drop at intervals)) (drop at intervals)
+  pub left : drop number (patterns margin intervals)
+      ≡ parted (marks_from (pair_class margin) (ltb 2 (length intervals)) (drop at intervals)) (drop at intervals)
   pub here : end ≡ group_end margin intervals at
   pub reached : at ≤ g
   pub small : g < length intervals
@@ -93,7 +94,7 @@ module _ {margin : Float} {intervals : List Float} {g number before at end : ℕ
   inside = omega (arith, x.reached, x.small)
 
   rest : drop number (patterns margin intervals)
-      ≡ take (end - at) (drop at intervals) ∷ parted (marks_from margin (ltb 2 (length intervals)) (drop end intervals)) (drop end intervals)
+      ≡ take (end - at) (drop at intervals) ∷ parted (marks_from (pair_class margin) (ltb 2 (length intervals)) (drop end intervals)) (drop end intervals)
   rest = x.left ∙ rw x.here (parted-end margin intervals intervals at inside refl)
 
   pub found_lies : Lies margin intervals number at end

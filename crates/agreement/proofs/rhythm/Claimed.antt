@@ -13,7 +13,7 @@ use lib.Ieee.{Float, nan}
 use Rattle.grouping_marks.proofs.NumberLaws.{number_opens, numbers_rise, numbers_shift}
 use Rattle.grouping_chart.specs.Chart.{Chart, size}
 use Rattle.grouping_chart.specs.Settings.{Settings}
-use Rattle.grouping_interval.specs.IntervalGrouping.{is_rise, marks_after, interval_marks}
+use Rattle.grouping_interval.specs.IntervalGrouping.{pair_class, is_rise, marks_after, interval_marks}
 use Rattle.grouping_interval.proofs.IntervalLaws.{marks_rise, marks_neither, length_marks}
 use Rattle.agreement.specs.CommonTail.{Counterparts, SameLast}
 use Rattle.agreement.specs.SameGroups.{group_at, OpensAt, SameGroups}
@@ -123,7 +123,7 @@ module _ (margin : Float) (deltas : List Float) (t i : ℕ) (m : RhythmLandmark 
       let l : i < length deltas = omega (arith, m.next_there) in
       rw (drop-cons deltas i nan l, ← add-one i, drop-cons deltas (i + 1) nan m.next_there)
 
-  marks_there : drop i (interval_marks margin deltas) ≡ marks_after margin true (get_or deltas (i - 1) nan) (v ∷ w ∷ rest)
+  marks_there : drop i (interval_marks margin deltas) ≡ marks_after (pair_class margin) true (get_or deltas (i - 1) nan) (v ∷ w ∷ rest)
   marks_there = rw (← behind) (landmark_marks margin deltas t i m)
 
   mark_at : (k n : ℕ) (ms : List ℕ) → i + k ≡ n → drop i (interval_marks margin deltas) ≡ ms → get_or (interval_marks margin deltas) n 0 ≡ get_or ms k 0

@@ -7,7 +7,7 @@ use Prim.Native.Nat.{ℕ, suc, ◌+◌, ◌-◌, ◌≤◌}
 use native.Mathlib.Omega.{arith}
 use lib.ListN.{length, drop, get_or}
 use lib.Ieee.{Float, nan}
-use Rattle.grouping_interval.specs.IntervalGrouping.{marks_after, interval_marks}
+use Rattle.grouping_interval.specs.IntervalGrouping.{pair_class, marks_after, interval_marks}
 use Rattle.grouping_interval.proofs.SyncLaws.{marks_from_lem}
 use Rattle.agreement.specs.CommonTail.{Counterparts, SameLast}
 use Rattle.agreement.specs.rhythm.Landmark.{RhythmLandmark}
@@ -15,10 +15,10 @@ use Rattle.agreement.proofs.TailLaws.{last_sym, same_behind, same_at}
 
 -- the marks from a landmark on
 pub landmark_marks : (margin : Float) (deltas : List Float) (t i : ℕ) → RhythmLandmark margin deltas t i
-    → drop i (interval_marks margin deltas) ≡ marks_after margin true (get_or deltas (i - 1) nan) (drop i deltas)
+    → drop i (interval_marks margin deltas) ≡ marks_after (pair_class margin) true (get_or deltas (i - 1) nan) (drop i deltas)
 landmark_marks margin deltas t i m =
     let e : suc (i - 1) ≡ i = omega (arith, m.before_there) in
-    subst (λ (n : ℕ). drop n (interval_marks margin deltas) ≡ marks_after margin true (get_or deltas (i - 1) nan) (drop n deltas)) e
+    subst (λ (n : ℕ). drop n (interval_marks margin deltas) ≡ marks_after (pair_class margin) true (get_or deltas (i - 1) nan) (drop n deltas)) e
     (marks_from_lem margin deltas (i - 1) (omega (arith, m.next_there)) (rw e m.near))
 
 -- ---- two lists whose last t deltas are alike
@@ -51,7 +51,7 @@ module _ {t : ℕ} {xs ys : List Float} (s : SameLast t xs ys) (margin : Float) 
   pub marks_agree : drop i (interval_marks margin xs) ≡ drop i' (interval_marks margin ys)
   marks_agree =
       landmark_marks margin xs t i m
-      ∙ (λ k. marks_after margin true (before k) (same_behind s i i' (omega (arith, m.of_tail)) c k))
+      ∙ (λ k. marks_after (pair_class margin) true (before k) (same_behind s i i' (omega (arith, m.of_tail)) c k))
       ∙ sym (landmark_marks margin ys t i' landmark_moves)
 
 -- a landmark read in either list is one of both

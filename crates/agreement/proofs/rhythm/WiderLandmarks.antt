@@ -10,7 +10,7 @@ use lib.Ieee.{Float, nan, round, add, sub, le, lt, of_int}
 use Rattle.numeric.specs.Near.{abs_of, is_near}
 use Rattle.lent.specs.Scan.{scan}
 use Rattle.grouping_marks.specs.Marks.{opened, group_numbers}
-use Rattle.grouping_interval.specs.IntervalGrouping.{is_rise, marks_after, interval_marks}
+use Rattle.grouping_interval.specs.IntervalGrouping.{is_rise, pair_class, marks_after, class_marks, interval_marks}
 use Rattle.agreement.specs.passes.Tests.{all_true, any_below}
 use Rattle.agreement.specs.passes.RhythmLandmarkTest.{is_rhythm_landmark}
 use Rattle.agreement.proofs.Readings.{Reading, ClaimFrom, opens_there, refutes, refuted}
@@ -80,7 +80,7 @@ record Computed : Type 0 where
 
 computed : Computed
 unfolding refutes opens_there all_true any_below rise_before rise_then_not_near near_before note_earlier of_tail near_at rises_at is_rhythm_landmark
-    margin wholes scan opened group_numbers interval_marks marks_after is_rise is_near abs_of add sub le lt of_int round
+    margin wholes scan opened group_numbers interval_marks class_marks marks_after pair_class is_rise is_near abs_of add sub le lt of_int round
 computed = record { rise_refuted = refl; rise_then_not_near_refuted = refl; last_refuted = refl; earlier_refuted = refl }
 
 rise_fails : ClaimFrom numbers rise_before → ⊥

@@ -1,7 +1,7 @@
 -- How many groups notes make, counted note by note with nothing written: what is known after some of them.
 use Rattle.std.specs.Prelude.{ℕ, ◌+◌, ◌^◌, ◌≤◌, ◌<◌, cond, ltb, Float, Option, Some, None}
 use Rattle.numeric.specs.Near.{is_near}
-use Rattle.grouping_interval.specs.IntervalGrouping.{is_rise, last_taken}
+use Rattle.grouping_interval.specs.IntervalGrouping.{is_rise, pair_class, last_taken}
 use Rattle.grouping_interval.specs.declared.notes.Counting.{Counting}
 
 -- the first note, of delta d
@@ -34,7 +34,7 @@ counted margin (Some c) d = Some (counted_further margin c d)
 abbrev pub counted_with : Float → Counting → Option Float → ℕ
 counted_with margin c None = c.groups
 counted_with margin c (Some next) =
-    cond (last_taken margin (ltb 2 c.notes) c.last next) c.groups (c.groups + 1)
+    cond (last_taken (ltb 2 c.notes) (pair_class margin c.last next)) c.groups (c.groups + 1)
 
 unfoldable pub groups_counted : Float → Counting → ℕ
 groups_counted margin c = counted_with margin c c.pending
