@@ -1,18 +1,18 @@
 -- The verdict on a call, case by case, in the order of the tests; it is never refused for a bad ratio, refusal 7.
-use mathlib.Core.Path.{◌≡◌, refl}
+use mathlib.Core.Path.{◌≡◌, refl, sym, ◌∙◌}
 use mathlib.Core.Bool.{Bool, true, false, cond}
-use Prim.Native.Nat.{◌≤◌, ◌<◌}
-use borrow.Author.Tests.{lt-ltb, le-ltb, ltb-false, eq-eqb, eqb-true}
+use Prim.Native.Nat.{◌≤◌}
+use borrow.Author.Tests.{ltb-false, eqb-true}
 use lib.Dec.{eqb, ltb}
 use lib.ListN.{length}
 use lib.Ieee.{Float}
 use Rattle.std.specs.Prelude.{Err}
 use Rattle.lent.proofs.NeverLaws.{never}
-use Rattle.grouping_chart.specs.Refusal.{Check, passed, Verdict, accepted, refused, refused_or, objects_verdict}
-use Rattle.grouping_chart.specs.declared.refusal.Reason.{Reason}
+use Rattle.grouping_chart.specs.Refusal.{Check, passed, Verdict, accepted, refused, refused_or, in_order, objects_verdict}
 use Rattle.grouping_chart.specs.declared.refusal.Reason.TheVariants.{TooManyObjects, UnequalLengths, ShortSlice, BadRatio, BadRate}
+use Rattle.grouping_chart.specs.declared.refusal.Refusal.{Refusal}
 use Rattle.grouping_chart.specs.declared.object.ObjectIndex.{ObjectIndex}
-use Rattle.grouping_chart.proofs.RefusalLaws.{NotRatio, neither_ratio, objects_not_ratio}
+use Rattle.grouping_chart.proofs.RefusalLaws.{NotRatio, neither_ratio, objects_not_ratio, refused_before, passed_before}
 use Rattle.grouping_chart.proofs.AcceptedLaws as chart
 use Rattle.call_build.specs.Build.{Raw, built_chart}
 use Rattle.call_build.specs.Call.{rate_good, beside_refusal, verdict_of}
@@ -39,14 +39,20 @@ module _ (rate : Float) (r : Raw) (short : Bool) where
       (objects_verdict (built_chart rate r)) h in
       record { few = ltb-false _ _ p.few; times = eqb-true _ _ p.same; long = long_enough short rate p.none; objects = p.good }
 
-  pub refused_1 : 16386 < length r.kinds → refused TooManyObjects ≡ verdict_of rate r short
-  unfolding verdict_of
-  refused_1 h = rw (lt-ltb _ _ h)
+  -- by the tests before the objects, as they were answered
+  module _ {equal : Bool} {beside : Check} {v : Verdict} (same : equal ≡ eqb (length r.times) (length r.kinds)) (asked : beside ≡ beside_refusal short rate)
+      (told : v ≡ in_order (ltb 16386 (length r.kinds)) equal beside accepted) where
+    pub told_first : {first : Refusal} → v ≡ Err first → verdict_of rate r short ≡ Err first
+    unfolding verdict_of
+    told_first h = rw (← same, ← asked) (refused_before _ equal beside (objects_verdict (built_chart rate r)) (sym told ∙ h))
 
-  pub refused_beside : {beside : Check} {reason : Reason} → length r.kinds ≤ 16386 → length r.times ≡ length r.kinds → beside ≡ beside_refusal short rate
-      → beside ≡ Err reason → refused reason ≡ verdict_of rate r short
-  unfolding verdict_of
-  refused_beside few same told n = rw (le-ltb _ _ few, eq-eqb _ _ same, ← told, n)
+    pub told_none : v ≡ accepted → (length r.times ≡ length r.kinds) × (verdict_of rate r short ≡ objects_verdict (built_chart rate r))
+    unfolding verdict_of
+    told_none h =
+        let taken = sym told ∙ h in (
+          eqb-true _ _ (sym same ∙ (chart.all_passed _ equal beside accepted taken).same),
+          rw (← same, ← asked) (passed_before _ equal beside (objects_verdict (built_chart rate r)) taken),
+        )
 
 -- ---- refusal 7 never applies
 

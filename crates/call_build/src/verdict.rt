@@ -9,7 +9,9 @@ ghost use Rattle.call_build.specs.Lent.{raw_seen};
 use crate::objects::Timed;
 use crate::{MOST_RAW, Raw};
 use grouping_chart::good::{all_places, kinds_good};
-use grouping_chart::refusal::{Reason, Refusal, first_refused, object_refusal, time_good};
+use grouping_chart::refusal::{
+    Reason, Refusal, before_objects, first_refused, object_refusal, time_good,
+};
 use numeric::range;
 
 // Whether a built object is good. Its ratio is one of the common ones, so 1.0 serves for it: none of them is refused.
@@ -58,18 +60,14 @@ fn beside_refusal(short: bool, rate: f64) -> Result<(), Reason>
     Err(Reason::BadRate)
 }
 
-// The verdict on raw objects; `short` says that an answer slice is too short for those that they build. The steps are
-// those of `refusal::check`: one function of both would take a limit, lengths and two closures, which is no plainer.
-#[tactic(auto, unfolding(crate::specs::Call::verdict_of))]
+// The verdict on raw objects; `short` says that an answer slice is too short for those that they build.
 pub fn judge(raw: Raw, rate: f64, short: bool) -> Result<(), Refusal>
     ensures { result ≡ verdict_of rate (raw_seen raw.entry) short }
 {
-    if MOST_RAW < raw.kind.len() {
-        return Err(Refusal::from(Reason::TooManyObjects));
-    }
-    if raw.time.len() != raw.kind.len() {
-        return Err(Refusal::from(Reason::UnequalLengths));
-    }
-    beside_refusal(short, rate)?;
+    before_objects(
+        MOST_RAW < raw.kind.len(),
+        raw.time.len() == raw.kind.len(),
+        beside_refusal(short, rate),
+    )?;
     check_objects(Timed { raw, rate })
 }

@@ -5,20 +5,22 @@ use mathlib.Core.Bool.{Bool, true, false, cond}
 use Prim.Native.Nat.{ℕ, zero, suc, ◌+◌, ◌≤◌, ◌<◌}
 use native.Mathlib.Omega.{arith}
 use borrow.Author.Tests.{ltb-false, le-leb, leb-true, eqb-true}
-use lib.Dec.{T, leb}
+use lib.Dec.{T, leb, ltb}
 use denote.Floats.{passes, is_true}
 use lib.ListN.{length, get_or}
 use lib.Ieee.{Float, nan}
 use Rattle.std.proofs.lemmas.Bool.{and_parts}
+use Rattle.std.proofs.lemmas.List.{get_or_default}
 use Rattle.lent.proofs.NeverLaws.{never}
 use Rattle.std.specs.Prelude.{Ok, Err}
 use Rattle.grouping_chart.specs.declared.refusal.Reason.{Reason}
 use Rattle.grouping_chart.specs.Chart.{Chart, equally_long}
-use Rattle.grouping_chart.specs.Refusal.{Check, passed, kind_good, time_good, ratio_good, Verdict, accepted, refused, refused_or, object_refusal}
-use Rattle.grouping_chart.specs.Refusal.{first_refused, in_order, objects_verdict, verdict}
+use Rattle.grouping_chart.specs.Refusal.{Check, passed, kind_good, time_good, ratio_good, Verdict, accepted, refused, refused_or}
+use Rattle.grouping_chart.specs.Refusal.{and_then, delta_refusal, object_order, first_refused, in_order, objects_verdict, verdict}
 use Rattle.grouping_chart.specs.passes.Good.{SameLengths, all, all_good}
 use Rattle.grouping_chart.proofs.AllLaws.{all_each}
-use Rattle.grouping_chart.proofs.RefusalLaws.{all_equal, verdict-objects}
+use Rattle.grouping_chart.specs.declared.refusal.Refusal.{Refusal}
+use Rattle.grouping_chart.proofs.RefusalLaws.{all_equal, verdict-objects, refused_before, passed_before}
 
 -- an object that is not refused
 pub record GoodObject (k : ℕ) (s d r : Float) : Type 0 where
@@ -37,23 +39,42 @@ pub record GoodChart (c : Chart) (beside : Check) : Type 0 where
 
 -- ---- an object
 
-tests_passed : (a b c d : Bool) (p q r s : Reason) → cond a (cond b (cond c (cond d passed (Err s)) (Err r)) (Err q)) (Err p) ≡ passed
-    → (a ≡ true) × ((b ≡ true) × ((c ≡ true) × (d ≡ true)))
-tests_passed true true true true p q r s e = (refl, (refl, (refl, refl)))
-tests_passed true true true false p q r s e = never (cc)
-tests_passed true true false d p q r s e = never (cc)
-tests_passed true false c d p q r s e = never (cc)
-tests_passed false b c d p q r s e = never (cc)
+-- an object that is not refused, where this is the test of its delta
+pub record GoodBeside (k : ℕ) (s : Float) (d : Check) (r : Float) : Type 0 where
+  pub kind : k ≤ 2
+  pub start : T (time_good s)
+  pub delta : d ≡ passed
+  pub ratio : T (ratio_good r)
 
-pub object_good : (k : ℕ) (s d r : Float) → object_refusal k s d r ≡ passed → GoodObject k s d r
-unfolding object_refusal
-object_good k s d r e =
-    let t = tests_passed (leb k 2) (time_good s) (time_good d) (ratio_good r) _ _ _ _ e in
-    record { kind = leb-true k 2 t.0; start = passes _ t.1.0; delta = passes _ t.1.1.0; ratio = passes _ t.1.1.1 }
+tests_passed : (a b d : Bool) (c : Check) (p q s : Reason) → cond a (cond b (and_then c (cond d passed (Err s))) (Err q)) (Err p) ≡ passed
+    → (a ≡ true) × ((b ≡ true) × ((c ≡ passed) × (d ≡ true)))
+tests_passed true true true (Ok done) p q s e = (refl, (refl, (refl, refl)))
+tests_passed true true false (Ok done) p q s e = never (cc)
+tests_passed true true d (Err r) p q s e = never (cc)
+tests_passed true false d c p q s e = never (cc)
+tests_passed false b d c p q s e = never (cc)
 
-pub good_object : {k : ℕ} {s d r : Float} → GoodObject k s d r → object_refusal k s d r ≡ passed
-unfolding object_refusal
-good_object {k} {s} {d} {r} g = rw (le-leb k 2 g.kind, is_true (time_good s) g.start, is_true (time_good d) g.delta, is_true (ratio_good r) g.ratio)
+pub order_good : (k : ℕ) (s : Float) (delta : Check) (r : Float) → object_order k s delta r ≡ passed → GoodBeside k s delta r
+unfolding object_order
+order_good k s delta r e =
+    let t = tests_passed (leb k 2) (time_good s) (ratio_good r) delta _ _ _ e in
+    record { kind = leb-true k 2 t.0; start = passes _ t.1.0; delta = t.1.1.0; ratio = passes _ t.1.1.1 }
+
+pub good_order : {k : ℕ} {s : Float} {delta : Check} {r : Float} → GoodBeside k s delta r → object_order k s delta r ≡ passed
+unfolding object_order
+good_order {k} {s} {delta} {r} g = rw (le-leb k 2 g.kind, is_true (time_good s) g.start, g.delta, is_true (ratio_good r) g.ratio)
+
+delta_passed : (b : Bool) (r : Reason) → cond b passed (Err r) ≡ passed → b ≡ true
+delta_passed true r e = refl
+delta_passed false r e = never (cc)
+
+beside_delta : {k : ℕ} {s d r : Float} → GoodBeside k s (delta_refusal d) r → GoodObject k s d r
+unfolding delta_refusal
+beside_delta g = record { kind = g.kind; start = g.start; delta = passes _ (delta_passed _ _ g.delta); ratio = g.ratio }
+
+delta_beside : {k : ℕ} {s d r : Float} → GoodObject k s d r → GoodBeside k s (delta_refusal d) r
+unfolding delta_refusal
+delta_beside {d} g = record { kind = g.kind; start = g.start; delta = rw (is_true (time_good d) g.delta) refl; ratio = g.ratio }
 
 -- ---- all objects
 
@@ -70,31 +91,33 @@ pub none_refused : (asked : Check) (place : ℕ) (later : Verdict) → refused_o
 none_refused (Ok done) place later e = (refl, e)
 none_refused (Err r) place later e = never (cc)
 
-objects_good : (j : ℕ) (ks : List ℕ) (ss ds rs : List Float) → SameLengths (length ks) ss ds rs → first_refused j ks ss ds rs ≡ accepted
-    → (i : ℕ) (z : Float) → i < length ks → GoodObject (get_or ks i 0) (get_or ss i z) (get_or ds i z) (get_or rs i z)
-unfolding first_refused
-objects_good j [] ss ds rs same e i z h = absurd (omega arith)
-objects_good j (k ∷ ks) [] ds rs same e i z h = absurd (omega (arith, same.start))
-objects_good j (k ∷ ks) (s ∷ ss) [] rs same e i z h = absurd (omega (arith, same.delta))
-objects_good j (k ∷ ks) (s ∷ ss) (d ∷ ds) [] same e i z h = absurd (omega (arith, same.ratio))
-objects_good j (k ∷ ks) (s ∷ ss) (d ∷ ds) (r ∷ rs) same e zero z h =
-    object_good k s d r (none_refused (object_refusal k s d r) _ _ e).0
-objects_good j (k ∷ ks) (s ∷ ss) (d ∷ ds) (r ∷ rs) same e (suc i) z h =
-    let later : SameLengths (length ks) ss ds rs = record { start = omega arith; delta = omega arith; ratio = omega arith } in
-    objects_good (j + 1) ks ss ds rs later (none_refused (object_refusal k s d r) _ _ e).1 i z (omega arith)
+module _ {A : Type 0} (test : A → Check) where
+  pub objects_good : (j : ℕ) (ks : List ℕ) (ss : List Float) (ds : List A) (rs : List Float) → SameLengths (length ks) ss ds rs
+      → first_refused test j ks ss ds rs ≡ accepted
+      → (i : ℕ) (y : A) (z : Float) → i < length ks → GoodBeside (get_or ks i 0) (get_or ss i z) (test (get_or ds i y)) (get_or rs i z)
+  unfolding first_refused
+  objects_good j [] ss ds rs same e i y z h = absurd (omega arith)
+  objects_good j (k ∷ ks) [] ds rs same e i y z h = absurd (omega (arith, same.start))
+  objects_good j (k ∷ ks) (s ∷ ss) [] rs same e i y z h = absurd (omega (arith, same.delta))
+  objects_good j (k ∷ ks) (s ∷ ss) (d ∷ ds) [] same e i y z h = absurd (omega (arith, same.ratio))
+  objects_good j (k ∷ ks) (s ∷ ss) (d ∷ ds) (r ∷ rs) same e zero y z h =
+      order_good k s (test d) r (none_refused (object_order k s (test d) r) _ _ e).0
+  objects_good j (k ∷ ks) (s ∷ ss) (d ∷ ds) (r ∷ rs) same e (suc i) y z h =
+      let later : SameLengths (length ks) ss ds rs = record { start = omega arith; delta = omega arith; ratio = omega arith } in
+      objects_good (j + 1) ks ss ds rs later (none_refused (object_order k s (test d) r) _ _ e).1 i y z (omega arith)
 
-good_objects : (j : ℕ) (ks : List ℕ) (ss ds rs : List Float)
-    → ((i : ℕ) (z : Float) → i < length ks → GoodObject (get_or ks i 0) (get_or ss i z) (get_or ds i z) (get_or rs i z))
-    → first_refused j ks ss ds rs ≡ accepted
-unfolding first_refused
-good_objects j [] ss ds rs g = refl
-good_objects j (k ∷ ks) [] ds rs g = refl
-good_objects j (k ∷ ks) (s ∷ ss) [] rs g = refl
-good_objects j (k ∷ ks) (s ∷ ss) (d ∷ ds) [] g = refl
-good_objects j (k ∷ ks) (s ∷ ss) (d ∷ ds) (r ∷ rs) g =
-    let here : object_refusal k s d r ≡ passed = good_object (g 0 nan (omega arith)) in
-    let later : first_refused (j + 1) ks ss ds rs ≡ accepted = good_objects (j + 1) ks ss ds rs (λ i z h. g (suc i) z (omega arith)) in
-    rw here later
+  pub good_objects : (j : ℕ) (ks : List ℕ) (ss : List Float) (ds : List A) (rs : List Float)
+      → ((i : ℕ) (y : A) (z : Float) → i < length ks → GoodBeside (get_or ks i 0) (get_or ss i z) (test (get_or ds i y)) (get_or rs i z))
+      → first_refused test j ks ss ds rs ≡ accepted
+  unfolding first_refused
+  good_objects j [] ss ds rs g = refl
+  good_objects j (k ∷ ks) [] ds rs g = refl
+  good_objects j (k ∷ ks) (s ∷ ss) [] rs g = refl
+  good_objects j (k ∷ ks) (s ∷ ss) (d ∷ ds) [] g = refl
+  good_objects j (k ∷ ks) (s ∷ ss) (d ∷ ds) (r ∷ rs) g =
+      let here : object_order k s (test d) r ≡ passed = good_order (g 0 d nan (omega arith)) in
+      let later : first_refused test (j + 1) ks ss ds rs ≡ accepted = good_objects (j + 1) ks ss ds rs (λ i y z h. g (suc i) y z (omega arith)) in
+      rw here later
 
 -- all lists are good where each is
 pub lists_good : (c : Chart) → all kind_good c.kinds ≡ true → all time_good c.starts ≡ true → all time_good c.deltas ≡ true
@@ -109,12 +132,12 @@ all_good_accepted c same e =
     let k = and_parts _ _ e in
     let s = and_parts _ _ k.1 in
     let d = and_parts _ _ s.1 in
-    sym (good_objects 0 c.kinds c.starts c.deltas c.ratios (λ i z h. record {
+    sym (good_objects delta_refusal 0 c.kinds c.starts c.deltas c.ratios (λ i y z h. delta_beside (record {
       kind = leb-true _ 2 (all_each kind_good c.kinds k.0 i 0 h);
       start = passes _ (all_each time_good c.starts s.0 i z (omega (arith, same.start)));
-      delta = passes _ (all_each time_good c.deltas d.0 i z (omega (arith, same.delta)));
+      delta = passes _ (all_each time_good c.deltas d.0 i y (omega (arith, same.delta)));
       ratio = passes _ (all_each ratio_good c.ratios d.1 i z (omega (arith, same.ratio)));
-    }))
+    })))
 
 -- ---- the chart
 
@@ -149,8 +172,28 @@ unfolding verdict
 accepted_good c beside e =
     let p = all_passed _ (equally_long c) beside _ e in
     let same = equal-lengths c p.same in
-    record { few = ltb-false _ _ p.few; room = p.none; lengths = same; objects = objects_good 0 _ _ _ _ same p.good }
+    record {
+      few = ltb-false _ _ p.few;
+      room = p.none;
+      lengths = same;
+      objects = λ i z h. beside_delta (objects_good delta_refusal 0 _ _ _ _ same p.good i z z h);
+    }
 
 pub good_accepted : {c : Chart} {beside : Check} → GoodChart c beside → verdict c beside ≡ accepted
 good_accepted {c} {beside} g =
-    verdict-objects c beside g.few (sym (all_equal c g.lengths)) g.room ∙ good_objects 0 _ _ _ _ g.objects
+    verdict-objects c beside g.few (sym (all_equal c g.lengths)) g.room
+    ∙ good_objects delta_refusal 0 _ _ _ _ (λ i y z h. rw (get_or_default c.deltas i y z (omega (arith, g.lengths.delta))) (delta_beside (g.objects i z h)))
+
+-- ---- the verdict from the tests before the objects, as `before_objects` answered them
+
+module _ (c : Chart) (beside : Check) {equal : Bool} {v : Verdict} (e : equal ≡ equally_long c)
+    (told : v ≡ in_order (ltb 16384 (length c.kinds)) equal beside accepted) where
+  pub told_first : {first : Refusal} → v ≡ Err first → verdict c beside ≡ Err first
+  unfolding verdict
+  told_first h = rw (← e) (refused_before _ equal beside (objects_verdict c) (sym told ∙ h))
+
+  pub told_none : v ≡ accepted → (SameLengths (length c.kinds) c.starts c.deltas c.ratios) × (verdict c beside ≡ objects_verdict c)
+  unfolding verdict
+  told_none h =
+      let taken = sym told ∙ h in
+      (equal-lengths c (sym e ∙ (all_passed _ equal beside accepted taken).same), rw (← e) (passed_before _ equal beside (objects_verdict c) taken))

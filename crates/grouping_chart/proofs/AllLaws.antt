@@ -1,6 +1,6 @@
 -- A test of every element of a list, by the elements and by the places.
 -- The same for any list and test.
-use Rattle.std.proofs.Common.{◌≡◌, refl, sym, ap, ◌∙◌, ℕ, zero, suc, ◌<◌, Bool, true, ◌&&◌, List, [], ◌∷◌, ◌++◌, length}
+use Rattle.std.proofs.Common.{◌≡◌, refl, sym, ap, ◌∙◌, ℕ, zero, suc, ◌<◌, Bool, true, ◌&&◌, List, [], ◌∷◌, ◌++◌, length, ⊎_elim, eq-or-lt_of_le}
 use mathlib.Core.Bool.{and_assoc, and-true}
 use native.Mathlib.Omega.{arith}
 use lib.ListN.{get_or}
@@ -48,3 +48,11 @@ places_tabulated test f (suc n) =
 
 pub places_all : {A : Type 0} (test : A → Bool) (xs : List A) (d : A) → all_places (λ i. test (get_or xs i d)) (length xs) ≡ all test xs
 places_all test xs d = places_tabulated test (λ i. get_or xs i d) (length xs) ∙ ap (all test) (tabulate_places xs d (length xs) refl)
+
+-- a test that passes at every place passes at each
+pub places_each : (passes : ℕ → Bool) (n : ℕ) → all_places passes n ≡ true → (i : ℕ) → i < n → passes i ≡ true
+unfolding all_places
+places_each passes zero e i h = absurd (omega arith)
+places_each passes (suc n) e i h =
+    let t = and_parts _ _ e in
+    ⊎_elim (λ k. rw k t.1) (λ k. places_each passes n t.0 i k) (eq-or-lt_of_le (omega arith))

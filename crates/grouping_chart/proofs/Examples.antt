@@ -7,7 +7,8 @@ use Rattle.std.specs.Prelude.{Err}
 use Rattle.grouping_chart.specs.declared.refusal.Reason.TheVariants.{UnequalLengths, ShortSlice, UnknownKind, BadStart, BadDelta, BadRatio}
 use Rattle.grouping_chart.specs.Chart.{Chart, equally_long}
 use Rattle.numeric.specs.Range.{within}
-use Rattle.grouping_chart.specs.Refusal.{Check, passed, Verdict, accepted, refusal, refused, time_good, ratio_good, object_refusal, first_refused, verdict}
+use Rattle.grouping_chart.specs.Refusal.{Check, passed, Verdict, accepted, refusal, refused, time_good, ratio_good}
+use Rattle.grouping_chart.specs.Refusal.{delta_refusal, object_order, first_refused, verdict}
 
 -- An f64 is written by its bits, so that the next one in size is the next number.
 abbrev one : ℕ
@@ -106,5 +107,5 @@ examples =
     ∷ []
 
 shown : map (λ (e : Example). verdict e.chart e.beside) examples ≡ map (λ (e : Example). e.outcome) examples
-unfolding examples object short lists floats of_bits le within time_good ratio_good object_refusal first_refused equally_long verdict
+unfolding examples object short lists floats of_bits le within time_good ratio_good delta_refusal object_order first_refused equally_long verdict
 shown = refl

@@ -1,6 +1,7 @@
 -- Why a call refuses, where, and the order of the tests for refusals 1 to 7 (scope: "Refused by number"): 1, 2, what is
 -- refused beside the chart, then 4 to 7 for one object after another. Room.antt alone says what is refused beside the
--- chart, and when. A refusal has a reason, whose number C is told, and a place: the object's for 4 to 7, else 0.
+-- chart, and when. Where a delta is known to within a range (change requests: 6/12), 15 is refused between 6 and 7.
+-- A refusal has a reason, whose number C is told, and a place: the object's for 4 to 7 and 15, else 0.
 use Rattle.std.specs.Prelude.{ℕ, ◌+◌, Bool, cond, List, [], ◌∷◌, leb, ltb, Float, Result, Ok, Err}
 use Rattle.numeric.specs.Range.{within, earliest, latest, least_ratio, greatest_ratio}
 use Rattle.grouping_chart.specs.Chart.{Chart, size, largest, equally_long}
@@ -8,6 +9,7 @@ use Rattle.grouping_chart.specs.declared.refusal.Reason.{Reason}
 use Rattle.grouping_chart.specs.declared.refusal.Reason.TheVariants.{TooManyObjects, UnequalLengths, ShortSlice}
 use Rattle.grouping_chart.specs.declared.refusal.Reason.TheVariants.{UnknownKind, BadStart, BadDelta, BadRatio}
 use Rattle.grouping_chart.specs.declared.refusal.Reason.TheVariants.{BadWindow, OutOfRange, BadRate, NoNotes}
+use Rattle.grouping_chart.specs.declared.refusal.Reason.TheVariants.{LowestAboveHighest}
 use Rattle.grouping_chart.specs.declared.refusal.Refusal.{Refusal}
 
 -- the number that C is told
@@ -23,6 +25,7 @@ reason_number BadWindow = 8
 reason_number OutOfRange = 9
 reason_number BadRate = 10
 reason_number NoNotes = 11
+reason_number LowestAboveHighest = 15
 
 abbrev pub refusal : Reason → ℕ → Refusal
 refusal reason place = record { reason = reason; place = record { 0 = place } }
@@ -57,30 +60,40 @@ time_good x = within earliest latest x
 unfoldable pub ratio_good : Float → Bool
 ratio_good x = within least_ratio greatest_ratio x
 
--- whether an object is good; else why it is refused
-unfoldable pub object_refusal : ℕ → Float → Float → Float → Check
-object_refusal kind start delta ratio =
+-- a test where the one before it passes
+abbrev pub and_then : Check → Check → Check
+and_then (Ok done) later = later
+and_then (Err reason) later = Err reason
+
+unfoldable pub delta_refusal : Float → Check
+delta_refusal delta = cond (time_good delta) passed (Err BadDelta)
+
+-- the order of an object's tests, of which that of its delta, or of what is known of its delta, is given
+unfoldable pub object_order : ℕ → Float → Check → Float → Check
+object_order kind start delta ratio =
     cond (kind_good kind)
     (cond (time_good start)
-    (cond (time_good delta)
-    (cond (ratio_good ratio) passed (Err BadRatio))
-    (Err BadDelta))
+    (and_then delta (cond (ratio_good ratio) passed (Err BadRatio)))
     (Err BadStart))
     (Err UnknownKind)
+
+-- whether an object is good; else why it is refused
+unfoldable pub object_refusal : ℕ → Float → Float → Float → Check
+object_refusal kind start delta ratio = object_order kind start (delta_refusal delta) ratio
 
 -- a refusal at this place where the test does not pass, else what comes later
 abbrev pub refused_or : Check → ℕ → Verdict → Verdict
 refused_or (Ok done) place later = later
 refused_or (Err reason) place later = Err (refusal reason place)
 
--- the first object that is refused, where the lists begin at object i
-unfoldable pub first_refused : ℕ → List ℕ → List Float → List Float → List Float → Verdict
-first_refused i [] starts deltas ratios = accepted
-first_refused i (k ∷ kinds) [] deltas ratios = accepted
-first_refused i (k ∷ kinds) (s ∷ starts) [] ratios = accepted
-first_refused i (k ∷ kinds) (s ∷ starts) (d ∷ deltas) [] = accepted
-first_refused i (k ∷ kinds) (s ∷ starts) (d ∷ deltas) (r ∷ ratios) =
-    refused_or (object_refusal k s d r) i (first_refused (i + 1) kinds starts deltas ratios)
+-- the first object that is refused, where the lists begin at object i and this is the test of a delta
+unfoldable pub first_refused : {A : Type 0} → (A → Check) → ℕ → List ℕ → List Float → List A → List Float → Verdict
+first_refused test i [] starts deltas ratios = accepted
+first_refused test i (k ∷ kinds) [] deltas ratios = accepted
+first_refused test i (k ∷ kinds) (s ∷ starts) [] ratios = accepted
+first_refused test i (k ∷ kinds) (s ∷ starts) (d ∷ deltas) [] = accepted
+first_refused test i (k ∷ kinds) (s ∷ starts) (d ∷ deltas) (r ∷ ratios) =
+    refused_or (object_order k s (test d) r) i (first_refused test (i + 1) kinds starts deltas ratios)
 
 -- the order of the tests: whether there are too many objects, whether the slices are of one length, the test of what is
 -- beside the chart, and the verdict on the objects
@@ -89,7 +102,7 @@ in_order large equal beside objects =
     cond large (refused TooManyObjects) (cond equal (refused_or beside 0 objects) (refused UnequalLengths))
 
 abbrev pub objects_verdict : Chart → Verdict
-objects_verdict c = first_refused 0 c.kinds c.starts c.deltas c.ratios
+objects_verdict c = first_refused delta_refusal 0 c.kinds c.starts c.deltas c.ratios
 
 -- refusals 1 to 7 of a call on a chart; `beside` is the test of what is beside it
 unfoldable pub verdict : Chart → Check → Verdict

@@ -38,7 +38,7 @@ pub fn kinds_good(kind: &[u8]) -> bool
     all_places(kind.len(), |i| kind_good(kind[i]))
 }
 
-fn all_within(lo: f64, hi: f64, values: &[f64]) -> bool
+pub fn all_within(lo: f64, hi: f64, values: &[f64]) -> bool
     ensures { result ≡ all (within lo hi) values.now }
 {
     all_places(values.len(), |i| range::is_within(lo, hi, values[i]))

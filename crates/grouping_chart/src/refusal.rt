@@ -3,7 +3,8 @@ ghost use Rattle.std.specs.Prelude.{◌≡◌, ℕ, ◌<◌, length};
 ghost use Rattle.grouping_chart.specs.Chart.{equally_long};
 ghost use Rattle.grouping_chart.specs.Lent.{seen};
 ghost use Rattle.grouping_chart.specs.passes.Good.{SameLengths, first_at};
-ghost use Rattle.grouping_chart.specs.Refusal.{Check, reason_number, at_0, time_good, ratio_good, object_refusal};
+ghost use Rattle.grouping_chart.specs.Refusal.{Check, reason_number, at_0, time_good, ratio_good, delta_refusal};
+ghost use Rattle.grouping_chart.specs.Refusal.{object_order, object_refusal, accepted, in_order};
 ghost use Rattle.grouping_chart.specs.Refusal.{objects_verdict, verdict};
 
 use crate::chart::{Chart, MOST_OBJECTS};
@@ -11,7 +12,7 @@ use crate::good;
 use crate::object::ObjectIndex;
 use numeric::range;
 
-// Why a call refuses. Its number, for C, is its place here, from 1 on.
+// Why a call refuses. C is told its number; 12 to 14 are those of the letters program.
 #[derive(Clone, Copy, PartialEq, Eq, Debug)]
 pub enum Reason {
     TooManyObjects,
@@ -25,6 +26,7 @@ pub enum Reason {
     OutOfRange,
     BadRate,
     NoNotes,
+    LowestAboveHighest,
 }
 
 // The first refusal that applies to a call. Its place is an object's where the reason is one object's, else 0.
@@ -50,6 +52,7 @@ impl From<Reason> for u64 {
             Reason::OutOfRange => 9,
             Reason::BadRate => 10,
             Reason::NoNotes => 11,
+            Reason::LowestAboveHighest => 15,
         }
     }
 }
@@ -78,10 +81,26 @@ fn ratio_good(ratio: f64) -> bool
     range::is_within(range::LEAST_RATIO, range::GREATEST_RATIO, ratio)
 }
 
-// Whether an object is good; else why it is refused.
-#[tactic(auto, unfolding(crate::specs::Refusal::object_refusal))]
-pub fn object_refusal(kind: u8, start: f64, delta: f64, ratio: f64) -> Result<(), Reason>
-    ensures { result ≡ object_refusal kind start delta ratio }
+// Whether a delta is good.
+#[tactic(auto, unfolding(crate::specs::Refusal::delta_refusal))]
+fn delta_refusal(delta: f64) -> Result<(), Reason>
+    ensures { result ≡ delta_refusal delta }
+{
+    if time_good(delta) {
+        return Ok(());
+    }
+    Err(Reason::BadDelta)
+}
+
+// Whether an object is good, by the test of its delta; else why it is refused.
+#[tactic(auto, unfolding(crate::specs::Refusal::object_order))]
+pub fn object_order(
+    kind: u8,
+    start: f64,
+    delta: Result<(), Reason>,
+    ratio: f64,
+) -> Result<(), Reason>
+    ensures { result ≡ object_order kind start delta ratio }
 {
     if !good::kind_good(kind) {
         return Err(Reason::UnknownKind);
@@ -89,13 +108,18 @@ pub fn object_refusal(kind: u8, start: f64, delta: f64, ratio: f64) -> Result<()
     if !time_good(start) {
         return Err(Reason::BadStart);
     }
-    if !time_good(delta) {
-        return Err(Reason::BadDelta);
-    }
+    delta?;
     if !ratio_good(ratio) {
         return Err(Reason::BadRatio);
     }
     Ok(())
+}
+
+#[tactic(auto, unfolding(crate::specs::Refusal::object_refusal))]
+pub fn object_refusal(kind: u8, start: f64, delta: f64, ratio: f64) -> Result<(), Reason>
+    ensures { result ≡ object_refusal kind start delta ratio }
+{
+    object_order(kind, start, delta_refusal(delta), ratio)
 }
 
 // The first of n objects that does not pass its test.
@@ -143,17 +167,25 @@ fn equally_long(chart: Chart) -> bool
     chart.start.len() == n && chart.delta.len() == n && chart.ratio.len() == n
 }
 
-// Refusals 1 to 7 of a call on a chart; `beside` is the test of what is beside it, which is refused straight after 2.
-#[tactic(auto, unfolding(crate::specs::Refusal::verdict))]
-pub fn check(chart: Chart, beside: Result<(), Reason>) -> Result<(), Refusal>
-    ensures { result ≡ verdict (seen chart.entry) beside }
+// The tests that every call makes before it looks at an object, in their order: whether there are too many, whether the
+// slices are of one length, and what is beside the chart.
+pub fn before_objects(large: bool, equal: bool, beside: Result<(), Reason>) -> Result<(), Refusal>
+    ensures { result ≡ in_order large equal beside accepted }
 {
-    if MOST_OBJECTS < chart.kind.len() {
+    if large {
         return Err(Refusal::from(Reason::TooManyObjects));
     }
-    if !equally_long(chart) {
+    if !equal {
         return Err(Refusal::from(Reason::UnequalLengths));
     }
     beside?;
+    Ok(())
+}
+
+// Refusals 1 to 7 of a call on a chart; `beside` is the test of what is beside it, which is refused straight after 2.
+pub fn check(chart: Chart, beside: Result<(), Reason>) -> Result<(), Refusal>
+    ensures { result ≡ verdict (seen chart.entry) beside }
+{
+    before_objects(MOST_OBJECTS < chart.kind.len(), equally_long(chart), beside)?;
     check_objects(chart)
 }

@@ -10,7 +10,7 @@ use crate::refusal::{Reason, Refusal};
 
 // Whether no slice is too short for n objects; `answers` says that an answer slice is.
 #[tactic(auto, unfolding(crate::specs::Room::short_refusal))]
-fn short_refusal(answers: bool, n: usize, work: usize, scratch: usize) -> Result<(), Reason>
+pub fn short_refusal(answers: bool, n: usize, work: usize, scratch: usize) -> Result<(), Reason>
     ensures { result ≡ short_refusal answers n work scratch }
 {
     if answers {

@@ -4,8 +4,8 @@ use Rattle.std.specs.Prelude.{ℕ, zero, suc, ◌≡◌, Bool, true, ◌&&◌, L
 use Rattle.grouping_chart.specs.Chart.{Chart}
 use Rattle.grouping_chart.specs.Refusal.{Check, Verdict, accepted, refused_or, kind_good, time_good, ratio_good}
 
--- the three lists of times and ratios are n long
-pub record SameLengths (n : ℕ) (starts deltas ratios : List Float) : Type 0 where
+-- the lists of starts, deltas (or of what is known of them) and ratios are n long
+pub record SameLengths {A : Type 0} (n : ℕ) (starts : List Float) (deltas : List A) (ratios : List Float) : Type 0 where
   pub start : length starts ≡ n
   pub delta : length deltas ≡ n
   pub ratio : length ratios ≡ n

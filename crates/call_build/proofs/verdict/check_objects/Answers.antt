@@ -5,7 +5,7 @@ use lib.Ieee.{nan}
 use Rattle.grouping_chart.specs.Refusal.{Check, kind_good, time_good, object_refusal}
 use Rattle.grouping_chart.specs.passes.Good.{all, first_at}
 use Rattle.grouping_chart.proofs.AllLaws.{places_tabulated}
-use Rattle.grouping_chart.proofs.RefusalLaws.{first-places}
+use Rattle.grouping_chart.proofs.RefusalLaws.{chart-places}
 use Rattle.call_build.specs.Build.{start_at, delta_at, built_chart}
 use Rattle.call_build.specs.Lent.{raw_seen}
 use Rattle.call_build.proofs.ChartLaws.{built-size, built-lengths, good_built}
@@ -29,4 +29,4 @@ returns c =
     let checks : ℕ → Check = λ i. object_refusal (get_or b.kinds i 0) (get_or b.starts i nan) (get_or b.deltas i nan) (get_or b.ratios i nan) in
     let size = built-size c.args.timed.rate r ∙ sym c.size-n.ensures in
     c.first_refused.ensures checks (λ i given h e. search rules)
-    ∙ ap (first_at checks) (sym size) ∙ first-places _ _ _ _ nan (built-lengths c.args.timed.rate r) checks (λ i h. refl)
+    ∙ ap (first_at checks) (sym size) ∙ chart-places b (built-lengths c.args.timed.rate r) (λ i h. refl)

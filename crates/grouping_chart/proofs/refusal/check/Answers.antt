@@ -1,7 +1,19 @@
--- Whose lists have passed the test of their lengths are checked object by object.
-use Rattle.std.proofs.Common.{rules}
-use Rattle.grouping_chart.proofs.AcceptedLaws.{equal-lengths}
+-- The tests before the objects tell, or all pass; then the lists are of one length, and are checked object by object.
+use Rattle.std.proofs.Common.{sym, ◌∙◌, rules}
+use Rattle.grouping_chart.specs.Lent.{seen}
+use Rattle.grouping_chart.proofs.AcceptedLaws.{told_first, told_none}
 use Rattle.grouping_chart.proofs.refusal.check.Goals as goal
 
 pub check_objects-requires : goal.check_objects-requires
-check_objects-requires c = equal-lengths _ (search rules)
+check_objects-requires c =
+    (told_none (seen c.args.chart) c.args.beside c.equally_long.ensures c.before_objects.ensures c.in_ok-before_objects.was).0
+
+pub returns : goal.returns
+returns c =
+    c.check_objects.ensures
+    ∙ sym (told_none (seen c.args.chart) c.args.beside c.equally_long.ensures c.before_objects.ensures c.in_ok-before_objects.was).1
+
+pub returns-in_err-before_objects : goal.returns-in_err-before_objects
+returns-in_err-before_objects c =
+    let first = told_first (seen c.args.chart) c.args.beside c.equally_long.ensures c.before_objects.ensures c.in_err-before_objects.was in
+    rw first (search rules)
