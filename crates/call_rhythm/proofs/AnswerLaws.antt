@@ -123,7 +123,7 @@ module _ (s : Settings) {kinds : List ℕ} {starts deltas : List Float} {m : Mem
       let marks : List ℕ = rhythm_marks s.margin kinds deltas in
       let values : List Float = group_intervals s.margin kinds starts deltas in
       (λ t. by_object (gathered (patterns_are t) (groups_are t)) kinds)
-      ∙ per_note_ext _ _ kinds
+      ∙ per_note_ext 65535 _ _ kinds
       (λ j h. get_or-gathered (group_numbers (interval_marks s.margin values)) (group_numbers marks) j
       (omega (arith, length-numbers marks, length-rhythm_marks s.margin kinds deltas r.tables.whole))
       ∙ sym (pattern_number_made s.margin values _))

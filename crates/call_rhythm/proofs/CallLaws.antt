@@ -49,6 +49,6 @@ module _ (s : Settings) (c : Chart) (m : Memory) where
   group-written h o l n =
       rw (left h)
       (get_or-over (group_of s.margin c.kinds c.deltas) m.group o 0
-      (omega (arith, length_per_note (note_group s.margin c.kinds c.deltas) c.kinds))
-      ∙ per_note_at (note_group s.margin c.kinds c.deltas) c.kinds o l
+      (omega (arith, length_per_note 65535 (note_group s.margin c.kinds c.deltas) c.kinds))
+      ∙ per_note_at 65535 (note_group s.margin c.kinds c.deltas) c.kinds o 0 l
       ∙ rw (n, rhythm_marks_made s.margin c.kinds c.deltas))

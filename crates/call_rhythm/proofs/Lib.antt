@@ -1,7 +1,8 @@
 -- The laws of this crate. Those that are public are for the crates above, or are results of their own; the others serve the proofs of this crate alone.
 pub mod TablesLaws
 pub mod CallLaws
-mod PerNoteLaws
+pub mod MadeLaws
+pub mod PerNoteLaws
 mod SpreadLaws
 mod RegionLaws
 mod AnswerLaws

@@ -1,8 +1,8 @@
--- The loops that spread numbers over objects and that look numbers up. The invariant of the first: the first i objects have their numbers, and `next`
--- counts the notes among them; of the second: the first i numbers are looked up, and the table, which lies behind them, is as it was.
+-- The loops that spread what is said of notes over objects and that look numbers up. The invariant of the first: the first i objects have what is said of
+-- their notes, and `next` counts the notes among them; of the second: the first i numbers are looked up, and the table, which lies behind them, is as it was.
 use mathlib.Core.Path.{◌≡◌, sym, ◌∙◌}
 use mathlib.Core.Logic.{inr}
-use mathlib.Core.Bool.{true, cond}
+use mathlib.Core.Bool.{Bool, true, cond}
 use mathlib.Core.List.{List, []}
 use Prim.Native.Nat.{ℕ, ◌+◌, ◌≤◌, ◌<◌}
 use native.Mathlib.Omega.{arith}
@@ -15,47 +15,43 @@ use Rattle.std.proofs.lemmas.List.{take_all}
 use Rattle.lent.proofs.OverLaws.{length-over, front}
 use Rattle.lent.proofs.FillLaws.{Fill, fill_start_front, fill_turn_front, fill_end_front, fill_unread}
 use Rattle.lent.proofs.FillLaws.{length-gathered, get_or-gathered}
-use Rattle.grouping_chart.specs.Object.{is_note, note_idx}
+use Rattle.grouping_chart.specs.Object.{is_note, notes, note_idx}
 use Rattle.grouping_chart.proofs.ObjectLaws.{seen₀, seen_after, seen_few, notes_turn, note_idx_seen}
-use Rattle.call_rhythm.specs.passes.Tables.{SpreadRoom, by_object}
-use Rattle.call_rhythm.proofs.PerNoteLaws.{note_below, length_per_note, per_note_at, same_where}
+use Rattle.call_rhythm.specs.Rhythm.{per_note}
+use Rattle.call_rhythm.proofs.PerNoteLaws.{note_below, per_note_at, same_where}
 
--- ---- numbers spread over objects
+-- ---- what is said of notes spread over objects
 
-pub record Spread (kinds numbers out₀ out : List ℕ) (next i : ℕ) : Type 0 where
-  pub fill : Fill (by_object numbers kinds) (length kinds) 0 out₀ out i
+-- the notes before object i are counted
+pub record Passed (kinds : List ℕ) (next i : ℕ) : Type 0 where
   pub passed : next ≡ (seen_after seen₀ (take i kinds)).notes
 
-pub spread_start : (kinds numbers out : List ℕ) → SpreadRoom kinds numbers out → Spread kinds numbers out out 0 0
-spread_start kinds numbers out r = record { fill = fill_start_front _ _ _ (length_per_note _ kinds) r.room; passed = omega (arith, seen_few []) }
+pub passed_start : (kinds : List ℕ) → Passed kinds 0 0
+passed_start kinds = record { passed = omega (arith, seen_few []) }
 
-module _ {kinds numbers out₀ out : List ℕ} {next i : ℕ} (x : Spread kinds numbers out₀ out next i) where
+module _ {kinds : List ℕ} {next i : ℕ} (x : Passed kinds next i) where
   next_is : is_note (get_or kinds i 0) ≡ true → next ≡ note_idx kinds i
   next_is n = x.passed ∙ sym (rw n at (note_idx_seen kinds i))
 
-  -- the number that a note asks for is there
-  pub spread_within : SpreadRoom kinds numbers out₀ → i < length kinds → is_note (get_or kinds i 0) ≡ true → next < length numbers
-  spread_within r h n = omega (arith, next_is n, note_below kinds i h n, r.each)
+  -- a note's number is below how many there are
+  pub next_below : i < length kinds → is_note (get_or kinds i 0) ≡ true → next < length (notes kinds)
+  next_below h n = omega (arith, next_is n, note_below kinds i h n)
 
-  pub spread_few : i < length kinds → next ≤ i
-  spread_few h = omega (arith, x.passed, seen_few (take i kinds), length-take-le i kinds (omega arith))
+  pub next_few : i < length kinds → next ≤ i
+  next_few h = omega (arith, x.passed, seen_few (take i kinds), length-take-le i kinds (omega arith))
 
-  pub spread_turn : (v after : ℕ) → i < length kinds → v ≡ cond (is_note (get_or kinds i 0)) (get_or numbers next 0) 65535
-      → after ≡ cond (is_note (get_or kinds i 0)) (next + 1) next → Spread kinds numbers out₀ (set out i v) after (i + 1)
-  spread_turn v after h q e = record {
-    fill =
-        fill_turn_front 0 x.fill h
-        (q
-        ∙ same_where (is_note (get_or kinds i 0)) (get_or numbers next 0) (get_or numbers (note_idx kinds i) 0) 65535
-        (λ n. rw (next_is n))
-        ∙ sym (per_note_at (λ (j : ℕ). get_or numbers j 0) kinds i h));
-    passed = notes_turn kinds i h next after x.passed e;
-  }
+  pub passed_turn : (after : ℕ) → i < length kinds → after ≡ cond (is_note (get_or kinds i 0)) (next + 1) next → Passed kinds after (i + 1)
+  passed_turn after h e = record { passed = notes_turn kinds i h next after x.passed e }
 
-  pub spread_end : length kinds ≤ i → out ≡ over (by_object numbers kinds) out₀
-  spread_end h = fill_end_front x.fill h
-
-pub ruleset spreads = (spread_within, spread_few, spread_end)
+  -- object i gets what is said of its note
+  pub spread_turn : {A : Type 0} (none : A) (value : ℕ → A) {out₀ out : List A} {b : Bool} (v : A)
+      → Fill (per_note none value kinds) (length kinds) 0 out₀ out i → i < length kinds → is_note (get_or kinds i 0) ≡ b → v ≡ cond b (value next) none
+      → Fill (per_note none value kinds) (length kinds) 0 out₀ (set out i v) (i + 1)
+  spread_turn none value {b} v f h n q =
+      fill_turn_front none f h
+      (rw (← n) at q
+      ∙ same_where none (is_note (get_or kinds i 0)) (value next) (value (note_idx kinds i)) (λ n. rw (next_is n))
+      ∙ sym (per_note_at none value kinds i none h))
 
 -- ---- numbers looked up
 

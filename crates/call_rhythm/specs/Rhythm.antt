@@ -9,22 +9,22 @@ use Rattle.grouping_same_rhythm.specs.SameRhythm.{rhythm_marks, group_intervals}
 use Rattle.grouping_same_rhythm.specs.SamePatterns.{pattern_number}
 use Rattle.call_rhythm.specs.declared.tables.GroupCounts.{GroupCounts}
 
--- what is said of each note, object by object, and 65535 for a NonHit
-unfoldable pub per_note : (ℕ → ℕ) → List ℕ → List ℕ
-per_note f kinds =
-    tabulate (λ (i : ℕ). cond (is_note (get_or kinds i 0)) (f (note_idx kinds i)) 65535) (length kinds)
+-- what is said of each note by its number, object by object, and this for a NonHit
+unfoldable pub per_note : {A : Type 0} → A → (ℕ → A) → List ℕ → List A
+per_note none f kinds =
+    tabulate (λ (i : ℕ). cond (is_note (get_or kinds i 0)) (f (note_idx kinds i)) none) (length kinds)
 
--- the group of note number j
+-- the group of note number j; a NonHit has 65535 for a number
 unfoldable pub note_group : Float → List ℕ → List Float → ℕ → ℕ
 note_group margin kinds deltas j = get_or (group_numbers (rhythm_marks margin kinds deltas)) j 0
 
 unfoldable pub group_of : Float → List ℕ → List Float → List ℕ
-group_of margin kinds deltas = per_note (note_group margin kinds deltas) kinds
+group_of margin kinds deltas = per_note 65535 (note_group margin kinds deltas) kinds
 
 unfoldable pub pattern_group_of : Float → List ℕ → List Float → List Float → List ℕ
 pattern_group_of margin kinds starts deltas =
     let intervals = group_intervals margin kinds starts deltas in
-    per_note (λ (j : ℕ). pattern_number margin intervals (note_group margin kinds deltas j)) kinds
+    per_note 65535 (λ (j : ℕ). pattern_number margin intervals (note_group margin kinds deltas j)) kinds
 
 -- how many there are
 unfoldable pub groups_in : Float → List ℕ → List Float → ℕ

@@ -1,40 +1,32 @@
 // What is known of notes, by objects.
-ghost use Rattle.std.specs.Prelude.{◌≡◌, true, cond, ◌*◌, ◌<◌, length, get_or};
+ghost use Rattle.std.specs.Prelude.{◌≡◌, ℕ, ◌*◌, ◌≤◌, ◌<◌, length};
 ghost use Rattle.lent.specs.Over.{over, put};
 ghost use Rattle.lent.specs.Scan.{gathered};
 ghost use Rattle.lent.specs.passes.Bounds.{AllBelow};
-ghost use Rattle.grouping_chart.specs.Object.{is_note};
-ghost use Rattle.call_rhythm.specs.passes.Tables.{SpreadRoom, TablesThere};
+ghost use Rattle.grouping_chart.specs.Object.{notes};
+ghost use Rattle.call_rhythm.specs.Rhythm.{per_note};
+ghost use Rattle.call_rhythm.specs.passes.Tables.{TablesThere};
 ghost use Rattle.call_rhythm.specs.passes.Tables.{by_object, note_groups, note_patterns};
 
 use crate::tables::GroupCounts;
 use grouping_chart::object::{NoteIndex, is_note, note_after};
 
 // What a NonHit has in place of a number: C lends u16, which has no None.
-const NO_GROUP: u16 = u16::MAX;
+pub const NO_GROUP: u16 = u16::MAX;
 
-// The number of an object's note, which is `next` where it is one.
-fn number_of(kind: u8, numbers: &[u16], next: NoteIndex) -> u16
-    requires { is_note kind ≡ true → next.0 < length numbers.now }
-    ensures { result ≡ cond (is_note kind) (get_or numbers.now next.0 0) 65535 }
-{
-    if is_note(kind) {
-        numbers[next.0]
-    } else {
-        NO_GROUP
-    }
-}
-
-// Gives each object the number of its note. The loop goes by the place: what a write through `out.iter_mut()` in a zip
-// leaves is unknown to a proof. It is no `fill::by_place`, since it carries the number of the next note.
-#[tactic(auto, using(crate::proofs::SpreadLaws::spreads))]
-pub fn spread(kind: &[u8], numbers: &[u16], out: &mut [u16])
-    requires { SpreadRoom kind.now numbers.now out.old }
-    ensures { out.new ≡ over (by_object numbers.now kind.now) out.old }
+// Gives each object what is said of its note, by the note's number. The loop goes by the place: what a write through
+// `out.iter_mut()` in a zip leaves is unknown to a proof. It is no `fill::by_place`, since it carries the number of the
+// next note.
+pub fn spread<T: Copy, F: Fn(usize) -> T>(kind: &[u8], none: T, out: &mut [T], of_note: F)
+    requires room { length kind.now ≤ length out.old }
+    requires callable { (j : ℕ) → j < length (notes kind.now) → F.pre of_note j }
+    ensures { (value : ℕ → T)
+        → ((j : ℕ) (given : T) → j < length (notes kind.now) → F.post of_note j given → given ≡ value j)
+        → out.new ≡ over (per_note none value kind.now) out.old }
 {
     let mut next = NoteIndex(0);
     for (i, k) in kind.iter().enumerate() {
-        out[i] = number_of(*k, numbers, next);
+        out[i] = if is_note(*k) { of_note(next.0) } else { none };
         next = note_after(*k, next);
     }
 }
@@ -69,7 +61,7 @@ pub fn fill_answers(
     let (notes, patterns) = work.split_at_mut(3 * n);
     let m = k.notes;
     let numbers = &mut notes[2 * n..2 * n + m];
-    spread(kind, numbers, group);
+    spread(kind, NO_GROUP, group, |j| numbers[j]);
     look_up(numbers, &patterns[..k.groups]);
-    spread(kind, numbers, pattern);
+    spread(kind, NO_GROUP, pattern, |j| numbers[j]);
 }

@@ -80,14 +80,9 @@ pub record GroupsRoom (kinds : List ℕ) (starts deltas : List Float) (m : Memor
   pub group_room : length kinds ≤ length m.group
   pub pattern_room : length kinds ≤ length m.pattern
 
--- a number for each note, and room for each object
-pub record SpreadRoom (kinds numbers out : List ℕ) : Type 0 where
-  pub each : length numbers ≡ length (notes kinds)
-  pub room : length kinds ≤ length out
-
 -- what a list says of each note, object by object
 abbrev pub by_object : List ℕ → List ℕ → List ℕ
-by_object numbers kinds = per_note (λ (j : ℕ). get_or numbers j 0) kinds
+by_object numbers kinds = per_note 65535 (λ (j : ℕ). get_or numbers j 0) kinds
 
 -- the notes' groups, which region 2 has
 abbrev pub note_groups : List ℕ → GroupCounts → List ℕ → List ℕ
