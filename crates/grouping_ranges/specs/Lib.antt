@@ -1,0 +1,3 @@
+-- The definitions that this crate's promises and laws cite.
+pub mod SureClass
+pub mod Choices
