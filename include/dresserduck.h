@@ -5,18 +5,21 @@
  *   start  when it starts, in milliseconds: finite and within +-16,777,216
  *   delta  the time since the object before it, in milliseconds: finite and within +-16,777,216
  *   ratio  its rhythm ratio, from 2^-24 to 2^24
+ * dresserduck_taps takes a chart whose deltas are not known exactly, as a foot switch gives it. It is five slices, with two for delta:
+ *   lowest, highest  the least and the most that the delta may be, both as a delta must be, lowest not above highest
  * dresserduck_build makes a chart of raw objects, as an editor holds them: two slices of one length m, from 0 to 16,386. The first
  * two raw objects become no object: n is m - 2, or 0 where m is below 2.
  *
- * A call takes the chart, then plain arguments, then the slices that it is lent: those that it fills with n answers each, and
+ * A call takes its chart, then plain arguments, then the slices that it is lent: those that it fills with n answers each, and
  * two to work in, `work` and `scratch`. dresserduck_build takes raw objects where the others take the chart, and has no slices to
  * work in. A slice is a pointer and a count of elements, and may be longer than needed where it is lent. A pointer is aligned for its
  * element and not null, also where the count is 0. No slice that is lent overlaps another slice; those of the chart and of the raw
  * objects are only read, and may overlap each other.
  *
  * Every call answers every input. Either `refusal` is DRESSERDUCK_ACCEPTED: an answer slice has its answers in the first n places,
- * the work slices are left 0 in as many places as they need, and what any slice held past these it still holds. Or `refusal` is the
- * number of the first refusal that applies and `place` says where: then every other field is 0, and every lent slice is as it was.
+ * the work slices are left 0 in as many places as they need, and what any slice held past these it still holds. One answer slice may
+ * be left as it was: `group` of dresserduck_taps. Or `refusal` is the number of the first refusal that applies and `place` says where:
+ * then every other field is 0, and every lent slice is as it was.
  *
  * The calls keep nothing from one to the next and take no memory but what they are lent and the stack, so that several threads may
  * call at once, each with slices of its own to fill.
@@ -46,21 +49,23 @@ enum {
 };
 
 /* The refusals. They are tested in this order: 1 to 3 for the call, then 10, then 4 to 7 for one object after another, then 8, 9 and 11.
- * `place` is the object's number, counted from 0, for 4 to 7, and 0 for the others. For dresserduck_build it is the number of the
- * object that would be built, and 4 to 6 are about that object's kind, start and delta. */
+ * For dresserduck_taps 15 stands between 6 and 7. `place` is the object's number, counted from 0, for 4 to 7 and 15, and 0 for the
+ * others. For dresserduck_build it is the number of the object that would be built, and 4 to 6 are about that object's kind, start and
+ * delta. */
 enum {
     DRESSERDUCK_ACCEPTED = 0,
 
     /* the host programmer's */
     DRESSERDUCK_TOO_MANY_OBJECTS = 1, /* n is over 16,384, or m over 16,386, counted on the kind slice */
-    DRESSERDUCK_LENGTHS_DIFFER = 2,   /* the chart's four slices, or the two of the raw objects, are not of one length */
+    DRESSERDUCK_LENGTHS_DIFFER = 2,   /* the chart's slices, or the two of the raw objects, are not of one length */
     DRESSERDUCK_SLICE_TOO_SHORT = 3,  /* an answer slice has fewer than n places, or a work slice too few */
 
     /* the chart writer's, at the object `place` */
     DRESSERDUCK_BAD_KIND = 4,  /* above 2 */
     DRESSERDUCK_BAD_START = 5, /* not finite, or outside +-16,777,216 */
-    DRESSERDUCK_BAD_DELTA = 6, /* not finite, or outside +-16,777,216 */
+    DRESSERDUCK_BAD_DELTA = 6, /* not finite, or outside +-16,777,216; for dresserduck_taps the lowest or the highest */
     DRESSERDUCK_BAD_RATIO = 7, /* outside 2^-24 to 2^24, or a NaN; never for dresserduck_build */
+    DRESSERDUCK_LOWEST_ABOVE_HIGHEST = 15, /* dresserduck_taps: lowest > highest; the two zeros are equal. Tested between 6 and 7 */
 
     /* the player's settings'; 9 has two names, as its causes are two */
     DRESSERDUCK_BAD_WINDOW = 8,  /* dresserduck_record: the window lies outside 1.0 to 1,000.0, or is a NaN */
@@ -198,6 +203,42 @@ dresserduck_grouped dresserduck_rhythm(
     const double *ratio, size_t ratio_count,
     uint16_t *group, size_t group_count,
     uint16_t *pattern, size_t pattern_count,
+    uint16_t *work, size_t work_count,
+    double *scratch, size_t scratch_count);
+
+/* What is sure of a note and the next one, NonHits between them passed over, whatever deltas inside their ranges they have. They are
+ * near where the two deltas differ by at most 5.0; where not, they are a rise if the second is above the first plus 5.0. Both the
+ * difference and the sum are rounded to doubles. */
+enum {
+    DRESSERDUCK_NEAR = 0,     /* surely near */
+    DRESSERDUCK_RISE = 1,     /* surely a rise */
+    DRESSERDUCK_NEITHER = 2,  /* surely neither */
+    DRESSERDUCK_OPEN = 3,     /* not the same for all such deltas */
+    DRESSERDUCK_NO_PAIR = 255 /* for a NonHit and for the last note, which have no such pair */
+};
+
+/* What dresserduck_taps answers; `refusal` and `place` as above. */
+typedef struct dresserduck_tapped {
+    uint64_t refusal;
+    uint64_t place;
+    uint64_t open;   /* 1 where the grouping looks at a pair that is open; else 0 */
+    uint64_t groups; /* how many rhythm groups the chart has; 0 where `open` is 1 */
+} dresserduck_tapped;
+
+/* Says what holds for every chart that has these kinds and a delta inside each of these ranges. Fills per object
+ *   pair   what is sure of it and the next note: DRESSERDUCK_NEAR to DRESSERDUCK_OPEN, or DRESSERDUCK_NO_PAIR
+ *   group  where `open` is 0, its rhythm group, DRESSERDUCK_NO_GROUP for a NonHit: what dresserduck_rhythm gives for all those charts.
+ *          Where it is 1, this slice is left as it was
+ * Not every pair is looked at. Of two notes none is; of more, neither the first pair, nor the one right behind a rise that was looked
+ * at, unless it is the last, which always is. An open pair that isn't looked at leaves `open` 0. */
+dresserduck_tapped dresserduck_taps(
+    const uint8_t *kind, size_t kind_count,
+    const double *start, size_t start_count,
+    const double *lowest, size_t lowest_count,
+    const double *highest, size_t highest_count,
+    const double *ratio, size_t ratio_count,
+    uint8_t *pair, size_t pair_count,
+    uint16_t *group, size_t group_count,
     uint16_t *work, size_t work_count,
     double *scratch, size_t scratch_count);
 

@@ -1,11 +1,13 @@
-//! The six calls as the library exports them, for a host that lends memory of its own. A [`Workspace`](crate::Workspace)
-//! and a [`RawChart`] do the same with memory that they make.
+//! The seven calls as the library exports them, for a host that lends memory of its own. A
+//! [`Workspace`](crate::Workspace) and a [`RawChart`] do the same with memory that they make.
 //!
-//! Each call takes a chart, then plain arguments, then the slices that it is lent to fill and to work in; [`build`] takes a
-//! raw chart and has none to work in. It needs n places in each slice for n objects, and 8n in `work`; slices may be longer.
-//! The answer is a record of plain numbers: `refusal` is 0 and the first n places of each slice are filled, with `work` and
-//! `scratch` left 0; or `refusal` is the number of the first [`Refusal`] that applies, `place` is the object for 4 to 7 and
-//! 0 for the others, every other field is 0, and every slice is as it was lent.
+//! Each call takes a chart, then plain arguments, then the slices that it is lent to fill and to work in; [`taps`]
+//! takes a [`TapChart`], and [`build`] takes a raw chart and has none to work in. It needs n places in each slice for n
+//! objects, and 8n in `work`; slices may be longer. The answer is a record of plain numbers: `refusal` is 0 and the
+//! first n places of each slice are filled, with `work` and `scratch` left 0; or `refusal` is the number of the first
+//! [`Refusal`] that applies, `place` is the object for 4 to 7 and 15 and 0 for the others, every other field is 0, and
+//! every slice is as it was lent. One answer slice may be left as it was where a call is accepted: the groups of
+//! [`taps`].
 //!
 //! ```
 //! use dresserduck::{calls, Chart};
@@ -26,6 +28,7 @@ use crate::chart::Chart;
 use crate::raw_chart::RawChart;
 #[cfg(doc)]
 use crate::refusal::Refusal;
+use crate::tap_chart::TapChart;
 
 /// What [`build`] answers.
 #[repr(C)]
@@ -87,6 +90,20 @@ pub struct Grouped {
     pub groups: u64,
     /// how many pattern groups
     pub pattern_groups: u64,
+}
+
+/// What [`taps`] answers.
+#[repr(C)]
+#[derive(Clone, Copy, Debug, Default, PartialEq, Eq)]
+pub struct Tapped {
+    /// 0, or the number of the first refusal that applies
+    pub refusal: u64,
+    /// the object that is refused by 4 to 7 and 15, else 0
+    pub place: u64,
+    /// 1 where the grouping looks at a pair that is open, else 0
+    pub open: u64,
+    /// how many rhythm groups there are; 0 where `open` is 1
+    pub groups: u64,
 }
 
 /// What [`record`] answers. A field whose name ends in `_bits` is the bit pattern of an f64; a NaN is 7FF8000000000000.
@@ -166,12 +183,14 @@ pub fn build(
     }
 }
 
-/// Declares exports on a chart, and each as a safe function over slices: the arguments that follow the chart, `;`, the lent
-/// slices.
+/// Declares exports on a chart, and each as a safe function over slices: the chart with its lists beside the kinds, the
+/// arguments that follow it, `;`, the lent slices.
 macro_rules! exports {
     ($(
         $(#[$doc:meta])*
-        fn $name:ident = $export:ident($($argument:ident: $type:ty),*; $($slice:ident: $element:ty),*) -> $answer:ty;
+        fn $name:ident = $export:ident(
+            $chart:ident[$($list:ident),*] $(, $argument:ident: $type:ty)*; $($slice:ident: $element:ty),*
+        ) -> $answer:ty;
     )*) => {
         extern "C" {
             $(
@@ -181,12 +200,7 @@ macro_rules! exports {
                 pub fn $export(
                     kind: *const u8,
                     kind_count: usize,
-                    start: *const f64,
-                    start_count: usize,
-                    delta: *const f64,
-                    delta_count: usize,
-                    ratio: *const f64,
-                    ratio_count: usize,
+                    $($list: *const f64, _: usize,)*
                     $($argument: $type,)*
                     $($slice: *mut $element, _: usize),*
                 ) -> $answer;
@@ -195,7 +209,7 @@ macro_rules! exports {
         $(
             $(#[$doc])*
             #[allow(clippy::too_many_arguments)] // as many as the export has
-            pub fn $name(chart: &Chart, $($argument: $type,)* $($slice: &mut [$element]),*) -> $answer {
+            pub fn $name(chart: &$chart, $($argument: $type,)* $($slice: &mut [$element]),*) -> $answer {
                 // SAFETY: each pointer and count is that of one slice, so it is aligned, valid for its count and not
                 // null; the lent slices are borrowed mutably, so they lie apart from all others. The library answers
                 // every input, and reads and writes inside its slices only: both are proved.
@@ -203,12 +217,7 @@ macro_rules! exports {
                     $export(
                         chart.kind.as_ptr(),
                         chart.kind.len(),
-                        chart.start.as_ptr(),
-                        chart.start.len(),
-                        chart.delta.as_ptr(),
-                        chart.delta.len(),
-                        chart.ratio.as_ptr(),
-                        chart.ratio.len(),
+                        $(chart.$list.as_ptr(), chart.$list.len(),)*
                         $($argument,)*
                         $($slice.as_mut_ptr(), $slice.len()),*
                     )
@@ -220,18 +229,27 @@ macro_rules! exports {
 
 exports! {
     /// Per object six numbers, as in [`Encoding`](crate::Encoding).
-    fn encode = dresserduck_encode(; streak: u16, streak_place: u16, pattern: u16, pattern_place: u16, hit: u16,
-        interval: u8, work: u16, scratch: f64) -> Encoded;
+    fn encode = dresserduck_encode(Chart[start, delta, ratio]; streak: u16, streak_place: u16, pattern: u16,
+        pattern_place: u16, hit: u16, interval: u8, work: u16, scratch: f64) -> Encoded;
 
     /// Per object its colour value.
-    fn colour = dresserduck_colour(; value: f64, work: u16, scratch: f64) -> Coloured;
+    fn colour = dresserduck_colour(Chart[start, delta, ratio]; value: f64, work: u16, scratch: f64) -> Coloured;
 
     /// The same, and the mean over the notes from object a to b, b not included, with its tenths.
-    fn stretch = dresserduck_stretch(a: usize, b: usize; value: f64, work: u16, scratch: f64) -> Stretched;
+    fn stretch = dresserduck_stretch(Chart[start, delta, ratio], a: usize, b: usize; value: f64, work: u16,
+        scratch: f64) -> Stretched;
 
     /// Per object its rhythm group and that one's pattern group; [`NO_GROUP`](crate::NO_GROUP) for a NonHit.
-    fn rhythm = dresserduck_rhythm(; group: u16, pattern: u16, work: u16, scratch: f64) -> Grouped;
+    fn rhythm = dresserduck_rhythm(Chart[start, delta, ratio]; group: u16, pattern: u16, work: u16,
+        scratch: f64) -> Grouped;
+
+    /// Per object what is sure of it and the next note, by the number of a [`PairClass`](crate::PairClass),
+    /// [`NO_PAIR`](crate::NO_PAIR) for a NonHit and for the last note; and its rhythm group,
+    /// [`NO_GROUP`](crate::NO_GROUP) for a NonHit. Where the answer is `open`, the groups are as they were lent.
+    fn taps = dresserduck_taps(TapChart[start, lowest, highest, ratio]; pair: u8, group: u16, work: u16,
+        scratch: f64) -> Tapped;
 
     /// One rhythm group by its number, with the hit window in milliseconds.
-    fn record = dresserduck_record(group: usize, window: f64; work: u16, scratch: f64) -> Recorded;
+    fn record = dresserduck_record(Chart[start, delta, ratio], group: usize, window: f64; work: u16,
+        scratch: f64) -> Recorded;
 }

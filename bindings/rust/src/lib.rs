@@ -3,8 +3,9 @@
 //!
 //! A [`Chart`] borrows four slices. A [`Workspace`] has the memory that the calls work in; it grows as needed and can be
 //! used again and again. Every call answers every chart: with its result, or with the first [`Refusal`] that applies.
-//! A [`RawChart`], of kinds and times as an editor holds them, builds a chart. A host that lends memory of its own finds the
-//! same calls in [`calls`].
+//! A [`RawChart`], of kinds and times as an editor holds them, builds a chart. Of a [`TapChart`], whose deltas are only
+//! known to within ranges, as a foot switch gives them, a call tells whether its rhythm groups are sure. A host that
+//! lends memory of its own finds the same calls in [`calls`].
 //!
 //! ```
 //! use dresserduck::{Chart, Workspace, CENTER, RIM};
@@ -45,10 +46,12 @@ mod chart;
 mod raw_chart;
 mod refusal;
 mod result;
+mod tap_chart;
 mod workspace;
 
 pub use chart::{Chart, CENTER, LARGEST_CHART, NON_HIT, RIM};
 pub use raw_chart::{BuiltChart, RawChart, LARGEST_RAW_CHART};
 pub use refusal::Refusal;
-pub use result::{Encoding, GroupRecord, Rhythm, Stretch, NO_GROUP};
+pub use result::{Encoding, GroupRecord, PairClass, Rhythm, Stretch, Taps, NO_GROUP, NO_PAIR};
+pub use tap_chart::TapChart;
 pub use workspace::Workspace;

@@ -3,8 +3,9 @@
 use std::error::Error;
 use std::fmt;
 
-/// The first refusal that applies. The first three are the host programmer's, the next four the chart writer's, the last
-/// four the player's settings'. They are tested in the order of their numbers, but 10 before 4.
+/// The first refusal that applies. The first three are the host programmer's, the next four and 15 the chart writer's,
+/// the others the player's settings'. They are tested in the order of their numbers, but 10 before 4, and 15 between 6
+/// and 7.
 ///
 /// ```
 /// use dresserduck::{Chart, Workspace};
@@ -19,7 +20,7 @@ use std::fmt;
 pub enum Refusal {
     /// 1: more than 16,384 objects, or more than 16,386 raw ones.
     TooManyObjects,
-    /// 2: the chart's four slices, or the two of the raw objects, are not of one length.
+    /// 2: the chart's slices, or the two of the raw objects, are not of one length.
     LengthsDiffer,
     /// 3: an answer or work slice is too short. A [`Workspace`](crate::Workspace) and a [`RawChart`](crate::RawChart) never
     /// lend one.
@@ -34,7 +35,7 @@ pub enum Refusal {
         /// its number, counted from 0
         object: usize,
     },
-    /// 6: an object's delta is not finite or outside ±16,777,216.
+    /// 6: an object's delta, or the least or the most that it may be, is not finite or outside ±16,777,216.
     BadDelta {
         /// its number, counted from 0
         object: usize,
@@ -52,6 +53,11 @@ pub enum Refusal {
     BadRate,
     /// 11: the stretch has no note, only NonHits.
     NoNote,
+    /// 15: the least that an object's delta may be is above the most.
+    LowestAboveHighest {
+        /// its number, counted from 0
+        object: usize,
+    },
 }
 
 impl Refusal {
@@ -69,6 +75,7 @@ impl Refusal {
             Refusal::OutsideChart => 9,
             Refusal::BadRate => 10,
             Refusal::NoNote => 11,
+            Refusal::LowestAboveHighest { .. } => 15,
         }
     }
 
@@ -78,7 +85,8 @@ impl Refusal {
             Refusal::BadKind { object }
             | Refusal::BadStart { object }
             | Refusal::BadDelta { object }
-            | Refusal::BadRatio { object } => Some(object),
+            | Refusal::BadRatio { object }
+            | Refusal::LowestAboveHighest { object } => Some(object),
             _ => None,
         }
     }
@@ -99,6 +107,7 @@ impl Refusal {
             9 => Some(Refusal::OutsideChart),
             10 => Some(Refusal::BadRate),
             11 => Some(Refusal::NoNote),
+            15 => Some(Refusal::LowestAboveHighest { object }),
             _ => unreachable!("the library has no refusal {number}"),
         }
     }
@@ -134,6 +143,9 @@ impl fmt::Display for Refusal {
             }
             Refusal::BadRate => "The clock rate in the settings is not from 0.25 to 4.",
             Refusal::NoNote => "The passage that was asked for has no note, only rolls and swells.",
+            Refusal::LowestAboveHighest { .. } => {
+                "has a lowest delta that is above its highest."
+            }
         })
     }
 }

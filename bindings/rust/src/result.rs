@@ -82,6 +82,66 @@ impl Rhythm {
     }
 }
 
+/// What is sure of a note and the next one, whatever deltas inside their ranges they have.
+///
+/// Two notes are near where their deltas differ by at most 5.0. Where they are not, they are a rise if the second delta
+/// is above the first plus 5.0. Both the difference and the sum are rounded to an f64.
+#[derive(Clone, Copy, Debug, PartialEq, Eq, Hash)]
+pub enum PairClass {
+    /// 0: surely near
+    Near,
+    /// 1: surely a rise
+    Rise,
+    /// 2: surely neither
+    Neither,
+    /// 3: not the same for all such deltas
+    Open,
+}
+
+/// The number that stands for the class of a NonHit and of the last note, which have none.
+pub const NO_PAIR: u8 = 255;
+
+impl PairClass {
+    /// The number by which the library tells it.
+    pub const fn number(self) -> u8 {
+        self as u8
+    }
+
+    fn of(number: u8) -> Option<Self> {
+        match number {
+            0 => Some(PairClass::Near),
+            1 => Some(PairClass::Rise),
+            2 => Some(PairClass::Neither),
+            3 => Some(PairClass::Open),
+            NO_PAIR => None,
+            _ => unreachable!("the library has no class {number}"),
+        }
+    }
+}
+
+/// Per object what is sure of it and the next note, and its rhythm group, where the groups are sure.
+#[derive(Clone, Debug, Default, PartialEq, Eq)]
+pub struct Taps {
+    /// how many rhythm groups there are; none where they are open
+    pub groups: Option<usize>,
+    pub(crate) pair: Vec<u8>,
+    // empty where the groups are open
+    pub(crate) group: Vec<u16>,
+}
+
+impl Taps {
+    /// The class of a note and the next one, NonHits between them passed over; none for a NonHit, for the last note,
+    /// and past the chart.
+    pub fn pair(&self, object: usize) -> Option<PairClass> {
+        PairClass::of(*self.pair.get(object)?)
+    }
+
+    /// The rhythm group of an object; none for a NonHit, past the chart, and where the groups are open.
+    pub fn group(&self, object: usize) -> Option<usize> {
+        number_at(&self.group, object)
+    }
+}
+
 /// One rhythm group.
 #[derive(Clone, Copy, Debug, PartialEq)]
 pub struct GroupRecord {

@@ -5,7 +5,8 @@ use std::ops::Range;
 use crate::calls;
 use crate::chart::{Chart, LARGEST_CHART};
 use crate::refusal::Refusal;
-use crate::result::{Encoding, GroupRecord, Rhythm, Stretch};
+use crate::result::{Encoding, GroupRecord, Rhythm, Stretch, Taps};
+use crate::tap_chart::TapChart;
 
 /// The two work slices, and room for the colour values of a stretch. They grow to the largest chart that was asked
 /// about, and are kept for the next call.
@@ -174,6 +175,60 @@ impl Workspace {
         accepted(answer.refusal, answer.place)?;
         out.groups = answer.groups as usize;
         out.pattern_groups = answer.pattern_groups as usize;
+        Ok(())
+    }
+
+    /// What holds for every chart that has these kinds and a delta inside each of these ranges: the class of each note
+    /// and the next one, and the rhythm groups. Those are open where the grouping looks at a pair that is open.
+    ///
+    /// Of two notes it looks at no pair; of more, neither at the first pair, nor at the one right behind a rise that it
+    /// looked at, unless it is the last, at which it always looks.
+    ///
+    /// ```
+    /// use dresserduck::{PairClass, TapChart, Workspace};
+    ///
+    /// // three taps 100 ms apart and one at 200, each within 1 ms
+    /// let (kind, start) = ([0, 0, 0, 1], [100.0, 200.0, 300.0, 500.0]);
+    /// let (lowest, highest) = ([99.0, 99.0, 99.0, 199.0], [101.0, 101.0, 101.0, 201.0]);
+    /// let mut workspace = Workspace::new();
+    /// let taps = workspace.taps(&TapChart::new(&kind, &start, &lowest, &highest, &[1.0; 4]))?;
+    /// let classes = [0, 1, 2, 3].map(|i| taps.pair(i));
+    /// let [near, rise] = [PairClass::Near, PairClass::Rise].map(Some);
+    /// assert_eq!(classes, [near, near, rise, None]);
+    /// assert_eq!(taps.groups, Some(2));
+    /// assert_eq!([0, 1, 2, 3].map(|i| taps.group(i)), [0, 0, 0, 1].map(Some));
+    ///
+    /// // all at 100 ms, but only within 3 ms: two of them may be 6 ms apart
+    /// let (lowest, highest) = ([97.0; 4], [103.0; 4]);
+    /// let taps = workspace.taps(&TapChart::new(&kind, &start, &lowest, &highest, &[1.0; 4]))?;
+    /// assert_eq!(taps.pair(0), Some(PairClass::Open));
+    /// assert_eq!((taps.groups, taps.group(0)), (None, None));
+    /// # Ok::<(), dresserduck::Refusal>(())
+    /// ```
+    pub fn taps(&mut self, chart: &TapChart) -> Result<Taps, Refusal> {
+        let mut taps = Taps::default();
+        self.taps_into(chart, &mut taps)?;
+        Ok(taps)
+    }
+
+    /// The same into taps whose memory is used again. What they hold after a refusal is of no use.
+    pub fn taps_into(&mut self, chart: &TapChart, out: &mut Taps) -> Result<(), Refusal> {
+        self.grow(chart.len());
+        room(&mut out.pair, chart.len());
+        room(&mut out.group, chart.len());
+        let answer = calls::taps(
+            chart,
+            &mut out.pair,
+            &mut out.group,
+            &mut self.work,
+            &mut self.scratch,
+        );
+        accepted(answer.refusal, answer.place)?;
+        out.groups = (answer.open == 0).then_some(answer.groups as usize);
+        if answer.open == 1 {
+            // the call left it as it was
+            out.group.clear();
+        }
         Ok(())
     }
 

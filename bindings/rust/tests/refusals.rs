@@ -3,7 +3,7 @@
 use std::error::Error;
 use std::ops::Range;
 
-use dresserduck::{Chart, Refusal, Workspace, LARGEST_CHART};
+use dresserduck::{Chart, Refusal, TapChart, Workspace, LARGEST_CHART};
 
 struct Lists {
     kind: Vec<u8>,
@@ -27,29 +27,41 @@ impl Lists {
     }
 }
 
-/// What each of the five calls on a chart says.
-fn refusals(chart: &Chart) -> [Option<Refusal>; 5] {
+/// The same chart of ranges that have one delta each.
+fn sure<'a>(chart: &Chart<'a>) -> TapChart<'a> {
+    TapChart::new(
+        chart.kind,
+        chart.start,
+        chart.delta,
+        chart.delta,
+        chart.ratio,
+    )
+}
+
+/// What each of the six calls on a chart says.
+fn refusals(chart: &Chart) -> [Option<Refusal>; 6] {
     let mut workspace = Workspace::new();
     [
         workspace.encode(chart).err(),
         workspace.colour(chart).err(),
         workspace.stretch(chart, 0..chart.len()).err(),
         workspace.rhythm(chart).err(),
+        workspace.taps(&sure(chart)).err(),
         workspace.record(chart, 0, 50.0).err(),
     ]
 }
 
 #[track_caller]
 fn all_refused(lists: &Lists, refusal: Refusal) {
-    assert_eq!(refusals(&lists.chart()), [Some(refusal); 5]);
+    assert_eq!(refusals(&lists.chart()), [Some(refusal); 6]);
 }
 
 #[test]
 fn charts_are_refused_by_every_call() {
     all_refused(&Lists::of(LARGEST_CHART + 1), Refusal::TooManyObjects);
-    assert_eq!(refusals(&Lists::of(LARGEST_CHART).chart()), [None; 5]);
+    assert_eq!(refusals(&Lists::of(LARGEST_CHART).chart()), [None; 6]);
     let mut lists = Lists::of(7);
-    assert_eq!(refusals(&lists.chart()), [None; 5]);
+    assert_eq!(refusals(&lists.chart()), [None; 6]);
     lists.ratio[5] = f64::NAN;
     all_refused(&lists, Refusal::BadRatio { object: 5 });
     lists.delta[5] = f64::INFINITY;
@@ -112,10 +124,12 @@ fn refusals_read_as_sentences_and_have_their_numbers() {
         Refusal::OutsideChart,
         Refusal::BadRate,
         Refusal::NoNote,
+        Refusal::LowestAboveHighest { object: 4 },
     ];
-    for (number, refusal) in (1..).zip(all) {
+    for (number, refusal) in (1..=11).chain([15]).zip(all) {
         assert_eq!(refusal.number(), number);
-        assert_eq!(refusal.object().is_some(), (4..=7).contains(&number));
+        let of_object = (4..=7).contains(&number) || number == 15;
+        assert_eq!(refusal.object().is_some(), of_object);
         let error: Box<dyn Error> = refusal.into();
         let text = error.to_string();
         let begins = text.starts_with("The ") || text.starts_with("Object 4 of the chart, ");
@@ -131,6 +145,7 @@ fn a_chart_without_objects_is_accepted() {
     assert_eq!(workspace.encode(&chart).unwrap().hit_patterns, 0);
     assert_eq!(workspace.colour(&chart), Ok(vec![]));
     assert_eq!(workspace.rhythm(&chart).unwrap().groups, 0);
+    assert_eq!(workspace.taps(&sure(&chart)).unwrap().groups, Some(0));
     assert_eq!(workspace.stretch(&chart, 0..0), Err(Refusal::OutsideChart));
     let record = workspace.record(&chart, 0, 50.0);
     assert_eq!(record, Err(Refusal::OutsideChart));
@@ -147,6 +162,8 @@ fn a_workspace_is_as_good_as_new() {
         assert_eq!(workspace.encode(&chart), fresh.encode(&chart), "{n}");
         assert_eq!(workspace.colour(&chart), fresh.colour(&chart), "{n}");
         assert_eq!(workspace.rhythm(&chart), fresh.rhythm(&chart), "{n}");
+        let of = |workspace: &mut Workspace| workspace.taps(&sure(&chart));
+        assert_eq!(of(&mut workspace), of(&mut fresh), "{n}");
         let of = |workspace: &mut Workspace| workspace.record(&chart, 0, 50.0);
         assert_eq!(of(&mut workspace), of(&mut fresh), "{n}");
     }

@@ -15,6 +15,7 @@ use Rattle.dresserduck.specs.declared.Coloured.{Coloured}
 use Rattle.dresserduck.specs.declared.Stretched.{Stretched}
 use Rattle.dresserduck.specs.declared.Grouped.{Grouped}
 use Rattle.dresserduck.specs.declared.Recorded.{Recorded}
+use Rattle.dresserduck.specs.declared.taps.Tapped.{Tapped}
 
 unfoldable pub built_of : Result ℕ Refusal → Built
 built_of (Ok objects) = record { refusal = 0; place = 0; objects = objects }
@@ -79,6 +80,12 @@ recorded_of (Err first) = record {
   patterngroup = 0;
   patternratiobits = 0;
 }
+
+-- where the groups are known, how many there are; else they are open
+unfoldable pub tapped_of : Result (Option ℕ) Refusal → Tapped
+tapped_of (Ok (Some groups)) = record { refusal = 0; place = 0; «open» = 0; groups = groups }
+tapped_of (Ok None) = record { refusal = 0; place = 0; «open» = 1; groups = 0 }
+tapped_of (Err first) = record { refusal = reason_number first.reason; place = first.place.0; «open» = 0; groups = 0 }
 
 -- a call's outcome, its answer turned into such a record
 unfoldable pub for_host : {Answer Record Memory : Type 0} → (Answer → Record) → Outcome Answer Memory

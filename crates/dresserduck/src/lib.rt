@@ -23,6 +23,8 @@ use grouping_chart::chart::Chart;
 use grouping_chart::refusal::Refusal;
 use numeric::canonical::bits;
 
+pub mod taps;
+
 // dresserduck_built in the header.
 #[repr(C)]
 #[derive(Clone, Copy, Default)]

@@ -1,4 +1,4 @@
-/* All six calls on heap memory of exactly the size that they need, for a tool that watches the heap's bounds.
+/* All seven calls on heap memory of exactly the size that they need, for a tool that watches the heap's bounds.
  * Prints `ok`, or each line that fails. */
 #include "dresserduck.h"
 
@@ -107,7 +107,25 @@ static void group_exactly(const struct chart *c, uint16_t *work, double *scratch
     free(pattern);
 }
 
-/* The five calls on a chart. */
+/* Where the ranges have no width the groups are known; in a chart of some length, where they have, they are open. */
+static void tap_exactly(const struct chart *c, double width, uint16_t *work, double *scratch)
+{
+    double *highest = (double *)block(c->n, sizeof *highest);
+    uint8_t *pair = (uint8_t *)block(c->n, sizeof *pair);
+    uint16_t *group = (uint16_t *)block(c->n, sizeof *group);
+    for (size_t i = 0; i < c->n; i++) {
+        highest[i] = c->delta[i] + width;
+    }
+    dresserduck_tapped got = dresserduck_taps(c->kind, c->n, c->start, c->n, c->delta, c->n, highest, c->n, c->ratio,
+        c->n, pair, c->n, group, c->n, work, 8 * c->n, scratch, c->n);
+    CHECK(got.refusal == DRESSERDUCK_ACCEPTED);
+    CHECK(width > 0.0 ? got.open == 1 || c->n < 31 : got.open == 0);
+    free(highest);
+    free(pair);
+    free(group);
+}
+
+/* The six calls on a chart. */
 static void ask_exactly(const struct chart *c)
 {
     uint16_t *work = (uint16_t *)block(8 * c->n, sizeof *work);
@@ -115,6 +133,8 @@ static void ask_exactly(const struct chart *c)
     encode_exactly(c, work, scratch);
     score_exactly(c, work, scratch);
     group_exactly(c, work, scratch);
+    tap_exactly(c, 0.0, work, scratch);
+    tap_exactly(c, 10.0, work, scratch);
     free(work);
     free(scratch);
 }

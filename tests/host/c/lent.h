@@ -7,8 +7,9 @@
 #define WORK_PLACES (8 * N + 1)
 
 static struct {
-    uint16_t numbers[5][PLACES]; /* encode's, in the order of the call; rhythm fills the first two */
+    uint16_t numbers[5][PLACES]; /* encode's, in the order of the call; rhythm fills the first two, taps the first */
     uint8_t interval[PLACES];
+    uint8_t pair[PLACES];
     uint8_t built_kind[PLACES];
     double built[3][PLACES]; /* starts, deltas and ratios */
     double value[PLACES];

@@ -25,8 +25,9 @@ static void good_chart(void)
 
 /* A chart of n objects that has this many ratios. */
 #define CHART kind, n, start, n, delta, n, ratio, ratios
+#define TAP_CHART kind, n, start, n, delta, n, delta, n, ratio, ratios
 
-/* All five refuse it, with this many places to work in. */
+/* All six refuse it, taps with the delta for the lowest and the highest, with this many places to work in. */
 static void expect(uint64_t refusal, uint64_t place, size_t n, size_t ratios, size_t places)
 {
 #define WORK lent.work, places, lent.scratch, n
@@ -42,6 +43,8 @@ static void expect(uint64_t refusal, uint64_t place, size_t n, size_t ratios, si
     CHECK(grouped.refusal == refusal && grouped.place == place && grouped.groups == 0 && grouped.pattern_groups == 0);
     dresserduck_recorded recorded = dresserduck_record(CHART, 0, 50.0, WORK);
     CHECK(recorded.refusal == refusal && recorded.place == place && recorded.note_count == 0);
+    dresserduck_tapped tapped = dresserduck_taps(TAP_CHART, lent.pair, n, numbers[0], n, WORK);
+    CHECK(tapped.refusal == refusal && tapped.place == place && tapped.open == 0 && tapped.groups == 0);
     CHECK(untouched());
 #undef WORK
 }

@@ -72,6 +72,11 @@ impl Chart {
         self.kind.len()
     }
 
+    /// The objects that are notes.
+    pub fn notes(&self) -> Vec<usize> {
+        (0..self.size()).filter(|&i| self.kind[i] < 2).collect()
+    }
+
     fn is_common(&self, object: usize) -> bool {
         let near = |list: &[f64], common: f64| list.get(object).is_none_or(|&x| x == common);
         near(&self.start, common_start(object))

@@ -4,9 +4,11 @@ pub mod build;
 pub mod chart;
 pub mod check;
 pub mod colour;
+pub mod faults;
 pub mod heard;
 pub mod landmark;
 pub mod lent;
+pub mod order;
 pub mod pairs;
 pub mod plain;
 pub mod plain_build;
@@ -14,10 +16,12 @@ pub mod plain_colour;
 #[path = "../../plain_normalizer.rs"]
 pub mod plain_normalizer;
 pub mod plain_rhythm;
+pub mod plain_taps;
 #[path = "../../plain_tenths.rs"]
 pub mod plain_tenths;
 pub mod rhythm;
 pub mod samples;
+pub mod taps;
 #[path = "../../xorshift.rs"]
 mod xorshift;
 

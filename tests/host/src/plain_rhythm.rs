@@ -4,13 +4,13 @@ use crate::chart::Chart;
 use crate::plain_normalizer::normal;
 use crate::rhythm::Recorded;
 
-const MARGIN: f64 = 5.0;
+pub const MARGIN: f64 = 5.0;
 const THRESHOLD: f64 = 0.1;
 
 /// What a NonHit has for a group.
 pub const NO_GROUP: u16 = 65_535;
 
-fn near(a: f64, b: f64) -> bool {
+pub fn near(a: f64, b: f64) -> bool {
     (a - b).abs() <= MARGIN
 }
 
@@ -106,7 +106,7 @@ pub struct Groups {
 
 impl Groups {
     pub fn of(chart: &Chart) -> Self {
-        let notes: Vec<usize> = (0..chart.size()).filter(|&i| chart.kind[i] < 2).collect();
+        let notes = chart.notes();
         let deltas: Vec<f64> = notes.iter().map(|&i| chart.delta[i]).collect();
         let ends = group_ends(&deltas);
         let objects = parted(&ends, &notes);

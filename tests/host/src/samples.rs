@@ -2,6 +2,8 @@
 
 use crate::build::Raw;
 use crate::chart::Chart;
+use crate::faults::BOUND;
+use crate::taps::TapChart;
 
 pub use crate::xorshift::Xorshift;
 
@@ -159,6 +161,46 @@ pub fn rhythmic_chart(random: &mut Xorshift, n: usize) -> Chart {
     chart.delta = deltas(random, n);
     chart.start = starts(random, &chart.delta);
     chart
+}
+
+/// How much room a range has: none, a few f64s, or some milliseconds, for a few objects of a chart or for most.
+fn room(random: &mut Xorshift, style: usize, low: f64) -> f64 {
+    let steps = random.pick(&[0.0, 1.0, 4.0]) * low.abs() * f64::EPSILON;
+    match style {
+        0 => random.pick(&[0.0, 0.0, 0.25, 1.0]),
+        1 => steps,
+        2 if random.once_in(40) => random.pick(&[5.0, 11.0, 300.0]),
+        3 => random.pick(&[0.0, 2.0, 5.0, 10.0]),
+        _ => 0.0,
+    }
+}
+
+/// The same with ranges: how wide they are tells how often the groups are open. Those of NonHits are anything.
+pub fn tap_chart(random: &mut Xorshift, n: usize) -> TapChart {
+    let low = rhythmic_chart(random, n);
+    let mut chart = TapChart::exact(&low);
+    let style = random.below(5);
+    for object in 0..n {
+        let least = low.delta[object];
+        let room = room(random, style, least);
+        chart.highest[object] = (least + room).min(BOUND);
+        if low.kind[object] == 2 {
+            chart.low.delta[object] = random.pick(&[-BOUND, least]);
+            chart.highest[object] = random.pick(&[BOUND, least]);
+        }
+    }
+    chart
+}
+
+/// A chart as it may be known, with a range about each of its deltas.
+pub fn known_about(random: &mut Xorshift, chart: &Chart) -> TapChart {
+    let mut known = TapChart::exact(chart);
+    let style = random.below(5);
+    for (object, &delta) in chart.delta.iter().enumerate() {
+        known.low.delta[object] = (delta - room(random, style, delta)).max(-BOUND);
+        known.highest[object] = (delta + room(random, style, delta)).min(BOUND);
+    }
+    known
 }
 
 /// Raw objects that are written one after the other, at times about zero.

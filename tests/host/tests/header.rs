@@ -5,7 +5,7 @@ use std::collections::BTreeMap;
 use std::fs;
 use std::path::Path;
 
-use dresserduck::Refusal;
+use dresserduck::{PairClass, Refusal};
 
 /// A call's arguments or a record's fields, in C, by its name. A call's answer stands first.
 type Declared = BTreeMap<String, Vec<String>>;
@@ -135,10 +135,10 @@ fn the_header_declares_what_is_exported() {
     let (exported_records, exported_calls) = in_source(&texts_in("crates/dresserduck/src"));
     assert_eq!(records, exported_records);
     assert_eq!(calls, exported_calls);
-    assert_eq!((records.len(), calls.len()), (6, 6), "{:?}", calls.keys());
+    assert_eq!((records.len(), calls.len()), (7, 7), "{:?}", calls.keys());
     let fields: usize = records.values().map(Vec::len).sum();
     let arguments: usize = calls.values().map(|call| call.len() - 1).sum();
-    assert_eq!((fields, arguments), (27, 97), "fields and arguments");
+    assert_eq!((fields, arguments), (31, 115), "fields and arguments");
 }
 
 /// The names in the header's enums without what all begin with, and their numbers.
@@ -158,11 +158,17 @@ fn numbers(header: &str) -> BTreeMap<String, u64> {
 #[test]
 fn the_headers_numbers_are_those_of_the_rust_crate() {
     let object = 0;
+    let turned = Refusal::LowestAboveHighest { object };
     let want = [
         ("CENTER", dresserduck::CENTER.into()),
         ("RIM", dresserduck::RIM.into()),
         ("NON_HIT", dresserduck::NON_HIT.into()),
         ("NO_GROUP", dresserduck::NO_GROUP.into()),
+        ("NEAR", PairClass::Near.number().into()),
+        ("RISE", PairClass::Rise.number().into()),
+        ("NEITHER", PairClass::Neither.number().into()),
+        ("OPEN", PairClass::Open.number().into()),
+        ("NO_PAIR", dresserduck::NO_PAIR.into()),
         ("LARGEST_CHART", dresserduck::LARGEST_CHART as u64),
         ("LARGEST_RAW_CHART", dresserduck::LARGEST_RAW_CHART as u64),
         ("ACCEPTED", 0),
@@ -178,6 +184,7 @@ fn the_headers_numbers_are_those_of_the_rust_crate() {
         ("BAD_GROUP", Refusal::OutsideChart.number()),
         ("BAD_RATE", Refusal::BadRate.number()),
         ("NO_NOTE", Refusal::NoNote.number()),
+        ("LOWEST_ABOVE_HIGHEST", turned.number()),
     ];
     let want = want.map(|(name, number)| (name.to_string(), number));
     assert_eq!(numbers(&texts_in("include")), BTreeMap::from(want));

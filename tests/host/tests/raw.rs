@@ -4,12 +4,12 @@ use std::ptr::{dangling, dangling_mut};
 
 use dresserduck::calls;
 
-/// Where a call's slices begin. The chart's three lists of floats are one, as what is only read may be shared.
+/// Where a call's slices begin. The chart's lists of floats are one, as what is only read may be shared.
 struct Places {
     kind: *const u8,
     floats: *const f64,
     numbers: [*mut u16; 5],
-    interval: *mut u8,
+    bytes: [*mut u8; 2],
     value: *mut f64,
     work: *mut u16,
     scratch: *mut f64,
@@ -22,7 +22,7 @@ impl Places {
             kind: dangling(),
             floats: dangling(),
             numbers: [dangling_mut(); 5],
-            interval: dangling_mut(),
+            bytes: [dangling_mut(); 2],
             value: dangling_mut(),
             work: dangling_mut(),
             scratch: dangling_mut(),
@@ -30,39 +30,45 @@ impl Places {
     }
 }
 
-/// Refusal and place of a call, by where its slices are and their counts.
+/// Refusal and place of a call, by where its slices are and their counts: of the kinds, and of each list of floats.
 macro_rules! asked {
-    ($export:ident($at:expr, $inputs:expr $(, $argument:expr)*) => $(($slice:expr, $count:expr)),*) => {{
-        let [kind, start, delta, ratio] = $inputs;
+    (
+        $export:ident($at:expr, $kind:expr, [$($list:expr),*] $(, $argument:expr)*)
+        => $(($slice:expr, $count:expr)),*
+    ) => {{
         let (at, x) = ($at, $at.floats);
         // SAFETY: a call touches no place that it does not need, and none at all when it is refused for its counts: the memory
         // is there for what it needs, or it is refused. One that did would be stopped by the processor or found out.
         let answer = unsafe {
-            calls::$export(at.kind, kind, x, start, x, delta, x, ratio, $($argument,)* $($slice, $count),*)
+            calls::$export(at.kind, $kind, $(x, $list,)* $($argument,)* $($slice, $count),*)
         };
         (answer.refusal, answer.place)
     }};
 }
 
-/// All five, with these counts of the chart's slices and of answer, work and scratch slices.
-fn all_five(at: &Places, inputs: [usize; 4], [n, work, scratch]: [usize; 3]) -> [(u64, u64); 5] {
+/// All six, with these counts of the chart's slices and of answer, work and scratch slices. For taps the count of the
+/// deltas is that of the lowest and that of the highest.
+fn all_six(at: &Places, inputs: [usize; 4], [n, work, scratch]: [usize; 3]) -> [(u64, u64); 6] {
+    let [kind, start, delta, ratio] = inputs;
     let [a, b, c, d, e] = at.numbers;
-    let (i, v, w, s) = (at.interval, at.value, at.work, at.scratch);
+    let ([i, p], v, w, s) = (at.bytes, at.value, at.work, at.scratch);
     [
-        asked!(dresserduck_encode(at, inputs) =>
+        asked!(dresserduck_encode(at, kind, [start, delta, ratio]) =>
             (a, n), (b, n), (c, n), (d, n), (e, n), (i, n), (w, work), (s, scratch)),
-        asked!(dresserduck_colour(at, inputs) => (v, n), (w, work), (s, scratch)),
-        asked!(dresserduck_stretch(at, inputs, 0, 1) => (v, n), (w, work), (s, scratch)),
-        asked!(dresserduck_rhythm(at, inputs) => (a, n), (b, n), (w, work), (s, scratch)),
-        asked!(dresserduck_record(at, inputs, 0, 50.0) => (w, work), (s, scratch)),
+        asked!(dresserduck_colour(at, kind, [start, delta, ratio]) => (v, n), (w, work), (s, scratch)),
+        asked!(dresserduck_stretch(at, kind, [start, delta, ratio], 0, 1) => (v, n), (w, work), (s, scratch)),
+        asked!(dresserduck_rhythm(at, kind, [start, delta, ratio]) => (a, n), (b, n), (w, work), (s, scratch)),
+        asked!(dresserduck_taps(at, kind, [start, delta, delta, ratio]) => (p, n), (a, n), (w, work), (s, scratch)),
+        asked!(dresserduck_record(at, kind, [start, delta, ratio], 0, 50.0) => (w, work), (s, scratch)),
     ]
 }
 
 #[test]
 fn a_chart_without_objects_needs_no_memory() {
-    let answers = all_five(&Places::nowhere(), [0; 4], [0; 3]);
+    let answers = all_six(&Places::nowhere(), [0; 4], [0; 3]);
     // no stretch and no group is in such a chart
-    assert_eq!(answers, [(0, 0), (0, 0), (9, 0), (0, 0), (9, 0)]);
+    let [done, none] = [(0, 0), (9, 0)];
+    assert_eq!(answers, [done, done, none, done, done, none]);
 }
 
 /// Among them some that are 3 or 0 to arithmetic of 16 or 32 bits.
@@ -72,13 +78,13 @@ const TOO_MANY: [usize; 6] = [16_385, 65_539, (1 << 32) + 3, 1 << 32, 1 << 63, u
 fn counts_beyond_memory_are_refused_by_themselves() {
     let nowhere = Places::nowhere();
     for count in TOO_MANY {
-        let refused = all_five(&nowhere, [count; 4], [count; 3]);
-        assert_eq!(refused, [(1, 0); 5], "{count} objects");
+        let refused = all_six(&nowhere, [count; 4], [count; 3]);
+        assert_eq!(refused, [(1, 0); 6], "{count} objects");
         for input in 1..4 {
             let mut inputs = [3; 4];
             inputs[input] = count;
-            let refused = all_five(&nowhere, inputs, [3, 24, 3]);
-            assert_eq!(refused, [(2, 0); 5], "{inputs:?}");
+            let refused = all_six(&nowhere, inputs, [3, 24, 3]);
+            assert_eq!(refused, [(2, 0); 6], "{inputs:?}");
         }
     }
 }
@@ -86,8 +92,8 @@ fn counts_beyond_memory_are_refused_by_themselves() {
 #[test]
 fn work_slices_too_short_are_refused_by_their_counts() {
     for lent in [[3, 23, 3], [3, 24, 2], [3, 0, 3], [3, 24, 0]] {
-        let refused = all_five(&Places::nowhere(), [3; 4], lent);
-        assert_eq!(refused, [(3, 0); 5], "{lent:?}");
+        let refused = all_six(&Places::nowhere(), [3; 4], lent);
+        assert_eq!(refused, [(3, 0); 6], "{lent:?}");
     }
 }
 
@@ -97,7 +103,7 @@ struct Memory {
     ones: [f64; 3],
     numbers: [[u16; 4]; 5],
     work: [u16; 25],
-    interval: [u8; 4],
+    bytes: [[u8; 4]; 2],
     floats: [[f64; 4]; 2],
 }
 
@@ -108,7 +114,7 @@ impl Memory {
             ones: [1.0; 3],
             numbers: [[99; 4]; 5],
             work: [99; 25],
-            interval: [99; 4],
+            bytes: [[99; 4]; 2],
             floats: [[99.0; 4]; 2],
         }
     }
@@ -119,7 +125,7 @@ impl Memory {
             kind: self.kind.as_ptr(),
             floats: self.ones.as_ptr(),
             numbers: self.numbers.each_mut().map(|slice| slice.as_mut_ptr()),
-            interval: self.interval.as_mut_ptr(),
+            bytes: self.bytes.each_mut().map(|slice| slice.as_mut_ptr()),
             value: value.as_mut_ptr(),
             work: self.work.as_mut_ptr(),
             scratch: scratch.as_mut_ptr(),
@@ -137,13 +143,13 @@ fn lent_counts_may_be_larger_than_32_bits() {
         [usize::MAX; 3],
     ] {
         let mut memory = Memory::new();
-        let answers = all_five(&memory.places(), [3; 4], lent);
-        assert_eq!(answers, [(0, 0); 5], "{lent:?}");
+        let answers = all_six(&memory.places(), [3; 4], lent);
+        assert_eq!(answers, [(0, 0); 6], "{lent:?}");
         let past = memory.numbers.map(|slice| slice[3]);
         assert_eq!((past, memory.work[24]), ([99; 5], 99), "{lent:?}");
         assert_eq!(
-            (memory.interval, memory.work[..24] == [0; 24]),
-            ([17, 17, 17, 99], true)
+            (memory.bytes, memory.work[..24] == [0; 24]),
+            ([[17, 17, 17, 99], [0, 0, 255, 99]], true)
         );
         let [value, scratch] = memory.floats;
         assert_eq!((value[3], scratch), (99.0, [0.0, 0.0, 0.0, 99.0]));
@@ -153,9 +159,10 @@ fn lent_counts_may_be_larger_than_32_bits() {
 #[test]
 fn answer_slices_too_short_are_refused() {
     let mut memory = Memory::new();
-    let answers = all_five(&memory.places(), [3; 4], [2, 24, 3]);
+    let answers = all_six(&memory.places(), [3; 4], [2, 24, 3]);
     // record has none
-    assert_eq!(answers, [(3, 0), (3, 0), (3, 0), (3, 0), (0, 0)]);
+    let (short, done) = ((3, 0), (0, 0));
+    assert_eq!(answers, [short, short, short, short, short, done]);
     assert_eq!(memory.numbers, [[99; 4]; 5]);
-    assert_eq!((memory.interval, memory.floats[0]), ([99; 4], [99.0; 4]));
+    assert_eq!((memory.bytes, memory.floats[0]), ([[99; 4]; 2], [99.0; 4]));
 }

@@ -2,9 +2,8 @@
 
 use crate::{builds, exact, good};
 use host_tests::build::{refused, Raw};
+use host_tests::order::{each_alone, every_pair, first_of_many, of_two_objects, Input};
 use host_tests::LARGEST_RAW_CHART;
-
-const ORDER: [u64; 7] = [1, 2, 3, 10, 4, 5, 6];
 
 /// Refusals of an object of the chart.
 const OF_OBJECTS: [u64; 3] = [4, 5, 6];
@@ -12,21 +11,21 @@ const OF_OBJECTS: [u64; 3] = [4, 5, 6];
 /// The object that is spoiled, not 0, so that a wrong place shows.
 const OBJECT: usize = 3;
 
-/// An input that refusals are made to apply to.
-struct Input {
+/// Raw objects, and how much the call is lent.
+struct Build {
     raw: Raw,
     sizes: [usize; 4],
 }
 
-impl Input {
-    /// Nothing wrong, or too many objects.
+impl Input for Build {
+    const ORDER: &'static [u64] = &[1, 2, 3, 10, 4, 5, 6];
+
     fn new(too_many: bool) -> Self {
         let raw = good(if too_many { LARGEST_RAW_CHART + 1 } else { 11 });
         let sizes = exact(&raw);
-        Input { raw, sizes }
+        Build { raw, sizes }
     }
 
-    /// In how many ways `spoil` makes the refusal apply.
     fn ways(refusal: u64) -> usize {
         match refusal {
             1 => 1,
@@ -74,59 +73,29 @@ fn spoil_object(raw: &mut Raw, object: usize, refusal: u64, way: usize) {
     }
 }
 
-/// What `spoil` does is enough for the refusal by itself; without it the input is accepted.
 #[test]
 fn each_refusal_alone() {
-    builds(&Input::new(false).raw);
-    for refusal in ORDER {
-        for way in 0..Input::ways(refusal) {
-            let mut input = Input::new(refusal == 1);
-            input.spoil(refusal, way);
-            input.refused(refusal);
-        }
-    }
+    builds(&Build::new(false).raw);
+    each_alone::<Build>();
 }
 
 #[test]
 fn every_pair_in_order() {
-    let mut pairs = 0;
-    for (at, &first) in ORDER.iter().enumerate() {
-        for &second in &ORDER[at + 1..] {
-            for way in 0..Input::ways(first) * Input::ways(second) {
-                let mut input = Input::new(first == 1);
-                input.spoil(second, way / Input::ways(first));
-                input.spoil(first, way % Input::ways(first));
-                input.refused(first);
-            }
-            pairs += 1;
-        }
-    }
-    assert_eq!(pairs, 21, "pairs of seven");
+    assert_eq!(every_pair::<Build>(), 21, "pairs of seven");
 }
 
-/// All refusals from one on apply.
 #[test]
 fn the_first_of_many() {
-    for (at, &first) in ORDER.iter().enumerate() {
-        let mut input = Input::new(first == 1);
-        let later = ORDER[at..].iter().rev();
-        later.for_each(|&refusal| input.spoil(refusal, 0));
-        input.refused(first);
-    }
+    first_of_many::<Build>();
 }
 
 /// Faults in two objects: the earlier object's is named, whatever its number.
 #[test]
 fn the_earlier_object_wins() {
-    let n = 9;
-    for first in OF_OBJECTS {
-        for second in OF_OBJECTS {
-            for (early, late) in [(0, 1), (0, n - 1), (3, 5), (n - 2, n - 1)] {
-                let mut raw = good(n + 2);
-                spoil_object(&mut raw, late, second, 0);
-                spoil_object(&mut raw, early, first, 0);
-                refused(&raw, exact(&raw), first, early);
-            }
-        }
+    for [(first, early), (second, late)] in of_two_objects(&OF_OBJECTS) {
+        let mut raw = good(11);
+        spoil_object(&mut raw, late, second, 0);
+        spoil_object(&mut raw, early, first, 0);
+        refused(&raw, exact(&raw), first, early);
     }
 }

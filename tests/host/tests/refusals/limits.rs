@@ -1,8 +1,8 @@
 //! Refusals 4 to 7: every field on both sides of each limit, in objects first, inside and last.
 
-use crate::faults::{bad_values, good_values, Value};
 use host_tests::chart::Chart;
 use host_tests::check::{accepted, refused};
+use host_tests::faults::{bad_values, good_values, Value};
 use host_tests::lent::exact_sizes;
 use host_tests::LARGEST_CHART;
 

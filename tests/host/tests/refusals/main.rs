@@ -1,6 +1,5 @@
 //! Refusals 1 to 7: each at its boundaries, with its place, in their order. After each, all lent memory is as it was.
 
-mod faults;
 mod host;
 mod limits;
 mod order;

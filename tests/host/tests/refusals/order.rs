@@ -1,31 +1,32 @@
 //! Which refusal goes first: of the whole chart 1 to 3, and then the first object that has one of 4 to 7.
 
-use crate::faults::some_bad;
 use host_tests::chart::Chart;
 use host_tests::check::{accepted, refused};
+use host_tests::faults::some_bad;
 use host_tests::lent::{exact_sizes, Sizes};
+use host_tests::order::{each_alone, every_pair, first_of_many, of_two_objects, Input};
 use host_tests::LARGEST_CHART;
 
 /// The object that is spoiled, not 0, so that a wrong place shows.
 const OBJECT: usize = 3;
 
-/// An input that refusals are made to apply to.
-struct Input {
+/// A chart for encode, and how much it is lent.
+struct Encode {
     chart: Chart,
     sizes: Sizes,
 }
 
-impl Input {
-    /// Nothing wrong, or too many objects.
+impl Input for Encode {
+    const ORDER: &'static [u64] = &[1, 2, 3, 4, 5, 6, 7];
+
     fn new(too_many: bool) -> Self {
         let n = if too_many { LARGEST_CHART + 1 } else { 9 };
-        Input {
+        Encode {
             chart: Chart::of_size(n),
             sizes: exact_sizes(n),
         }
     }
 
-    /// In how many ways `spoil` makes the refusal apply.
     fn ways(refusal: u64) -> usize {
         match refusal {
             1 => 1,
@@ -62,67 +63,31 @@ impl Input {
     }
 }
 
-/// What `spoil` does is enough for the refusal by itself; without it the input is accepted.
 #[test]
 fn each_refusal_alone() {
-    accepted(&Input::new(false).chart);
-    for refusal in 1..=7 {
-        for way in 0..Input::ways(refusal) {
-            let mut input = Input::new(refusal == 1);
-            input.spoil(refusal, way);
-            input.refused(refusal);
-        }
-    }
+    accepted(&Encode::new(false).chart);
+    each_alone::<Encode>();
 }
 
 /// Every pair can apply together, as the object refusals read different fields of one object.
 #[test]
 fn every_pair_in_order() {
-    let mut pairs = 0;
-    for first in 1..=7 {
-        for second in first + 1..=7 {
-            for (way, other) in ways_of_pair(first, second) {
-                let mut input = Input::new(first == 1);
-                input.spoil(first, way);
-                input.spoil(second, other);
-                input.refused(first);
-            }
-            pairs += 1;
-        }
-    }
-    assert_eq!(pairs, 21, "pairs of seven");
+    assert_eq!(every_pair::<Encode>(), 21, "pairs of seven");
 }
 
-fn ways_of_pair(first: u64, second: u64) -> Vec<(usize, usize)> {
-    let others = 0..Input::ways(second);
-    let pairs =
-        (0..Input::ways(first)).flat_map(|way| others.clone().map(move |other| (way, other)));
-    pairs.collect()
-}
-
-/// All refusals from one on apply.
 #[test]
 fn the_first_of_many() {
-    for first in 1..=7 {
-        let mut input = Input::new(first == 1);
-        (first..=7).for_each(|refusal| input.spoil(refusal, 0));
-        input.refused(first);
-    }
+    first_of_many::<Encode>();
 }
 
 /// Faults in two objects: the earlier object's is named, whatever its number.
 #[test]
 fn the_earlier_object_wins() {
-    let n = 9;
-    for first in 4..=7 {
-        for second in 4..=7 {
-            for (early, late) in [(0, 1), (0, n - 1), (3, 5), (n - 2, n - 1)] {
-                let mut chart = Chart::of_size(n);
-                some_bad(second)[1].put(&mut chart, late);
-                some_bad(first)[0].put(&mut chart, early);
-                refused(&chart, exact_sizes(n), first, early);
-            }
-        }
+    for [(first, early), (second, late)] in of_two_objects(&[4, 5, 6, 7]) {
+        let mut chart = Chart::of_size(9);
+        some_bad(second)[1].put(&mut chart, late);
+        some_bad(first)[0].put(&mut chart, early);
+        refused(&chart, exact_sizes(9), first, early);
     }
 }
 

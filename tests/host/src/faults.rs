@@ -1,14 +1,14 @@
 //! Values that an object is refused for, and values just inside.
 
-use host_tests::chart::Chart;
+use crate::chart::Chart;
 
 /// 2^24, the bound of starts, deltas and ratios.
-const BOUND: f64 = 16_777_216.0;
+pub const BOUND: f64 = 16_777_216.0;
 /// 2^-24.
 const LEAST_RATIO: f64 = 1.0 / BOUND;
-/// The smallest subnormal.
-const TINY: f64 = f64::from_bits(1);
-const LARGEST_SUBNORMAL: f64 = f64::from_bits(0x000F_FFFF_FFFF_FFFF);
+/// The smallest subnormal, and the largest.
+pub const TINY: f64 = f64::from_bits(1);
+pub const LARGEST_SUBNORMAL: f64 = f64::from_bits(0x000F_FFFF_FFFF_FFFF);
 
 /// Quiet, signalling, negative of both, and the largest payload.
 const NANS: [u64; 6] = [
@@ -62,7 +62,8 @@ fn nans() -> Vec<f64> {
     all.to_vec()
 }
 
-fn good_times() -> Vec<f64> {
+/// Starts and deltas that are within their limits.
+pub fn good_times() -> Vec<f64> {
     signed(&[
         BOUND,
         BOUND.next_down(),
@@ -74,7 +75,8 @@ fn good_times() -> Vec<f64> {
     ])
 }
 
-fn bad_times() -> Vec<f64> {
+/// Starts and deltas that are refused.
+pub fn bad_times() -> Vec<f64> {
     let outside = signed(&[BOUND.next_up(), BOUND + 1.0, f64::MAX, f64::INFINITY]);
     [outside, nans()].concat()
 }
