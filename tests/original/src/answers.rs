@@ -2,8 +2,8 @@
 
 use host_tests::chart::Chart;
 use host_tests::lent::{exact_sizes, Lent};
-use host_tests::samples::Xorshift;
-use host_tests::{colour, encode, plain_colour, plain_tenths, rhythm, Encoded};
+use host_tests::samples::{known_about, Xorshift};
+use host_tests::{colour, encode, plain_colour, plain_tenths, rhythm, taps, Encoded};
 
 use crate::original::Original;
 
@@ -57,11 +57,16 @@ fn compare_stretch(chart: &Chart, values: &[f64], a: usize, b: usize) -> bool {
     got.0 == 0
 }
 
+/// Each object's group, and its pattern group.
+fn numbers(original: &Original) -> [Vec<u16>; 2] {
+    let column = |k: usize| original.rhythm.rows.iter().map(move |row| row[k] as u16);
+    [0, 1].map(|k| column(k).collect())
+}
+
 #[track_caller]
 fn compare_rhythm(chart: &Chart, original: &Original, spare: usize) {
     let n = chart.size();
-    let column = |k: usize| original.rhythm.rows.iter().map(move |row| row[k] as u16);
-    let [group, pattern] = [0, 1].map(|k| column(k).collect::<Vec<u16>>());
+    let [group, pattern] = numbers(original);
     let lent = rhythm::Memory::of_sizes([n + spare, n + spare, 8 * n + spare, n + spare]);
     let mut memory = lent.clone();
     let want = rhythm::Grouped {
@@ -76,6 +81,24 @@ fn compare_rhythm(chart: &Chart, original: &Original, spare: usize) {
     assert_eq!(memory.bits(), filled.bits(), "rhythm of {chart}");
 }
 
+/// The call is told ranges about the deltas, and answers as the plain version does: where it gives groups, they are the original's.
+/// The result is whether it does.
+#[track_caller]
+fn compare_taps(chart: &Chart, original: &Original, random: &mut Xorshift) -> bool {
+    let known = known_about(random, chart);
+    let Some(groups) = taps::accepted(&known).groups else {
+        return false;
+    };
+    let [group, _] = numbers(original);
+    assert_eq!(groups.of_object, group, "taps of {known}, {chart}");
+    assert_eq!(
+        groups.count,
+        original.rhythm.groups.len() as u64,
+        "taps of {known}, {chart}"
+    );
+    true
+}
+
 #[track_caller]
 fn compare_record(chart: &Chart, original: &Original, group: usize, window: f64) {
     let n = chart.size();
@@ -88,10 +111,12 @@ fn compare_record(chart: &Chart, original: &Original, group: usize, window: f64)
     assert_eq!(memory.bits(), cleared.bits(), "record {group} of {chart}");
 }
 
-/// How many objects all calls together were asked about, and how many stretches had no note.
+/// How many objects all calls together were asked about, how many stretches had no note, and how many charts of ranges had their groups
+/// given.
 pub struct Asked {
     pub objects: usize,
     pub noteless: usize,
+    pub grouped: usize,
 }
 
 /// A difference panics.
@@ -100,7 +125,8 @@ pub fn compare(chart: &Chart, original: &Original, random: &mut Xorshift) -> Ask
     compare_encode(chart, original, spare);
     let values = compare_colour(chart, original, spare);
     compare_rhythm(chart, original, spare);
-    let (mut calls, mut noteless) = (3, 0);
+    let grouped = usize::from(compare_taps(chart, original, random));
+    let (mut calls, mut noteless) = (4, 0);
     if n > 0 {
         let a = random.below(n);
         let b = a + 1 + random.below(n - a);
@@ -121,5 +147,6 @@ pub fn compare(chart: &Chart, original: &Original, random: &mut Xorshift) -> Ask
     Asked {
         objects: calls * n,
         noteless,
+        grouped,
     }
 }

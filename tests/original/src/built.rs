@@ -17,6 +17,7 @@ pub fn compare_built(raw: &Raw, random: &mut Xorshift) -> Asked {
         return Asked {
             objects: n,
             noteless: 0,
+            grouped: 0,
         };
     }
     let original = Original::built(raw);

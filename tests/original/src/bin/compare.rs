@@ -46,17 +46,18 @@ fn argument(place: usize, name: &str) -> u64 {
 fn main() {
     let (seed, wanted) = (argument(1, "SEED"), argument(2, "OBJECTS"));
     let mut random = Xorshift::new(seed);
-    let (mut charts, mut built, mut objects, mut noteless) = (0, 0, 0, 0);
+    let (mut charts, mut built, mut objects, mut noteless, mut grouped) = (0, 0, 0, 0, 0);
     while objects < wanted {
         let raw = random.once_in(3);
         let asked = asked(&mut random, raw);
         objects += asked.objects as u64;
         noteless += asked.noteless;
+        grouped += asked.grouped;
         charts += 1;
         built += u64::from(raw);
     }
     println!(
         "seed {seed}: {charts} charts, {built} of them built of raw objects, {objects} objects over all calls, {noteless} \
-         stretches without a note, no difference"
+         stretches without a note, {grouped} charts of ranges with groups, no difference"
     );
 }
