@@ -13,7 +13,7 @@ import random
 import re
 import sys
 
-from library import GUIDE, ROOT, Chart, build, colour, encode, open_library, record, rhythm, starts, stretch
+from library import GUIDE, ROOT, Chart, build, colour, encode, open_library, record, rhythm, starts, stretch, taps
 
 # the searches go through every chart of up to ALL objects, and through RANDOM longer ones of up to LONG
 ALL, RANDOM, LONG, SEED = 9, 3000, 60, 1
@@ -203,6 +203,22 @@ def other_penalty(library):
     return penalties(library)[1]
 
 
+def known_within(library):
+    """To within how many whole milliseconds the deltas of the guide's chart may be known at most for its groups to be given, and one more."""
+    within = next(within for within in itertools.count() if taps(library, GUIDE, within + 1).open)
+    whole = rhythm(library, GUIDE)
+    for known in range(within + 1):
+        tapped = taps(library, GUIDE, known)
+        demand((tapped.group, tapped.groups) == (whole.group, whole.groups), f"known to within {known} ms the guide's chart has other groups")
+    return [within, within + 1]
+
+
+def ends_apart(library):
+    """The two ends of a delta of 150 ms that is known to within as many milliseconds as leave the groups open."""
+    within = known_within(library)[1]
+    return [150 + within, 150 - within]
+
+
 # the file, the phrase, and what gives its figures
 FIGURES = [
     ("docs/GUIDE.md", "every such chart of {} to {} notes", lowest_alternate),
@@ -227,6 +243,8 @@ FIGURES = [
     ("docs/GUIDE.md", "give {} pattern groups", pattern_groups),
     ("docs/GUIDE.md", "{:g} for the first {} groups", first_penalty),
     ("docs/GUIDE.md", "{:g} for the other {}", other_penalty),
+    ("docs/GUIDE.md", "known to within {} ms either way, and the groups are those above; to within {} ms, and they are open", known_within),
+    ("docs/GUIDE.md", "{} and {} are not near", ends_apart),
     ("README.md", "at most {:.2f} from the third object on", from_third),
     ("README.md", "up to {:.2f} at the first two", first_two),
     ("include/dresserduck.h", "a value is at most about {:.2f} from the third object on", from_third),

@@ -19,6 +19,7 @@ Chart = collections.namedtuple("Chart", "letters deltas ratios")
 Built = collections.namedtuple("Built", "letters starts deltas ratios")
 Encoding = collections.namedtuple("Encoding", "streak streak_place pattern pattern_place hit interval")
 Rhythm = collections.namedtuple("Rhythm", "group pattern groups pattern_groups")
+Taps = collections.namedtuple("Taps", "pair group groups open")
 
 
 def timed(letters, deltas):
@@ -52,6 +53,7 @@ ANSWERS = {
     "rhythm": answer("Grouped", "groups", "pattern_groups"),
     "record": answer("Recorded", "first_note", "note_count", "has_own", "own_bits", "ratio_bits", "interval_bits",
                      "penalty_bits", "pattern_group", "pattern_ratio_bits"),
+    "taps": answer("Tapped", "open", "groups"),
 }
 
 
@@ -88,11 +90,14 @@ def asked(library, name, letters, *slices):
     return returned
 
 
-def call(library, name, chart, *behind):
-    """Calls dresserduck_`name` with the chart, what stands behind it, and the slices to work in."""
+def call(library, name, chart, *behind, deltas=None):
+    """Calls dresserduck_`name` with the chart, what stands behind it, and the slices to work in.
+
+    The chart's deltas are one list, or those that are given.
+    """
     n = len(chart.letters)
     slices = kinds(chart.letters)
-    for numbers in (starts(chart), chart.deltas, chart.ratios):
+    for numbers in (starts(chart), *(deltas or [chart.deltas]), chart.ratios):
         slices += lent(ctypes.c_double, numbers)
     work = lent(ctypes.c_uint16, [0] * (8 * n)) + lent(ctypes.c_double, [0.0] * n)
     return asked(library, name, chart.letters, *slices, *behind, *work)
@@ -135,6 +140,14 @@ def rhythm(library, chart):
     filled = [lent(ctypes.c_uint16, [0] * len(chart.letters)) for _ in range(2)]
     returned = call(library, "rhythm", chart, *sum(filled, []))
     return Rhythm(*[list(numbers) for numbers, _ in filled], returned.groups, returned.pattern_groups)
+
+
+def taps(library, chart, within):
+    """The two numbers of each object where its delta is known to within so many milliseconds either way, and the groups' number or that they are open."""
+    filled = lent(ctypes.c_uint8, [0] * len(chart.letters)) + lent(ctypes.c_uint16, [0] * len(chart.letters))
+    ends = [[delta + side * within for delta in chart.deltas] for side in (-1, 1)]
+    returned = call(library, "taps", chart, *filled, deltas=ends)
+    return Taps(list(filled[0]), list(filled[2]), returned.groups, returned.open == 1)
 
 
 def record(library, chart, group, window):
