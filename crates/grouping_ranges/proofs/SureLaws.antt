@@ -32,6 +32,13 @@ use Rattle.grouping_ranges.specs.Choices.{GoodRange, Inside, All, Sure}
 abbrev first : Bool → Bool → Bool → ℕ
 first a b c = cond a 0 (cond b 1 (cond c 2 3))
 
+-- by the two bits of its number
+pub first_of_bits : (a b c : Bool) → cond (not a && not b) (cond (not a && (b || not c)) 3 2) (cond (not a && (b || not c)) 1 0) ≡ first a b c
+first_of_bits true b c = refl
+first_of_bits false true c = refl
+first_of_bits false false true = refl
+first_of_bits false false false = refl
+
 first_holds : (a b c : Bool) (k : ℕ) → k < 3 → first a b c ≡ k → T (one_of a b c k)
 first_holds true b c k h e = rw (← e) tt
 first_holds false true c k h e = rw (← e) tt

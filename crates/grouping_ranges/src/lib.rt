@@ -26,7 +26,6 @@ fn class_of_bits(high: bool, low: bool) -> u8
 
 // The class that every choice of two deltas inside the ranges has, or OPEN. It is put together of bits, since a choice
 // among the four was compiled into a jump by whether the two are near.
-#[tactic(auto, unfolding(crate::specs::SureClass::sure_class))]
 pub fn sure_class(a: Range, b: Range, margin: f64) -> u8
     ensures { result ≡ sure_class margin a b }
 {
