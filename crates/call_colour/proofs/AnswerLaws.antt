@@ -15,14 +15,14 @@ use Rattle.call_colour.specs.Stretch.{GoodStretch, chart_mean, chart_tenths}
 use Rattle.call_colour.specs.Call.{Memory, judged, filled, stretch_mean, colour_outcome, stretch_outcome}
 use Rattle.call_colour.proofs.CallLaws.{colour-done, stretch-done}
 
-module _ (s : Settings) (c : Chart) (lent : Memory) (good : judged c lent ≡ accepted) where
+module _ (s : Settings) (c : Chart) (lent : Memory) (good : judged s c lent ≡ accepted) where
   pub value-written : (i : ℕ) → i < size c → get_or (colour_outcome s c lent).memory.value i nan ≡ get_or (values_of s c) i nan
   unfolding filled
   value-written i h =
-      rw (← colour-done s c lent refl good refl)
+      rw (← colour-done s c lent good refl)
       (get_or-over (values_of s c) lent.value i nan (omega (arith, length-values s.limit s.tolerance c.kinds c.ratios)))
 
   pub stretch-answered : (a b : ℕ) → GoodStretch c.kinds a b
       → (stretch_outcome s c a b lent).answer ≡ Ok (stretch_mean (chart_mean s c a b) (chart_tenths s c a b))
   stretch-answered a b x =
-      rw (← stretch-done s c lent refl good refl a b x refl refl)
+      rw (← stretch-done s c lent good refl a b x refl refl)

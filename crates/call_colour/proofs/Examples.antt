@@ -19,7 +19,7 @@ use Rattle.grouping_chart.specs.Object.{is_note, notes, note_idx, note_before, p
 use Rattle.grouping_chart.specs.Chart.{Chart, equally_long}
 use Rattle.grouping_chart.specs.Outcome.{Outcome, refused_then, answered}
 use Rattle.grouping_chart.specs.Room.{any_short, short_refusal}
-use Rattle.grouping_chart.specs.Settings.{base_settings}
+use Rattle.grouping_chart.specs.Settings.{base_settings, settings_good, settings_refusal}
 use Rattle.grouping_chart.specs.Refusal.{at_0, time_good, ratio_good, delta_refusal, object_order, first_refused, verdict}
 use Rattle.grouping_hits.specs.RepeatingHitPatterns.{coupled_run, hit_size, hit_marks_after, hit_marks, second_at, second_lengths}
 use Rattle.grouping_hits.specs.RepeatingHitPatterns.{matches, nearest_match, interval_at, intervals}
@@ -158,7 +158,7 @@ pub examples_right : (map coloured examples ≡ map (λ (e : Example). e.outcome
     × (map stretched stretches ≡ map (λ (e : StretchExample). e.outcome) stretches)
 unfolding examples stretches coloured stretched chart lent shown answered colour_outcome stretch_outcome refused_then stretch_refusal has_note chart_tenths
     tenths_of
-    chart_mean average_of stretch_values of_notes sum_from part of_int any_short short_refusal verdict equally_long first_refused object_order
+    chart_mean average_of stretch_values of_notes sum_from part of_int any_short short_refusal settings_refusal settings_good verdict equally_long first_refused object_order
     delta_refusal time_good ratio_good within
     filled colour_values colour_at standing_at is_first over tabulate scan end_state gathered opened group_count group_numbers place_by_mark group_places
     sizes_from

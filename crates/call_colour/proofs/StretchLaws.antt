@@ -10,7 +10,7 @@ use Rattle.lent.specs.Over.{over}
 use Rattle.lent.proofs.PieceLaws.{get_or-over}
 use Rattle.lent.proofs.OverLaws.{length-over, part-alike}
 use Rattle.grouping_chart.specs.Chart.{Chart, size}
-use Rattle.grouping_chart.specs.Settings.{Settings, Permitted}
+use Rattle.grouping_chart.specs.Settings.{Settings}
 use Rattle.grouping_chart.specs.Refusal.{accepted}
 use Rattle.grouping_interval.specs.Notes.{of_notes}
 use Rattle.evaluator_values.specs.Colour.{values_of}
@@ -25,8 +25,7 @@ use Rattle.call_colour.proofs.BoundLaws.{mean-tenths}
 
 -- ---- an accepted stretch, after the values are filled
 pub record Stretched (s : Settings) (c : Chart) (m : Memory) (a b : ℕ) (new : Memory) : Type 0 where
-  pub permitted : Permitted s
-  pub taken : judged c m ≡ accepted
+  pub taken : judged s c m ≡ accepted
   pub good : GoodStretch c.kinds a b
   pub made : new ≡ filled s c.kinds c.ratios m
 
@@ -41,7 +40,7 @@ module _ {s : Settings} {c : Chart} {m : Memory} {a b : ℕ} {new : Memory} (x :
   lies = good_lies c.kinds a b x.good
 
   room : length values ≤ length m.value
-  room = omega (arith, long, (chart_room s c m x.permitted x.taken).values)
+  room = omega (arith, long, (chart_room s c m x.taken).values)
 
   written : new.value ≡ over values m.value
   unfolding filled
@@ -53,7 +52,7 @@ module _ {s : Settings} {c : Chart} {m : Memory} {a b : ℕ} {new : Memory} (x :
     ordered = omega (arith, lies.some);
     kinded = lies.inside;
     valued = omega (arith, lies.inside, long, room, ap length written, length-over values m.value room);
-    few = omega (arith, lies.inside, (chart_room s c m x.permitted x.taken).regions);
+    few = omega (arith, lies.inside, (chart_room s c m x.taken).regions);
   }
 
   -- the values from a to b, read where they were written

@@ -27,8 +27,8 @@ memory value work scratch =
 abbrev pub answer_lengths : Memory → List ℕ
 answer_lengths m = length m.value ∷ []
 
-abbrev pub judged : Chart → Memory → Verdict
-judged c m = judged_by c (answer_lengths m) m.work m.scratch
+abbrev pub judged : Settings → Chart → Memory → Verdict
+judged s c m = judged_by s c (answer_lengths m) m.work m.scratch
 
 -- the memory after an accepted call, by the chart's kinds and ratios
 unfoldable pub filled : Settings → List ℕ → List Float → Memory → Memory
@@ -39,14 +39,14 @@ filled s kinds ratios m = record {
 }
 
 unfoldable pub colour_outcome : Settings → Chart → Memory → Outcome (Result (Unit {0}) Refusal) Memory
-colour_outcome s c m = answered (judged c m) tt (filled s c.kinds c.ratios m) m
+colour_outcome s c m = answered (judged s c m) tt (filled s c.kinds c.ratios m) m
 
 abbrev pub stretch_mean : Float → ℤ → StretchMean
 stretch_mean mean tenths = record { mean = mean; tenths = tenths }
 
 unfoldable pub stretch_outcome : Settings → Chart → ℕ → ℕ → Memory → Outcome (Result StretchMean Refusal) Memory
 stretch_outcome s c a b m =
-    answered (stretch_verdict (judged c m) c.kinds a b)
+    answered (stretch_verdict (judged s c m) c.kinds a b)
     (stretch_mean (chart_mean s c a b) (chart_tenths s c a b))
     (filled s c.kinds c.ratios m)
     m

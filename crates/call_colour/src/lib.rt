@@ -2,7 +2,6 @@
 #![tactic(auto)]
 
 ghost use Rattle.std.specs.Prelude.{◌≡◌};
-ghost use Rattle.grouping_chart.specs.Settings.{base_settings};
 ghost use Rattle.grouping_chart.specs.Outcome.{outcome};
 ghost use Rattle.grouping_chart.specs.Lent.{seen};
 ghost use Rattle.call_colour.specs.Call.{memory, filled, colour_outcome, stretch_outcome};
@@ -11,7 +10,6 @@ ghost use Rattle.call_colour.specs.passes.Rooms.{ChartRoom};
 use grouping_chart::chart::Chart;
 use grouping_chart::refusal::Refusal;
 use grouping_chart::room::judge;
-use grouping_chart::settings;
 use grouping_chart::settings::Settings;
 use grouping_hits::limit::SearchLimit;
 use lent::fill;
@@ -49,22 +47,24 @@ fn fill_chart(chart: Chart, s: Settings, value: &mut [f64], work: &mut [u16], sc
 // which borrow it is.
 pub fn colour(
     chart: Chart,
+    s: Settings,
     value: &mut [f64],
     work: &mut [u16],
     scratch: &mut [f64],
 ) -> Result<(), Refusal>
     ensures { outcome result (memory value.new work.new scratch.new)
-        ≡ colour_outcome base_settings (seen chart.entry) (memory value.old work.old scratch.old) }
+        ≡ colour_outcome s (seen chart.entry) (memory value.old work.old scratch.old) }
 {
     let short = value.len() < chart.kind.len();
-    judge(chart, short, work.len(), scratch.len())?;
-    fill_chart(chart, settings::base(), value, work, scratch);
+    judge(chart, s, short, work.len(), scratch.len())?;
+    fill_chart(chart, s, value, work, scratch);
     Ok(())
 }
 
 // The mean of the stretch that has object a and not object b.
 pub fn stretch(
     chart: Chart,
+    s: Settings,
     a: usize,
     b: usize,
     value: &mut [f64],
@@ -72,12 +72,12 @@ pub fn stretch(
     scratch: &mut [f64],
 ) -> Result<StretchMean, Refusal>
     ensures { outcome result (memory value.new work.new scratch.new)
-        ≡ stretch_outcome base_settings (seen chart.entry) a b (memory value.old work.old scratch.old) }
+        ≡ stretch_outcome s (seen chart.entry) a b (memory value.old work.old scratch.old) }
 {
     let short = value.len() < chart.kind.len();
-    judge(chart, short, work.len(), scratch.len())?;
+    judge(chart, s, short, work.len(), scratch.len())?;
     stretches::stretch_refusal(chart.kind, a, b)?;
-    fill_chart(chart, settings::base(), value, work, scratch);
+    fill_chart(chart, s, value, work, scratch);
     let mean = stretches::mean(chart.kind, value, a, b);
     Ok(StretchMean {
         mean,

@@ -11,8 +11,9 @@ use Rattle.lent.proofs.OverLaws.{front}
 use Rattle.lent.proofs.PieceLaws.{get_or-over}
 use Rattle.grouping_chart.specs.Chart.{Chart, size}
 use Rattle.grouping_chart.specs.Outcome.{outcome}
-use Rattle.grouping_chart.specs.Settings.{Settings, Permitted}
+use Rattle.grouping_chart.specs.Settings.{Settings}
 use Rattle.grouping_chart.specs.Refusal.{accepted}
+use Rattle.grouping_chart.proofs.SettingsLaws.{InRanges, in_ranges}
 use Rattle.grouping_chart.proofs.OutcomeLaws.{answered-done, accommodated}
 use Rattle.grouping_colour.specs.MonoStreak.{streak_of}
 use Rattle.grouping_colour.proofs.StreakListLaws.{length-streak_of}
@@ -42,11 +43,10 @@ module _ (limit : ℕ) (kinds : List ℕ) (m : Memory) where
 -- ---- each case leaves its outcome
 
 module _ (s : Settings) (c : Chart) (m : Memory) where
-  -- where the settings are the base's
-  pub done-outcome : {set : Settings} {count : ℕ} {new : Memory} → set ≡ s → judged c m ≡ accepted → count ≡ hit_count c.kinds → new ≡ filled set c m
+  pub done-outcome : {count : ℕ} {new : Memory} → judged s c m ≡ accepted → count ≡ hit_count c.kinds → new ≡ filled s c m
       → outcome (Ok count) new ≡ encode_outcome s c m
   unfolding encode_outcome
-  done-outcome b h e f = answered-done _ _ m h (λ t. outcome (Ok (e t)) ((rw b at f) t))
+  done-outcome h e f = answered-done _ _ m h (λ t. outcome (Ok (e t)) (f t))
 
   -- the memory that the passes leave is the definition's
   pub filled_is : {new : Memory} {scratch : List Float} → new ≡ encoded_kinds s.limit c.kinds (with_scratch m [])
@@ -54,10 +54,13 @@ module _ (s : Settings) (c : Chart) (m : Memory) where
   unfolding filled encoded_kinds
   filled_is e f t = with_scratch (e t) (f t)
 
-  -- an accepted call has room
-  pub kinds_room : Permitted s → judged c m ≡ accepted → KindsRoom (size c) s.limit (with_scratch m [])
-  kinds_room p h =
-      let r = accommodated c (answer_lengths m) _ _ h in
+  -- an accepted call has a search limit from 2 to 64, and room
+  pub limit_small : judged s c m ≡ accepted → InRanges s
+  limit_small h = in_ranges (accommodated s c (answer_lengths m) _ _ h).permitted
+
+  pub kinds_room : judged s c m ≡ accepted → KindsRoom (size c) s.limit (with_scratch m [])
+  kinds_room h =
+      let r = accommodated s c (answer_lengths m) _ _ h in
       record {
         few = r.chart.few;
         streak = r.long.0;
@@ -67,16 +70,16 @@ module _ (s : Settings) (c : Chart) (m : Memory) where
         hit = r.long.1.1.1.1.0;
         interval = r.long.1.1.1.1.1.0;
         work = r.regions;
-        bytes = omega (arith, p.most);
+        bytes = omega (arith, (limit_small h).most);
       }
 
-pub scratch_room : (c : Chart) (m : Memory) → judged c m ≡ accepted → size c ≤ length m.scratch
-scratch_room c m h = (accommodated c (answer_lengths m) _ _ h).floats
+  pub scratch_room : judged s c m ≡ accepted → size c ≤ length m.scratch
+  scratch_room h = (accommodated s c (answer_lengths m) _ _ h).floats
 
 -- ---- what an accepted call writes, place by place
-module _ (s : Settings) (c : Chart) (lent : Memory) (good : judged c lent ≡ accepted) where
+module _ (s : Settings) (c : Chart) (lent : Memory) (good : judged s c lent ≡ accepted) where
   left : (encode_outcome s c lent).memory ≡ filled s c lent
-  left = rw (← done-outcome s c lent refl good refl refl)
+  left = rw (← done-outcome s c lent good refl refl)
 
   pub hit-written : (i : ℕ) → i < size c → get_or (encode_outcome s c lent).memory.hit i 0 ≡ get_or (hit_of c.kinds) i 0
   unfolding filled encoded_kinds

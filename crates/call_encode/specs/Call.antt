@@ -42,8 +42,8 @@ answer_lengths m =
     length m.streak ∷ length m.streak_place ∷ length m.pattern ∷ length m.pattern_place ∷ length m.hit
     ∷ length m.interval ∷ []
 
-abbrev pub judged : Chart → Memory → Verdict
-judged c m = judged_by c (answer_lengths m) m.work m.scratch
+abbrev pub judged : Settings → Chart → Memory → Verdict
+judged s c m = judged_by s c (answer_lengths m) m.work m.scratch
 
 -- the memory once objects of these kinds are encoded under a search limit: the answers in the first n places, 0 in the
 -- first 8 n places of the work slice, old contents elsewhere
@@ -77,4 +77,4 @@ filled s c m = with_scratch (encoded_kinds s.limit c.kinds m) (cleared_scratch (
 
 -- the number of hit patterns, or the first refusal that applies
 unfoldable pub encode_outcome : Settings → Chart → Memory → Outcome (Result ℕ Refusal) Memory
-encode_outcome s c m = answered (judged c m) (hit_count c.kinds) (filled s c m) m
+encode_outcome s c m = answered (judged s c m) (hit_count c.kinds) (filled s c m) m

@@ -6,7 +6,6 @@ ghost use Rattle.lent.specs.Over.{over};
 ghost use Rattle.grouping_preprocessor.specs.Preprocessor.{hit_count};
 ghost use Rattle.grouping_preprocessor.specs.passes.LookUps.{streaks, streak_places, patterns, pattern_places};
 ghost use Rattle.grouping_preprocessor.specs.passes.LookUps.{hits, intervals};
-ghost use Rattle.grouping_chart.specs.Settings.{base_settings};
 ghost use Rattle.grouping_chart.specs.Outcome.{outcome};
 ghost use Rattle.grouping_chart.specs.Lent.{seen};
 ghost use Rattle.call_encode.specs.Call.{memory, encoded_kinds, kinds_memory, encode_outcome};
@@ -15,7 +14,7 @@ ghost use Rattle.call_encode.specs.passes.Rooms.{SpreadRoom, KindsRoom};
 use grouping_chart::chart::Chart;
 use grouping_chart::refusal::Refusal;
 use grouping_chart::room::judge;
-use grouping_chart::settings;
+use grouping_chart::settings::Settings;
 use grouping_hits::limit::SearchLimit;
 use grouping_preprocessor::tables::Tables;
 use lent::fill;
@@ -87,6 +86,7 @@ pub fn encode_kinds(
 
 pub fn encode(
     chart: Chart,
+    s: Settings,
     streak: &mut [u16],
     streak_place: &mut [u16],
     pattern: &mut [u16],
@@ -98,7 +98,7 @@ pub fn encode(
 ) -> Result<usize, Refusal>
     ensures { outcome result
         (memory streak.new streak_place.new pattern.new pattern_place.new hit.new interval.new work.new scratch.new)
-        ≡ encode_outcome base_settings (seen chart.entry)
+        ≡ encode_outcome s (seen chart.entry)
         (memory streak.old streak_place.old pattern.old pattern_place.old hit.old interval.old work.old scratch.old) }
 {
     let n = chart.kind.len();
@@ -108,8 +108,7 @@ pub fn encode(
         | (pattern_place.len() < n)
         | (hit.len() < n)
         | (interval.len() < n);
-    judge(chart, short, work.len(), scratch.len())?;
-    let s = settings::base();
+    judge(chart, s, short, work.len(), scratch.len())?;
     // by `as`: a set's limit is a u64 by its type, of which fewer bits would ask more, and that it fits is known, so
     // that TryFrom's Err can't come
     let limit = SearchLimit {

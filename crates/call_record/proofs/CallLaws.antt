@@ -32,8 +32,8 @@ finite_time x t =
     finite-between earliest x latest tt tt b.0 b.1
 
 -- ---- what is known of an accepted call
-pub lengths_same : (c : Chart) (m : Memory) → judged c m ≡ accepted → length c.deltas ≡ size c
-lengths_same c m h = (accommodated c (answer_lengths m) _ _ h).chart.lengths.delta
+pub lengths_same : (s : Settings) (c : Chart) (m : Memory) → judged s c m ≡ accepted → length c.deltas ≡ size c
+lengths_same s c m h = (accommodated s c (answer_lengths m) _ _ h).chart.lengths.delta
 
 -- ---- what is refused after the chart
 
@@ -51,11 +51,11 @@ module _ (window : Float) (g groups : ℕ) where
       go false below q e = never (cc)
 
 -- ---- nothing is refused
-module _ (s : Settings) (c : Chart) (m : Memory) (g : ℕ) (window : Float) (taken : judged c m ≡ accepted)
+module _ (s : Settings) (c : Chart) (m : Memory) (g : ℕ) (window : Float) (taken : judged s c m ≡ accepted)
     (none : record_refusal window g (groups_of s c) ≡ passed) where
   pub group_room : GroupRoom s.margin c.kinds c.starts c.deltas g m.work m.scratch
   group_room =
-      let r = accommodated c (answer_lengths m) _ _ taken in
+      let r = accommodated s c (answer_lengths m) _ _ taken in
       let good = r.chart in
       record {
         tables = accepted-tables m.work m.scratch r;
@@ -63,8 +63,7 @@ module _ (s : Settings) (c : Chart) (m : Memory) (g : ℕ) (window : Float) (tak
         there = group-below window g (groups_of s c) none;
       }
 
-  -- where the settings are the base's
-  pub outcome-done : {base : Settings} {r : GroupRecord} {new : Memory} → s ≡ base → r ≡ record_at s c.kinds c.starts c.deltas g window
-      → new ≡ cleared (size c) m → outcome (Ok r) new ≡ record_outcome base c g window m
+  pub outcome-done : {r : GroupRecord} {new : Memory} → r ≡ record_at s c.kinds c.starts c.deltas g window
+      → new ≡ cleared (size c) m → outcome (Ok r) new ≡ record_outcome s c g window m
   unfolding record_outcome
-  outcome-done b d f = rw (← b) (answered-done _ _ m (nothing-refused _ taken none) (λ t. outcome (Ok (d t)) (f t)))
+  outcome-done d f = answered-done _ _ m (nothing-refused _ taken none) (λ t. outcome (Ok (d t)) (f t))

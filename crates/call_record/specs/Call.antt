@@ -28,8 +28,8 @@ memory work scratch =
 abbrev pub answer_lengths : Memory → List ℕ
 answer_lengths m = []
 
-abbrev pub judged : Chart → Memory → Verdict
-judged c m = judged_by c (answer_lengths m) m.work m.scratch
+abbrev pub judged : Settings → Chart → Memory → Verdict
+judged s c m = judged_by s c (answer_lengths m) m.work m.scratch
 
 -- the memory after an accepted call
 unfoldable pub cleared : ℕ → Memory → Memory
@@ -57,5 +57,5 @@ groups_of s c = groups_in s.margin c.kinds c.deltas
 
 unfoldable pub record_outcome : Settings → Chart → ℕ → Float → Memory → Outcome (Result GroupRecord Refusal) Memory
 record_outcome s c g window m =
-    answered (record_verdict (judged c m) window g (groups_of s c))
+    answered (record_verdict (judged s c m) window g (groups_of s c))
     (record_at s c.kinds c.starts c.deltas g window) (cleared (size c) m) m

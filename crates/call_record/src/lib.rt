@@ -2,7 +2,6 @@
 #![tactic(auto)]
 
 ghost use Rattle.std.specs.Prelude.{◌≡◌, length};
-ghost use Rattle.grouping_chart.specs.Settings.{base_settings};
 ghost use Rattle.grouping_chart.specs.Outcome.{outcome};
 ghost use Rattle.grouping_chart.specs.Chart.{size};
 ghost use Rattle.grouping_chart.specs.Lent.{seen};
@@ -16,7 +15,6 @@ use grouping_chart::chart::Chart;
 use grouping_chart::object::ObjectIndex;
 use grouping_chart::refusal::{Reason, Refusal};
 use grouping_chart::room::judge;
-use grouping_chart::settings;
 use grouping_chart::settings::Settings;
 use grouping_interval::notes::count_groups;
 use lent::fill;
@@ -114,16 +112,16 @@ fn make_record(
 // The work slices are no struct: a clause on a struct that holds a `&mut` also has to say which borrow it is.
 pub fn record(
     chart: Chart,
+    s: Settings,
     group: usize,
     window: f64,
     work: &mut [u16],
     scratch: &mut [f64],
 ) -> Result<GroupRecord, Refusal>
     ensures { outcome result (memory work.new scratch.new)
-        ≡ record_outcome base_settings (seen chart.entry) group window (memory work.old scratch.old) }
+        ≡ record_outcome s (seen chart.entry) group window (memory work.old scratch.old) }
 {
-    judge(chart, false, work.len(), scratch.len())?;
-    let s = settings::base();
+    judge(chart, s, false, work.len(), scratch.len())?;
     record_refusal(chart.kind, chart.delta, s.margin, group, window)?;
     Ok(make_record(chart, s, group, window, work, scratch))
 }

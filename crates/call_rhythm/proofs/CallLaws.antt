@@ -24,25 +24,25 @@ use Rattle.call_rhythm.proofs.TablesLaws.{accepted-tables}
 use Rattle.call_rhythm.proofs.PerNoteLaws.{length_per_note, per_note_at}
 
 -- an accepted call has room
-pub rhythm_room : (c : Chart) (m : Memory) → judged c m ≡ accepted → GroupsRoom c.kinds c.starts c.deltas m
-rhythm_room c m h =
-    let r = accommodated c (answer_lengths m) _ _ h in
+pub rhythm_room : (s : Settings) (c : Chart) (m : Memory) → judged s c m ≡ accepted → GroupsRoom c.kinds c.starts c.deltas m
+rhythm_room s c m h =
+    let r = accommodated s c (answer_lengths m) _ _ h in
     record { tables = accepted-tables m.work m.scratch r; group_room = r.long.0; pattern_room = r.long.1.0 }
 
 -- ---- each case leaves its outcome
 
 module _ (s : Settings) (c : Chart) (m : Memory) where
-  -- the counts and the memory that the passes leave are the definition's, where the settings are the base's
-  pub rhythm-done : {set : Settings} {k : GroupCounts} {new : Memory} → set ≡ s → judged c m ≡ accepted → k ≡ counts_of set.margin c.kinds c.starts c.deltas
-      → new ≡ filled set c.kinds c.starts c.deltas m → outcome (Ok (totals k)) new ≡ rhythm_outcome s c m
+  -- the counts and the memory that the passes leave are the definition's
+  pub rhythm-done : {k : GroupCounts} {new : Memory} → judged s c m ≡ accepted → k ≡ counts_of s.margin c.kinds c.starts c.deltas
+      → new ≡ filled s c.kinds c.starts c.deltas m → outcome (Ok (totals k)) new ≡ rhythm_outcome s c m
   unfolding rhythm_outcome
-  rhythm-done b h e f = rw (← b) (answered-done _ _ m h (λ t. outcome (Ok (totals (e t))) (f t)))
+  rhythm-done h e f = answered-done _ _ m h (λ t. outcome (Ok (totals (e t))) (f t))
 
-  left : judged c m ≡ accepted → (rhythm_outcome s c m).memory ≡ filled s c.kinds c.starts c.deltas m
-  left h = rw (← rhythm-done refl h refl refl)
+  left : judged s c m ≡ accepted → (rhythm_outcome s c m).memory ≡ filled s c.kinds c.starts c.deltas m
+  left h = rw (← rhythm-done h refl refl)
 
   -- what an accepted call writes for an object that is a note: the group of its note, by the notes' deltas
-  pub group-written : judged c m ≡ accepted → (o : ℕ) → o < size c → is_note (get_or c.kinds o 0) ≡ true
+  pub group-written : judged s c m ≡ accepted → (o : ℕ) → o < size c → is_note (get_or c.kinds o 0) ≡ true
       → get_or (rhythm_outcome s c m).memory.group o 0
       ≡ get_or (group_numbers (interval_marks s.margin (of_notes c.kinds c.deltas))) (note_idx c.kinds o) 0
   unfolding filled group_of note_group

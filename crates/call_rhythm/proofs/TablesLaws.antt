@@ -15,6 +15,7 @@ use Rattle.grouping_marks.proofs.MarksLaws.{count_le, length-numbers}
 use Rattle.grouping_marks.proofs.PartedLaws.{length-parted}
 use Rattle.grouping_chart.specs.Chart.{Chart}
 use Rattle.grouping_chart.specs.Object.{notes}
+use Rattle.grouping_chart.specs.Settings.{Settings}
 use Rattle.grouping_chart.proofs.OutcomeLaws.{Accommodated}
 use Rattle.grouping_interval.specs.Notes.{note_objects, of_notes}
 use Rattle.grouping_chart.proofs.ObjectLaws.{notes-few}
@@ -33,7 +34,7 @@ use Rattle.lent.proofs.WrittenLaws.{Ends, length-written, drop-written}
 use Rattle.call_rhythm.proofs.RegionLaws.{length-group-numbers}
 
 -- an accepted call has room for the tables
-pub accepted-tables : {c : Chart} {answers : List ℕ} (work : List ℕ) (scratch : List Float) → Accommodated c answers (length work) (length scratch)
+pub accepted-tables : {s : Settings} {c : Chart} {answers : List ℕ} (work : List ℕ) (scratch : List Float) → Accommodated s c answers (length work) (length scratch)
     → TablesRoom c.kinds c.starts c.deltas work scratch
 accepted-tables work scratch r =
     let good = r.chart in

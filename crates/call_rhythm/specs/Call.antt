@@ -27,8 +27,8 @@ memory group pattern work scratch =
 abbrev pub answer_lengths : Memory → List ℕ
 answer_lengths m = length m.group ∷ length m.pattern ∷ []
 
-abbrev pub judged : Chart → Memory → Verdict
-judged c m = judged_by c (answer_lengths m) m.work m.scratch
+abbrev pub judged : Settings → Chart → Memory → Verdict
+judged s c m = judged_by s c (answer_lengths m) m.work m.scratch
 
 -- the memory after an accepted call, by the chart's kinds, starts and deltas
 unfoldable pub filled : Settings → List ℕ → List Float → List Float → Memory → Memory
@@ -45,5 +45,5 @@ totals k = record { groups = k.groups; patterns = k.patterns }
 
 unfoldable pub rhythm_outcome : Settings → Chart → Memory → Outcome (Result GroupTotals Refusal) Memory
 rhythm_outcome s c m =
-    answered (judged c m) (totals (counts_of s.margin c.kinds c.starts c.deltas))
+    answered (judged s c m) (totals (counts_of s.margin c.kinds c.starts c.deltas))
     (filled s c.kinds c.starts c.deltas m) m

@@ -2,7 +2,6 @@
 #![tactic(auto)]
 
 ghost use Rattle.std.specs.Prelude.{◌≡◌};
-ghost use Rattle.grouping_chart.specs.Settings.{base_settings};
 ghost use Rattle.grouping_chart.specs.Outcome.{outcome};
 ghost use Rattle.grouping_chart.specs.Lent.{seen};
 ghost use Rattle.call_rhythm.specs.Rhythm.{counts_of};
@@ -13,7 +12,6 @@ use crate::tables::GroupCounts;
 use grouping_chart::chart::Chart;
 use grouping_chart::refusal::Refusal;
 use grouping_chart::room::judge;
-use grouping_chart::settings;
 use grouping_chart::settings::Settings;
 use lent::fill;
 
@@ -65,18 +63,19 @@ fn fill_groups(
 // is.
 pub fn rhythm(
     chart: Chart,
+    s: Settings,
     group: &mut [u16],
     pattern: &mut [u16],
     work: &mut [u16],
     scratch: &mut [f64],
 ) -> Result<GroupTotals, Refusal>
     ensures { outcome result (memory group.new pattern.new work.new scratch.new)
-        ≡ rhythm_outcome base_settings (seen chart.entry)
+        ≡ rhythm_outcome s (seen chart.entry)
         (memory group.old pattern.old work.old scratch.old) }
 {
     let n = chart.kind.len();
     let short = (group.len() < n) | (pattern.len() < n);
-    judge(chart, short, work.len(), scratch.len())?;
-    let counts = fill_groups(chart, settings::base(), group, pattern, work, scratch);
+    judge(chart, s, short, work.len(), scratch.len())?;
+    let counts = fill_groups(chart, s, group, pattern, work, scratch);
     Ok(GroupTotals::from(counts))
 }

@@ -14,6 +14,8 @@ use Rattle.numeric.specs.Constants.{zero64}
 use Rattle.numeric.proofs.range.Laws.{within_ends}
 use Rattle.grouping_chart.specs.Refusal.{accepted}
 use Rattle.grouping_chart.specs.Settings.{Settings, Permitted}
+use Rattle.grouping_chart.proofs.AcceptedLaws.{both_passed}
+use Rattle.grouping_chart.proofs.SettingsLaws.{in_ranges}
 use Rattle.grouping_interval.specs.Notes.{note_objects, of_notes}
 use Rattle.grouping_interval.specs.IntervalGrouping.{pair_class, interval_marks}
 use Rattle.grouping_interval.proofs.IntervalLaws.{marks_by_class}
@@ -30,10 +32,13 @@ use Rattle.call_taps.specs.Choices.{Held, Chosen, GivenBy}
 use Rattle.call_taps.proofs.VerdictLaws.{TapsPassed, tap_passed, range_good}
 use Rattle.call_taps.proofs.CallLaws.{answer_left, memory_left}
 
-module _ (s : Settings) (permitted : Permitted s) (margin_held : T (fits binary64 s.margin)) (t : TapChart) (m : Memory) (good : judged t m ≡ accepted)
+module _ (s : Settings) (margin_held : T (fits binary64 s.margin)) (t : TapChart) (m : Memory) (good : judged s t m ≡ accepted)
     (held : Held t) where
-  passed : TapsPassed t (refusal_beside (tap_size t) (answer_lengths m) (length m.work) (length m.scratch))
+  passed : TapsPassed t (refusal_beside s (tap_size t) (answer_lengths m) (length m.work) (length m.scratch))
   passed = tap_passed t _ good
+
+  permitted : Permitted s
+  permitted = (both_passed _ _ passed.room).1
 
   -- each range is one that no call refuses
   pub good_range : (o : ℕ) → o < tap_size t → GoodRange (range_of t o)
@@ -106,7 +111,7 @@ module _ (s : Settings) (permitted : Permitted s) (margin_held : T (fits binary6
     class_known : (o p : ℕ) → o < tap_size t → p < tap_size t → class_of s.margin t o p ≡ 3 → ⊥
     unfolding class_of
     class_known o p h k e =
-        equal_ends_sure s.margin (only_good o h) (only_good p k) (within_ends zero64 _ s.margin permitted.margin).0
+        equal_ends_sure s.margin (only_good o h) (only_good p k) (within_ends zero64 _ s.margin (in_ranges permitted).margin).0
         (rw (one_value o, one_value p) at e)
 
     none_open : is_open s.margin t ≡ false

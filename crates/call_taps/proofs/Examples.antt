@@ -16,7 +16,7 @@ use Rattle.grouping_chart.specs.Object.{is_note, notes, note_idx}
 use Rattle.grouping_chart.specs.Outcome.{answered}
 use Rattle.grouping_chart.specs.Refusal.{refusal, time_good, ratio_good, object_order, first_refused}
 use Rattle.grouping_chart.specs.Room.{any_short, short_refusal}
-use Rattle.grouping_chart.specs.Settings.{base_settings}
+use Rattle.grouping_chart.specs.Settings.{base_settings, settings_good, settings_refusal}
 use Rattle.grouping_chart.specs.declared.refusal.Reason.TheVariants.{BadDelta, BadRatio, LowestAboveHighest}
 use Rattle.grouping_chart.specs.declared.refusal.Refusal.{Refusal}
 use Rattle.grouping_interval.specs.Notes.{notes_from, note_objects}
@@ -137,7 +137,7 @@ tapped e =
 -- every chart comes out as it says
 examples_right : map tapped examples ≡ map (λ (e : Example). e.outcome) examples
 unfolding examples tapped lent milliseconds whole taps_outcome answered filled tap_verdict all_equally_long ranges range_refusal first_refused object_order
-    time_good ratio_good within any_short short_refusal over tabulate scan end_state opened group_count group_numbers is_note notes note_idx notes_from
+    time_good ratio_good within any_short short_refusal settings_refusal settings_good over tabulate scan end_state opened group_count group_numbers is_note notes note_idx notes_from
     note_objects per_note range_of class_of tap_marks is_open class_at pairs_of tap_groups_of tap_groups_in class_marks marks_after
     looked_at looked_after among sure_class
     is_rise is_near abs_of add sub le lt of_int of_bits round

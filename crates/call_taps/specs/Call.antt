@@ -25,8 +25,8 @@ memory pair group work scratch =
 abbrev pub answer_lengths : Memory → List ℕ
 answer_lengths m = length m.pair ∷ length m.group ∷ []
 
-abbrev pub judged : TapChart → Memory → Verdict
-judged t m = tap_verdict t (refusal_beside (tap_size t) (answer_lengths m) (length m.work) (length m.scratch))
+abbrev pub judged : Settings → TapChart → Memory → Verdict
+judged s t m = tap_verdict t (refusal_beside s (tap_size t) (answer_lengths m) (length m.work) (length m.scratch))
 
 -- how many groups there are, where that is known
 abbrev pub known_groups : Float → TapChart → Option ℕ
@@ -42,4 +42,4 @@ filled s t m = record {
 }
 
 unfoldable pub taps_outcome : Settings → TapChart → Memory → Outcome (Result (Option ℕ) Refusal) Memory
-taps_outcome s t m = answered (judged t m) (known_groups s.margin t) (filled s t m) m
+taps_outcome s t m = answered (judged s t m) (known_groups s.margin t) (filled s t m) m

@@ -3,7 +3,6 @@
 #![tactic(auto)]
 
 ghost use Rattle.std.specs.Prelude.{◌≡◌, ◌<◌, length};
-ghost use Rattle.grouping_chart.specs.Settings.{base_settings};
 ghost use Rattle.grouping_chart.specs.Outcome.{outcome};
 ghost use Rattle.call_taps.specs.Taps.{range_of, class_of};
 ghost use Rattle.call_taps.specs.Lent.{taps_seen};
@@ -11,7 +10,6 @@ ghost use Rattle.call_taps.specs.Call.{memory, known_groups, filled, taps_outcom
 ghost use Rattle.call_taps.specs.passes.Rooms.{TapsRoom};
 
 use grouping_chart::refusal::Refusal;
-use grouping_chart::settings;
 use grouping_chart::settings::Settings;
 use grouping_interval::notes::list_notes;
 use grouping_ranges::{Range, sure_class};
@@ -88,16 +86,17 @@ fn fill_taps(
 // The result is how many groups there are, where that is known.
 pub fn taps(
     taps: TapChart,
+    s: Settings,
     pair: &mut [u8],
     group: &mut [u16],
     work: &mut [u16],
     scratch: &mut [f64],
 ) -> Result<Option<usize>, Refusal>
     ensures { outcome result (memory pair.new group.new work.new scratch.new)
-        ≡ taps_outcome base_settings (taps_seen taps.entry) (memory pair.old group.old work.old scratch.old) }
+        ≡ taps_outcome s (taps_seen taps.entry) (memory pair.old group.old work.old scratch.old) }
 {
     let n = taps.kind.len();
     let short = (pair.len() < n) | (group.len() < n);
-    verdict::judge(taps, short, work.len(), scratch.len())?;
-    Ok(fill_taps(taps, settings::base(), pair, group, work, scratch))
+    verdict::judge(taps, s, short, work.len(), scratch.len())?;
+    Ok(fill_taps(taps, s, pair, group, work, scratch))
 }

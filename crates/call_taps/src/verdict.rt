@@ -1,6 +1,8 @@
-// The verdict on a call: refusals 1 to 7, of which 6 is of either end of a range, and 15 between 6 and 7.
+// The verdict on a call: refusals 1 to 7 and 16, of which 6 is of either end of a range, and 15 between 6 and 7.
 ghost use Rattle.std.specs.Prelude.{◌≡◌, length};
+ghost use Rattle.grouping_chart.specs.Refusal.{and_then};
 ghost use Rattle.grouping_chart.specs.Room.{short_refusal};
+ghost use Rattle.grouping_chart.specs.Settings.{settings_refusal};
 ghost use Rattle.call_taps.specs.Lent.{taps_seen};
 ghost use Rattle.call_taps.specs.Refusals.{range_refusal, all_equally_long, ranges_verdict, tap_verdict};
 ghost use Rattle.call_taps.specs.passes.Rooms.{SameLong, all_good};
@@ -11,7 +13,8 @@ use grouping_chart::good::{all_places, all_within, kinds_good};
 use grouping_chart::refusal::{
     Reason, Refusal, before_objects, first_refused, object_order, time_good,
 };
-use grouping_chart::room::short_refusal;
+use grouping_chart::room::refusal_beside;
+use grouping_chart::settings::Settings;
 use grouping_ranges::Range;
 use numeric::range;
 
@@ -75,15 +78,21 @@ fn all_equally_long(taps: TapChart) -> bool
 
 // `short` says that an answer slice has too few places for the objects, `work` and `scratch` are how many places the
 // work slices have.
-pub fn judge(taps: TapChart, short: bool, work: usize, scratch: usize) -> Result<(), Refusal>
+pub fn judge(
+    taps: TapChart,
+    s: Settings,
+    short: bool,
+    work: usize,
+    scratch: usize,
+) -> Result<(), Refusal>
     ensures { result ≡ tap_verdict (taps_seen taps.entry)
-        (short_refusal short (length taps.entry.kind.now) work scratch) }
+        (and_then (short_refusal short (length taps.entry.kind.now) work scratch) (settings_refusal s)) }
 {
     let n = taps.kind.len();
     before_objects(
         MOST_OBJECTS < n,
         all_equally_long(taps),
-        short_refusal(short, n, work, scratch),
+        refusal_beside(s, short, n, work, scratch),
     )?;
     check_objects(taps)
 }

@@ -3,7 +3,6 @@
 #![tactic(auto)]
 
 ghost use Rattle.std.specs.Prelude.{◌≡◌};
-ghost use Rattle.grouping_chart.specs.Settings.{base_settings};
 ghost use Rattle.grouping_chart.specs.Outcome.{outcome};
 ghost use Rattle.grouping_chart.specs.Chart.{chart};
 ghost use Rattle.call_build.specs.Build.{raw};
@@ -21,6 +20,7 @@ use call_record::GroupRecord;
 use call_rhythm::GroupTotals;
 use grouping_chart::chart::Chart;
 use grouping_chart::refusal::Refusal;
+use grouping_chart::settings::Settings;
 use numeric::canonical::bits;
 
 pub mod taps;
@@ -107,6 +107,7 @@ pub extern "C" fn dresserduck_encode(
     start: &[f64],
     delta: &[f64],
     ratio: &[f64],
+    settings: Settings,
     streak: &mut [u16],
     streak_place: &mut [u16],
     pattern: &mut [u16],
@@ -119,7 +120,7 @@ pub extern "C" fn dresserduck_encode(
     ensures { outcome result
         (encode.memory streak.new streak_place.new pattern.new pattern_place.new hit.new interval.new work.new
         scratch.new)
-        ≡ for_host encoded_of (encode.encode_outcome base_settings (chart kind.now start.now delta.now ratio.now)
+        ≡ for_host encoded_of (encode.encode_outcome settings (chart kind.now start.now delta.now ratio.now)
         (encode.memory streak.old streak_place.old pattern.old pattern_place.old hit.old interval.old work.old
         scratch.old)) }
 {
@@ -131,6 +132,7 @@ pub extern "C" fn dresserduck_encode(
     };
     Encoded::from(call_encode::encode(
         chart,
+        settings,
         streak,
         streak_place,
         pattern,
@@ -173,12 +175,13 @@ pub extern "C" fn dresserduck_colour(
     start: &[f64],
     delta: &[f64],
     ratio: &[f64],
+    settings: Settings,
     value: &mut [f64],
     work: &mut [u16],
     scratch: &mut [f64],
 ) -> Coloured
     ensures { outcome result (calls.memory value.new work.new scratch.new)
-        ≡ for_host coloured_of (calls.colour_outcome base_settings (chart kind.now start.now delta.now ratio.now)
+        ≡ for_host coloured_of (calls.colour_outcome settings (chart kind.now start.now delta.now ratio.now)
         (calls.memory value.old work.old scratch.old)) }
 {
     let chart = Chart {
@@ -187,7 +190,7 @@ pub extern "C" fn dresserduck_colour(
         delta,
         ratio,
     };
-    Coloured::from(call_colour::colour(chart, value, work, scratch))
+    Coloured::from(call_colour::colour(chart, settings, value, work, scratch))
 }
 
 // dresserduck_stretched in the header.
@@ -227,6 +230,7 @@ pub extern "C" fn dresserduck_stretch(
     start: &[f64],
     delta: &[f64],
     ratio: &[f64],
+    settings: Settings,
     a: usize,
     b: usize,
     value: &mut [f64],
@@ -234,7 +238,7 @@ pub extern "C" fn dresserduck_stretch(
     scratch: &mut [f64],
 ) -> Stretched
     ensures { outcome result (calls.memory value.new work.new scratch.new)
-        ≡ for_host stretched_of (calls.stretch_outcome base_settings (chart kind.now start.now delta.now ratio.now) a b
+        ≡ for_host stretched_of (calls.stretch_outcome settings (chart kind.now start.now delta.now ratio.now) a b
         (calls.memory value.old work.old scratch.old)) }
 {
     let chart = Chart {
@@ -243,7 +247,7 @@ pub extern "C" fn dresserduck_stretch(
         delta,
         ratio,
     };
-    Stretched::from(call_colour::stretch(chart, a, b, value, work, scratch))
+    Stretched::from(call_colour::stretch(chart, settings, a, b, value, work, scratch))
 }
 
 // dresserduck_grouped in the header.
@@ -283,13 +287,14 @@ pub extern "C" fn dresserduck_rhythm(
     start: &[f64],
     delta: &[f64],
     ratio: &[f64],
+    settings: Settings,
     group: &mut [u16],
     pattern: &mut [u16],
     work: &mut [u16],
     scratch: &mut [f64],
 ) -> Grouped
     ensures { outcome result (rhythm.memory group.new pattern.new work.new scratch.new)
-        ≡ for_host grouped_of (rhythm.rhythm_outcome base_settings (chart kind.now start.now delta.now ratio.now)
+        ≡ for_host grouped_of (rhythm.rhythm_outcome settings (chart kind.now start.now delta.now ratio.now)
         (rhythm.memory group.old pattern.old work.old scratch.old)) }
 {
     let chart = Chart {
@@ -298,7 +303,7 @@ pub extern "C" fn dresserduck_rhythm(
         delta,
         ratio,
     };
-    Grouped::from(call_rhythm::rhythm(chart, group, pattern, work, scratch))
+    Grouped::from(call_rhythm::rhythm(chart, settings, group, pattern, work, scratch))
 }
 
 // dresserduck_recorded in the header. A float leaves as its bits.
@@ -366,13 +371,14 @@ pub extern "C" fn dresserduck_record(
     start: &[f64],
     delta: &[f64],
     ratio: &[f64],
+    settings: Settings,
     group: usize,
     window: f64,
     work: &mut [u16],
     scratch: &mut [f64],
 ) -> Recorded
     ensures { outcome result (recording.memory work.new scratch.new)
-        ≡ for_host recorded_of (recording.record_outcome base_settings (chart kind.now start.now delta.now ratio.now)
+        ≡ for_host recorded_of (recording.record_outcome settings (chart kind.now start.now delta.now ratio.now)
         group window
         (recording.memory work.old scratch.old)) }
 {
@@ -382,5 +388,5 @@ pub extern "C" fn dresserduck_record(
         delta,
         ratio,
     };
-    Recorded::from(call_record::record(chart, group, window, work, scratch))
+    Recorded::from(call_record::record(chart, settings, group, window, work, scratch))
 }

@@ -1,6 +1,5 @@
 // The call on a chart whose deltas are known to within ranges, for C and Rust, in the manner of lib.rt.
 ghost use Rattle.std.specs.Prelude.{◌≡◌};
-ghost use Rattle.grouping_chart.specs.Settings.{base_settings};
 ghost use Rattle.grouping_chart.specs.Outcome.{outcome};
 ghost use Rattle.call_taps.specs.Taps.{tap_chart};
 ghost use Rattle.call_taps.specs.Call.{memory, taps_outcome};
@@ -8,6 +7,7 @@ ghost use Rattle.dresserduck.specs.Host.{tapped_of, for_host};
 
 use call_taps::TapChart;
 use grouping_chart::refusal::Refusal;
+use grouping_chart::settings::Settings;
 
 // dresserduck_tapped in the header.
 #[repr(C)]
@@ -50,13 +50,14 @@ pub extern "C" fn dresserduck_taps(
     lowest: &[f64],
     highest: &[f64],
     ratio: &[f64],
+    settings: Settings,
     pair: &mut [u8],
     group: &mut [u16],
     work: &mut [u16],
     scratch: &mut [f64],
 ) -> Tapped
     ensures { outcome result (memory pair.new group.new work.new scratch.new)
-        ≡ for_host tapped_of (taps_outcome base_settings
+        ≡ for_host tapped_of (taps_outcome settings
         (tap_chart kind.now start.now lowest.now highest.now ratio.now)
         (memory pair.old group.old work.old scratch.old)) }
 {
@@ -67,5 +68,5 @@ pub extern "C" fn dresserduck_taps(
         highest,
         ratio,
     };
-    Tapped::from(call_taps::taps(taps, pair, group, work, scratch))
+    Tapped::from(call_taps::taps(taps, settings, pair, group, work, scratch))
 }

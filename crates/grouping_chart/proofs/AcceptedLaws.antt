@@ -64,13 +64,19 @@ pub good_order : {k : ℕ} {s : Float} {delta : Check} {r : Float} → GoodBesid
 unfolding object_order
 good_order {k} {s} {delta} {r} g = rw (le-leb k 2 g.kind, is_true (time_good s) g.start, g.delta, is_true (ratio_good r) g.ratio)
 
-delta_passed : (b : Bool) (r : Reason) → cond b passed (Err r) ≡ passed → b ≡ true
-delta_passed true r e = refl
-delta_passed false r e = never (cc)
+-- a test that passes, where it refuses by this reason if it does not
+pub test_passed : (b : Bool) (r : Reason) → cond b passed (Err r) ≡ passed → b ≡ true
+test_passed true r e = refl
+test_passed false r e = never (cc)
+
+-- two tests of which the second is made where the first passes
+pub both_passed : (first later : Check) → and_then first later ≡ passed → (first ≡ passed) × (later ≡ passed)
+both_passed (Ok done) later e = (refl, e)
+both_passed (Err r) later e = never (cc)
 
 beside_delta : {k : ℕ} {s d r : Float} → GoodBeside k s (delta_refusal d) r → GoodObject k s d r
 unfolding delta_refusal
-beside_delta g = record { kind = g.kind; start = g.start; delta = passes _ (delta_passed _ _ g.delta); ratio = g.ratio }
+beside_delta g = record { kind = g.kind; start = g.start; delta = passes _ (test_passed _ _ g.delta); ratio = g.ratio }
 
 delta_beside : {k : ℕ} {s d r : Float} → GoodObject k s d r → GoodBeside k s (delta_refusal d) r
 unfolding delta_refusal

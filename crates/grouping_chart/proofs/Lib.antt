@@ -6,7 +6,7 @@ pub mod ObjectLaws
 pub mod NotesLaws
 pub mod SeenLaws
 pub mod RangeLaws
-pub mod BaseLaws
+pub mod SettingsLaws
 pub mod CutLaws
 pub mod RefusalLaws
 pub mod AllLaws

@@ -5,33 +5,36 @@ use mathlib.Core.List.{List}
 use Prim.Native.Nat.{ℕ, ◌*◌, ◌≤◌}
 use Rattle.std.specs.Prelude.{Result, Ok, Err}
 use Rattle.grouping_chart.specs.Chart.{Chart, size}
-use Rattle.grouping_chart.specs.Refusal.{Check, passed, Verdict, accepted, refused, verdict}
+use Rattle.grouping_chart.specs.Refusal.{Check, passed, Verdict, accepted, refused, and_then, verdict}
 use Rattle.grouping_chart.specs.Room.{short_refusal, refusal_beside}
+use Rattle.grouping_chart.specs.Settings.{Settings, settings_refusal, Permitted}
 use Rattle.grouping_chart.specs.Outcome.{Outcome, outcome, refused_then, answered}
 use Rattle.grouping_chart.specs.declared.refusal.Reason.{Reason}
 use Rattle.grouping_chart.specs.declared.refusal.Refusal.{Refusal}
-use Rattle.grouping_chart.proofs.AcceptedLaws.{GoodChart, accepted_good}
+use Rattle.grouping_chart.proofs.AcceptedLaws.{GoodChart, accepted_good, both_passed}
 use Rattle.grouping_chart.proofs.RoomLaws.{AllLong, roomy, all_long, joined, short_joined}
 
 -- the verdict, from what `judge` answered on the tests of the answer slices
-pub judged-told : (c : Chart) (answers : List ℕ) (work scratch : ℕ) {v u : Verdict}
-    → v ≡ verdict c (short_refusal (joined (size c) false answers) (size c) work scratch) → v ≡ u
-    → verdict c (refusal_beside (size c) answers work scratch) ≡ u
-judged-told c answers work scratch e f = rw (← short_joined (size c) answers) (sym e ∙ f)
+pub judged-told : (s : Settings) (c : Chart) (answers : List ℕ) (work scratch : ℕ) {v u : Verdict}
+    → v ≡ verdict c (and_then (short_refusal (joined (size c) false answers) (size c) work scratch) (settings_refusal s)) → v ≡ u
+    → verdict c (refusal_beside s (size c) answers work scratch) ≡ u
+judged-told s c answers work scratch e f = rw (← short_joined (size c) answers) (sym e ∙ f)
 
--- an accepted call: its chart is good, and every slice has room for its objects
-pub record Accommodated (c : Chart) (answers : List ℕ) (work scratch : ℕ) : Type 0 where
-  pub chart : GoodChart c (refusal_beside (size c) answers work scratch)
+-- an accepted call: its chart and its settings are good, and every slice has room for its objects
+pub record Accommodated (s : Settings) (c : Chart) (answers : List ℕ) (work scratch : ℕ) : Type 0 where
+  pub chart : GoodChart c (refusal_beside s (size c) answers work scratch)
+  pub permitted : Permitted s
   pub long : AllLong (size c) answers
   pub regions : 8 * size c ≤ work
   pub floats : size c ≤ scratch
 
-pub accommodated : (c : Chart) (answers : List ℕ) (work scratch : ℕ) → verdict c (refusal_beside (size c) answers work scratch) ≡ accepted
-    → Accommodated c answers work scratch
-accommodated c answers work scratch h =
+pub accommodated : (s : Settings) (c : Chart) (answers : List ℕ) (work scratch : ℕ) → verdict c (refusal_beside s (size c) answers work scratch) ≡ accepted
+    → Accommodated s c answers work scratch
+accommodated s c answers work scratch h =
     let good = accepted_good c _ h in
-    let r = roomy _ (size c) work scratch good.room in
-    record { chart = good; long = all_long (size c) answers r.answered; regions = r.regions; floats = r.floats }
+    let both = both_passed _ _ good.room in
+    let r = roomy _ (size c) work scratch both.0 in
+    record { chart = good; permitted = both.1; long = all_long (size c) answers r.answered; regions = r.regions; floats = r.floats }
 
 -- ---- what is refused after the chart
 

@@ -4,6 +4,7 @@ use Rattle.std.specs.Prelude.{ℕ, List, length, Float, Result, Ok, Err}
 use Rattle.grouping_chart.specs.Chart.{Chart, size}
 use Rattle.grouping_chart.specs.Refusal.{Check, Verdict, accepted, refused_or, verdict}
 use Rattle.grouping_chart.specs.Room.{refusal_beside}
+use Rattle.grouping_chart.specs.Settings.{Settings}
 use Rattle.grouping_chart.specs.declared.refusal.Refusal.{Refusal}
 
 pub record Outcome (Answer Memory : Type 0) : Type 0 where
@@ -13,9 +14,10 @@ pub record Outcome (Answer Memory : Type 0) : Type 0 where
 abbrev pub outcome : {Answer Memory : Type 0} → Answer → Memory → Outcome Answer Memory
 outcome a m = record { answer = a; memory = m }
 
--- the verdict on a call by its chart, how many places each of its answer slices has, and its two work slices
-abbrev pub judged_by : Chart → List ℕ → List ℕ → List Float → Verdict
-judged_by c answers work scratch = verdict c (refusal_beside (size c) answers (length work) (length scratch))
+-- the verdict on a call by its settings, its chart, how many places each of its answer slices has, and its two work
+-- slices
+abbrev pub judged_by : Settings → Chart → List ℕ → List ℕ → List Float → Verdict
+judged_by s c answers work scratch = verdict c (refusal_beside s (size c) answers (length work) (length scratch))
 
 -- what a call refuses of what it is asked beside the chart comes after what is refused of the chart
 unfoldable pub refused_then : Verdict → Check → Verdict

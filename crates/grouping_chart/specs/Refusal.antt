@@ -9,7 +9,7 @@ use Rattle.grouping_chart.specs.declared.refusal.Reason.{Reason}
 use Rattle.grouping_chart.specs.declared.refusal.Reason.TheVariants.{TooManyObjects, UnequalLengths, ShortSlice}
 use Rattle.grouping_chart.specs.declared.refusal.Reason.TheVariants.{UnknownKind, BadStart, BadDelta, BadRatio}
 use Rattle.grouping_chart.specs.declared.refusal.Reason.TheVariants.{BadWindow, OutOfRange, BadRate, NoNotes}
-use Rattle.grouping_chart.specs.declared.refusal.Reason.TheVariants.{LowestAboveHighest}
+use Rattle.grouping_chart.specs.declared.refusal.Reason.TheVariants.{LowestAboveHighest, BadSettings}
 use Rattle.grouping_chart.specs.declared.refusal.Refusal.{Refusal}
 
 -- the number that C is told
@@ -26,6 +26,7 @@ reason_number OutOfRange = 9
 reason_number BadRate = 10
 reason_number NoNotes = 11
 reason_number LowestAboveHighest = 15
+reason_number BadSettings = 16
 
 abbrev pub refusal : Reason → ℕ → Refusal
 refusal reason place = record { reason = reason; place = record { 0 = place } }

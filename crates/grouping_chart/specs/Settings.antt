@@ -1,11 +1,13 @@
 -- The four numbers by which the calls on a chart group and score (scope: interval_grouping.rs,
--- repeating_hit_patterns.rs, evaluators/rhythm.rs, evaluators/color.rs). The definitions of what a call answers have
--- them as a parameter; the promises of the calls name `base_settings`.
-use Rattle.std.specs.Prelude.{false, ◌≤◌, T, pos, Float}
+-- repeating_hit_patterns.rs, evaluators/rhythm.rs, evaluators/color.rs), and which sets of them a call refuses (change
+-- requests: 7/12). The definitions of what a call answers have them as a parameter.
+use Rattle.std.specs.Prelude.{Bool, false, ◌&&◌, cond, ◌≡◌, leb, pos, Float, Err}
 use Rattle.std.specs.Float.{fin, binary64}
 use Rattle.std.specs.Float.Ieee.{of_bits}
 use Rattle.numeric.specs.Constants.{zero64, one64}
 use Rattle.numeric.specs.Range.{within}
+use Rattle.grouping_chart.specs.Refusal.{Check, passed}
+use Rattle.grouping_chart.specs.declared.refusal.Reason.TheVariants.{BadSettings}
 use Rattle.grouping_chart.specs.declared.settings.Settings as declared
 
 -- margin: how far apart two times may lie and still be near, in milliseconds. limit: a hit pattern is compared with
@@ -15,7 +17,7 @@ use Rattle.grouping_chart.specs.declared.settings.Settings as declared
 abbrev pub Settings : Type 0
 Settings = declared.Settings
 
--- 5.0, 16, 0.1 and 0.01: `base_is`, in proofs/BaseLaws.antt, says that the bits are these
+-- 5.0, 16, 0.1 and 0.01: `base_is`, in proofs/SettingsLaws.antt, says that the bits are these
 abbrev pub base_settings : Settings
 base_settings = record {
   margin = of_bits binary64 0x4014_0000_0000_0000;
@@ -24,14 +26,18 @@ base_settings = record {
   tolerance = of_bits binary64 0x3f84_7ae1_47ae_147b;
 }
 
-abbrev fifty : Float
-fifty = fin false 25 (pos 1)
+abbrev pub fifty64 : Float
+fifty64 = fin false 25 (pos 1)
 
--- a set that a call may be given: a limit from 2 to 64, whose intervals are bytes, and three numbers in their ranges,
--- in none of which a NaN is
-pub record Permitted (s : Settings) : Type 0 where
-  pub margin : T (within zero64 fifty s.margin)
-  pub least : 2 ≤ s.limit
-  pub most : s.limit ≤ 64
-  pub threshold : T (within zero64 one64 s.threshold)
-  pub tolerance : T (within zero64 one64 s.tolerance)
+-- a limit from 2 to 64, whose intervals are bytes, and three numbers in their ranges, in none of which a NaN is
+unfoldable pub settings_good : Settings → Bool
+settings_good s =
+    within zero64 fifty64 s.margin
+    && ((leb 2 s.limit && leb s.limit 64) && (within zero64 one64 s.threshold && within zero64 one64 s.tolerance))
+
+unfoldable pub settings_refusal : Settings → Check
+settings_refusal s = cond (settings_good s) passed (Err BadSettings)
+
+-- a set that is not refused
+abbrev pub Permitted : Settings → Type 0
+Permitted s = settings_refusal s ≡ passed

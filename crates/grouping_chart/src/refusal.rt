@@ -27,6 +27,7 @@ pub enum Reason {
     BadRate,
     NoNotes,
     LowestAboveHighest,
+    BadSettings,
 }
 
 // The first refusal that applies to a call. Its place is an object's where the reason is one object's, else 0.
@@ -53,6 +54,7 @@ impl From<Reason> for u64 {
             Reason::BadRate => 10,
             Reason::NoNotes => 11,
             Reason::LowestAboveHighest => 15,
+            Reason::BadSettings => 16,
         }
     }
 }

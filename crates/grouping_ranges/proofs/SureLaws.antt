@@ -20,6 +20,7 @@ use Rattle.numeric.proofs.Ordered.{le_or_lt, lt_le, le_self, le_trans, le_lt_tra
 use Rattle.numeric.proofs.near.Laws.{near_turned, near-between, near_above, near_self}
 use Rattle.numeric.proofs.range.Laws.{within_ends}
 use Rattle.grouping_chart.specs.Settings.{Settings, Permitted}
+use Rattle.grouping_chart.proofs.SettingsLaws.{in_ranges}
 use Rattle.grouping_chart.proofs.RangeLaws.{time_range}
 use Rattle.grouping_interval.specs.IntervalGrouping.{is_rise, pair_class}
 use Rattle.grouping_interval.proofs.ClassLaws.{one_of, class_holds, class_told, class_telling, rise_is}
@@ -226,7 +227,7 @@ module _ {margin : Float} (m : Delta margin) (positive : T (le zero64 margin)) w
 pub sure_classes : (s : Settings) → Permitted s → T (fits binary64 s.margin) → (a b : Range) → GoodRange a → GoodRange b → Sure s.margin a b
 unfolding fits le
 sure_classes s p f a b A B =
-    let t = within_ends zero64 _ s.margin p.margin in
+    let t = within_ends zero64 _ s.margin (in_ranges p).margin in
     let m : Delta s.margin = between {lo = zero64} f t.0 t.1 (record { is_finite = tt; is_held = tt }) (record { is_finite = tt; is_held = tt }) tt tt in
     sure m t.0 A B
 

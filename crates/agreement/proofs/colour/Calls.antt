@@ -54,12 +54,12 @@ module _ (s : Settings) (c c' : Chart) {m p p' : ℕ} (k : SameLast m c.kinds c'
   pub accepted_claim : (b b' : Check) → verdict c b ≡ accepted → verdict c' b' ≡ accepted → ColourClaim s c c' p p'
   accepted_claim b b' x x' = colour_claim s c c' (accepted_good c b x).lengths.ratio (accepted_good c' b' x').lengths.ratio k t far landmark
 
-  pub encode_claim : (lent lent' : encode.Memory) → encode.judged c lent ≡ accepted → encode.judged c' lent' ≡ accepted → EncodeClaim s c c' lent lent' p p'
+  pub encode_claim : (lent lent' : encode.Memory) → encode.judged s c lent ≡ accepted → encode.judged s c' lent' ≡ accepted → EncodeClaim s c c' lent lent' p p'
   encode_claim lent lent' x x' =
       hits-alike (record { at = hit-written s c lent x }) (record { at = interval-written s c lent x }) (record { at = hit-written s c' lent' x' })
       (record { at = interval-written s c' lent' x' }) (accepted_claim _ _ x x').hits
 
-  pub calls_claim : (lent lent' : Memory) → judged c lent ≡ accepted → judged c' lent' ≡ accepted → CallsClaim s c c' lent lent' p p'
+  pub calls_claim : (lent lent' : Memory) → judged s c lent ≡ accepted → judged s c' lent' ≡ accepted → CallsClaim s c c' lent lent' p p'
   calls_claim lent lent' x x' =
       let claim = accepted_claim _ _ x x' in
       record {

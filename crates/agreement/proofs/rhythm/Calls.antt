@@ -75,7 +75,7 @@ note_at ks j h =
 -- ---- the theorem
 
 -- what an accepted call writes for the notes, in order
-numbers-written : (s : Settings) (c : Chart) (lent : Memory) → judged c lent ≡ accepted
+numbers-written : (s : Settings) (c : Chart) (lent : Memory) → judged s c lent ≡ accepted
     → SameNumbers (note_count c) (rhythm_groups s c).numbers (groups_written s c lent).numbers
 numbers-written s c lent x = record { at = at }
   where
@@ -90,7 +90,7 @@ numbers-written s c lent x = record { at = at }
         get_or-gathered (rhythm_outcome s c lent).memory.group objects j l ∙ group-written s c lent x (get_or objects j 0) n.there n.is_note_lem
         ∙ ap (group_at (rhythm_groups s c)) (note_number c.kinds (get_or objects j 0) n.is_note_lem ∙ n.before)
 
-pub rhythm_call : (s : Settings) (c c' : Chart) (lent lent' : Memory) {m : ℕ} → judged c lent ≡ accepted → judged c' lent' ≡ accepted
+pub rhythm_call : (s : Settings) (c c' : Chart) (lent lent' : Memory) {m : ℕ} → judged s c lent ≡ accepted → judged s c' lent' ≡ accepted
     → SameLast m c.kinds c'.kinds → SameLast m c.deltas c'.deltas → (i i' : ℕ) → Counterparts (note_count c) (note_count c') i i'
     → LandmarkNote s c m i ⊎ LandmarkNote s c' m i' → RhythmCallClaim s c c' lent lent' i i'
 rhythm_call s c c' lent lent' x x' k d i i' far landmark =

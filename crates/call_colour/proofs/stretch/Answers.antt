@@ -5,7 +5,6 @@ use mir.Facts.{to_z-of_z}
 use mir.Syntax.{w64}
 use Rattle.numeric.specs.Tenths.{tenths_of}
 use Rattle.grouping_chart.specs.Lent.{seen}
-use Rattle.grouping_chart.proofs.BaseLaws.{is_permitted}
 use Rattle.grouping_chart.proofs.OutcomeLaws.{judged-told, chart-refused, then-refused, answered-refused}
 use Rattle.call_colour.specs.Stretch.{chart_tenths}
 use Rattle.call_colour.specs.Call.{memory, stretch_outcome}
@@ -18,10 +17,9 @@ use Rattle.call_colour.proofs.stretch.Goals as goal
 stretched : (c : After-fill_chart)
     → let a = c.args in
     let n = c.fill_chart.new in
-    Stretched c.base.result (seen a.chart) (memory a.value.now a.work.now a.scratch.now) a.a a.b (memory n.value n.work n.scratch)
+    Stretched a.s (seen a.chart) (memory a.value.now a.work.now a.scratch.now) a.a a.b (memory n.value n.work n.scratch)
 stretched c = record {
-  permitted = is_permitted c.base.ensures;
-  taken = judged-told _ _ _ _ c.judge.ensures c.in_ok-judge.was;
+  taken = judged-told _ _ _ _ _ c.judge.ensures c.in_ok-judge.was;
   good = sym c.stretch_refusal.ensures ∙ c.in_ok-stretch_refusal.was;
   made = c.fill_chart.ensures;
 }
@@ -29,17 +27,16 @@ stretched c = record {
 pub returns-in_err-judge : goal.returns-in_err-judge
 unfolding stretch_outcome
 returns-in_err-judge c =
-    answered-refused _ _ _ (chart-refused _ (judged-told _ _ _ _ c.judge.ensures c.in_err-judge.was)) (search rules)
+    answered-refused _ _ _ (chart-refused _ (judged-told _ _ _ _ _ c.judge.ensures c.in_err-judge.was)) (search rules)
 
 pub returns-in_err-stretch_refusal : goal.returns-in_err-stretch_refusal
 unfolding stretch_outcome
 returns-in_err-stretch_refusal c =
-    let taken = judged-told _ _ _ _ c.judge.ensures c.in_ok-judge.was in
+    let taken = judged-told _ _ _ _ _ c.judge.ensures c.in_ok-judge.was in
     answered-refused _ _ _ (then-refused _ taken (sym c.stretch_refusal.ensures ∙ c.in_err-stretch_refusal.was)) (search rules)
 
 pub fill_chart-requires : goal.fill_chart-requires
-fill_chart-requires c =
-    chart_room _ (seen c.args.chart) _ (is_permitted c.base.ensures) (judged-told _ _ _ _ c.judge.ensures c.in_ok-judge.was)
+fill_chart-requires c = chart_room _ (seen c.args.chart) _ (judged-told _ _ _ _ _ c.judge.ensures c.in_ok-judge.was)
 
 pub mean-mean-requires : goal.mean-mean-requires
 mean-mean-requires c = stretch_room (stretched (goal.at.mean-mean-requires c).After-fill_chart)
@@ -53,4 +50,4 @@ returns c =
     let x = stretched (goal.at.returns c).After-fill_chart in
     let mean = mean_is x c.mean-mean.ensures in
     let tenths = to_z-of_z {w = w64} (record { sfits = c.tenths.type_inv }) ∙ c.tenths.ensures ∙ ap tenths_of mean in
-    stretch-done _ _ _ c.base.ensures x.taken x.made _ _ x.good mean tenths
+    stretch-done _ _ _ x.taken x.made _ _ x.good mean tenths

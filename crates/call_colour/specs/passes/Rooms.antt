@@ -1,13 +1,14 @@
 -- What the passes of colour and stretch ask.
 use Rattle.std.specs.Prelude.{◌≡◌, ℕ, ◌≤◌, ◌<◌, List, length, get_or, Float}
 use Rattle.grouping_chart.specs.Chart.{largest}
-use Rattle.grouping_chart.specs.Settings.{Settings, Permitted}
+use Rattle.grouping_chart.specs.Settings.{Settings}
 use Rattle.grouping_preprocessor.specs.passes.Steps.{Regions}
 use Rattle.call_colour.specs.Call.{Memory}
 
--- a permitted search limit, a ratio for each object, and room for them in every slice that is written
+-- a search limit from 2 to 64, a ratio for each object, and room for them in every slice that is written
 pub record ChartRoom (s : Settings) (kinds : List ℕ) (ratios : List Float) (m : Memory) : Type 0 where
-  pub permitted : Permitted s
+  pub least : 2 ≤ s.limit
+  pub most : s.limit ≤ 64
   pub ratio : length ratios ≡ length kinds
   pub values : length kinds ≤ length m.value
   pub regions : Regions (length kinds) m.work

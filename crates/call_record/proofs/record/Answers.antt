@@ -9,29 +9,29 @@ use Rattle.call_record.proofs.record.Goals.{In_ok-judge}
 use Rattle.call_record.proofs.record.Goals as goal
 
 -- the chart is accepted
-taken : (c : In_ok-judge) → judged (seen c.args.chart) (memory c.args.work.now c.args.scratch.now) ≡ accepted
-taken c = judged-told _ _ _ _ c.judge.ensures c.in_ok-judge.was
+taken : (c : In_ok-judge) → judged c.args.s (seen c.args.chart) (memory c.args.work.now c.args.scratch.now) ≡ accepted
+taken c = judged-told _ _ _ _ _ c.judge.ensures c.in_ok-judge.was
 
 pub returns-in_err-judge : goal.returns-in_err-judge
 unfolding record_outcome
 returns-in_err-judge c =
-    answered-refused _ _ _ (chart-refused _ (judged-told _ _ _ _ c.judge.ensures c.in_err-judge.was)) (search rules)
+    answered-refused _ _ _ (chart-refused _ (judged-told _ _ _ _ _ c.judge.ensures c.in_err-judge.was)) (search rules)
 
 pub record_refusal-requires : goal.record_refusal-requires
-record_refusal-requires c = lengths_same _ _ (taken (goal.at.record_refusal-requires c).In_ok-judge)
+record_refusal-requires c = lengths_same _ _ _ (taken (goal.at.record_refusal-requires c).In_ok-judge)
 
 pub returns-in_err-record_refusal : goal.returns-in_err-record_refusal
 unfolding record_outcome
 returns-in_err-record_refusal c =
-    let asked = rw c.base-s.ensures at (sym c.record_refusal.ensures ∙ c.in_err-record_refusal.was) in
-    answered-refused _ _ _ (then-refused _ (judged-told _ _ _ _ c.judge.ensures c.in_ok-judge.was) asked) (search rules)
+    let asked = sym c.record_refusal.ensures ∙ c.in_err-record_refusal.was in
+    answered-refused _ _ _ (then-refused _ (judged-told _ _ _ _ _ c.judge.ensures c.in_ok-judge.was) asked) (search rules)
 
 pub make_record-requires : goal.make_record-requires
 make_record-requires c =
-    group_room c.base-s.result _ _ _ _ (taken (goal.at.make_record-requires c).In_ok-judge) (sym c.record_refusal.ensures ∙ c.in_ok-record_refusal.was)
+    group_room _ _ _ _ _ (taken (goal.at.make_record-requires c).In_ok-judge) (sym c.record_refusal.ensures ∙ c.in_ok-record_refusal.was)
 
 pub returns : goal.returns
 returns c =
     let made = c.make_record.ensures in
     let none = sym c.record_refusal.ensures ∙ c.in_ok-record_refusal.was in
-    outcome-done c.base-s.result _ _ _ _ (taken (goal.at.returns c).In_ok-judge) none c.base-s.ensures made.made made.cleared
+    outcome-done _ _ _ _ _ (taken (goal.at.returns c).In_ok-judge) none made.made made.cleared

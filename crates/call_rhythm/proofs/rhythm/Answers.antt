@@ -8,13 +8,13 @@ use Rattle.call_rhythm.proofs.rhythm.Goals as goal
 
 pub returns-in_err-judge : goal.returns-in_err-judge
 unfolding rhythm_outcome
-returns-in_err-judge c = answered-refused _ _ _ (judged-told _ _ _ _ c.judge.ensures c.in_err-judge.was) (search rules)
+returns-in_err-judge c = answered-refused _ _ _ (judged-told _ _ _ _ _ c.judge.ensures c.in_err-judge.was) (search rules)
 
 pub fill_groups-counts-requires : goal.fill_groups-counts-requires
-fill_groups-counts-requires c = rhythm_room (seen c.args.chart) _ (judged-told _ _ _ _ c.judge.ensures c.in_ok-judge.was)
+fill_groups-counts-requires c = rhythm_room _ (seen c.args.chart) _ (judged-told _ _ _ _ _ c.judge.ensures c.in_ok-judge.was)
 
 pub returns : goal.returns
 returns c =
     let made = c.fill_groups-counts.ensures in
-    let taken = judged-told _ _ _ _ c.judge.ensures c.in_ok-judge.was in
-    rw c.from.ensures (rhythm-done _ (seen c.args.chart) _ c.base.ensures taken made.counts made.filled)
+    let taken = judged-told _ _ _ _ _ c.judge.ensures c.in_ok-judge.was in
+    rw c.from.ensures (rhythm-done _ (seen c.args.chart) _ taken made.counts made.filled)
