@@ -13,6 +13,7 @@ ghost use Rattle.cases_colour.specs.passes.Told.{CallTold};
 use call_colour::StretchMean;
 use grouping_chart::chart::Chart;
 use grouping_chart::refusal::Refusal;
+use grouping_chart::settings;
 use numeric::canonical::bits;
 use vectors::call::Call;
 use vectors::case::Case;
@@ -85,11 +86,12 @@ fn answer_holds(
     ensures { CallTold asked (seen chart.entry)
         (memory value.old work.old scratch.old) (memory value.new work.new scratch.new) result }
 {
+    let base = settings::base();
     match asked {
-        Asked::Colour => call_colour::colour(chart, value, work, scratch).is_ok(),
+        Asked::Colour => call_colour::colour(chart, base, value, work, scratch).is_ok(),
         Asked::Stretched(s) => mean_holds(
             s,
-            call_colour::stretch(chart, s.a, s.b, value, work, scratch),
+            call_colour::stretch(chart, base, s.a, s.b, value, work, scratch),
         ),
     }
 }

@@ -13,6 +13,7 @@ ghost use Rattle.cases_encode.specs.passes.Room.{EncodeBody};
 
 use grouping_chart::chart::Chart;
 use grouping_chart::refusal::Refusal;
+use grouping_chart::settings;
 use vectors::call::Call;
 use vectors::case::{Case, pair_at};
 use vectors::column::Column;
@@ -97,6 +98,7 @@ fn lent_holds(
 {
     let answer = call_encode::encode(
         chart,
+        settings::base(),
         streak,
         streak_place,
         pattern,

@@ -15,6 +15,7 @@ ghost use Rattle.cases_record.specs.Record.{RecordIs, RecordStored, RecordHolds}
 use call_record::GroupRecord;
 use grouping_chart::chart::Chart;
 use grouping_chart::refusal::Refusal;
+use grouping_chart::settings;
 use numeric::canonical::bits;
 use vectors::call::Call;
 use vectors::case::Case;
@@ -89,7 +90,7 @@ fn lent_holds(room: Room, part: &[u8], chart: Chart, work: &mut [u16], scratch: 
 {
     let group = usize::from(case::pair_at(part, 0));
     let window = case::float_of(case::word_at(part, 10));
-    let answer = call_record::record(chart, group, window, work, scratch);
+    let answer = call_record::record(chart, settings::base(), group, window, work, scratch);
     fields_hold(part, answer) && sentinel::work_cleared(room.case.head.objects, work, scratch)
 }
 

@@ -14,6 +14,7 @@ ghost use Rattle.cases_rhythm.specs.passes.Times.{TimesRoom, TimesRead};
 use call_rhythm::GroupTotals;
 use grouping_chart::chart::Chart;
 use grouping_chart::refusal::Refusal;
+use grouping_chart::settings;
 use vectors::call::Call;
 use vectors::case::Case;
 use vectors::column::Column;
@@ -76,7 +77,7 @@ fn lent_holds(
         Tells result (RhythmStored h.objects room.entry.case.bytes.now
         (rhythm_outcome base_settings (seen chart.entry) (memory group.old pattern.old work.old scratch.old))) }
 {
-    let answer = call_rhythm::rhythm(chart, group, pattern, work, scratch);
+    let answer = call_rhythm::rhythm(chart, settings::base(), group, pattern, work, scratch);
     outcome_holds(room, answer, group, pattern, work, scratch)
 }
 
