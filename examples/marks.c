@@ -9,9 +9,10 @@
 
 /* one more than a chart may have, so that a larger one is refused by the library and not cut short here */
 #define MOST (DRESSERDUCK_LARGEST_CHART + 1)
-#define CHART kind, n, start, n, delta, n, ratio, n
+#define CHART kind, n, start, n, delta, n, ratio, n, settings
 #define WORK work, DRESSERDUCK_WORK_PLACES(n), scratch, DRESSERDUCK_SCRATCH_PLACES(n)
 
+static const dresserduck_settings settings = DRESSERDUCK_DEFAULT_SETTINGS;
 static uint8_t kind[MOST], interval[MOST];
 static double start[MOST], delta[MOST], ratio[MOST], value[MOST];
 static uint16_t streak[MOST], streak_place[MOST], pattern[MOST], pattern_place[MOST], hit[MOST];

@@ -10,11 +10,11 @@
  * dresserduck_build makes a chart of raw objects, as an editor holds them: two slices of one length m, from 0 to 16,386. The first
  * two raw objects become no object: n is m - 2, or 0 where m is below 2.
  *
- * A call takes its chart, then plain arguments, then the slices that it is lent: those that it fills with n answers each, and
- * two to work in, `work` and `scratch`. dresserduck_build takes raw objects where the others take the chart, and has no slices to
- * work in. A slice is a pointer and a count of elements, and may be longer than needed where it is lent. A pointer is aligned for its
- * element and not null, also where the count is 0. No slice that is lent overlaps another slice; those of the chart and of the raw
- * objects are only read, and may overlap each other.
+ * A call takes its chart, then the settings, then plain arguments, then the slices that it is lent: those that it fills with n
+ * answers each, and two to work in, `work` and `scratch`. dresserduck_build takes raw objects where the others take the chart, and has
+ * no settings and no slices to work in. A slice is a pointer and a count of elements, and may be longer than needed where it is lent.
+ * A pointer is aligned for its element and not null, also where the count is 0. No slice that is lent overlaps another slice; those of
+ * the chart and of the raw objects are only read, and may overlap each other.
  *
  * Every call answers every input. Either `refusal` is DRESSERDUCK_ACCEPTED: an answer slice has its answers in the first n places,
  * the work slices are left 0 in as many places as they need, and what any slice held past these it still holds. One answer slice may
@@ -48,8 +48,8 @@ enum {
     DRESSERDUCK_LARGEST_RAW_CHART = 16386
 };
 
-/* The refusals. They are tested in this order: 1 to 3 for the call, then 10, then 4 to 7 for one object after another, then 8, 9 and 11.
- * For dresserduck_taps 15 stands between 6 and 7. `place` is the object's number, counted from 0, for 4 to 7 and 15, and 0 for the
+/* The refusals. They are tested in this order: 1 to 3 for the call, then 10 or 16, then 4 to 7 for one object after another, then 8, 9
+ * and 11. For dresserduck_taps 15 stands between 6 and 7. `place` is the object's number, counted from 0, for 4 to 7 and 15, and 0 for the
  * others. For dresserduck_build it is the number of the object that would be built, and 4 to 6 are about that object's kind, start and
  * delta. */
 enum {
@@ -72,8 +72,21 @@ enum {
     DRESSERDUCK_BAD_STRETCH = 9, /* dresserduck_stretch: a >= b or b > n */
     DRESSERDUCK_BAD_GROUP = 9,   /* dresserduck_record: the group's number is not below the number of groups */
     DRESSERDUCK_BAD_RATE = 10,   /* dresserduck_build: the rate lies outside 0.25 to 4.0, or is a NaN */
-    DRESSERDUCK_NO_NOTE = 11     /* dresserduck_stretch: all objects from a to b are NonHits */
+    DRESSERDUCK_NO_NOTE = 11,    /* dresserduck_stretch: all objects from a to b are NonHits */
+    DRESSERDUCK_BAD_SETTINGS = 16 /* all but dresserduck_build: a number of the settings lies outside its range, or is a NaN */
 };
+
+/* The settings: four numbers that every call on a chart takes by value, for the player at hand. Two charts are compared fairly only
+ * under the same ones. */
+typedef struct dresserduck_settings {
+    double margin;         /* how far apart two times may lie and still be near, in milliseconds: from 0.0 to 50.0 */
+    uint64_t search_limit; /* a repetition of a hit pattern is searched less than this many hit patterns back: from 2 to 64 */
+    double threshold;      /* own intervals count as repeated where their quotient is no further from 1: from 0.0 to 1.0 */
+    double tolerance;      /* a ratio counts as that two objects before where their quotient is no further from 1: from 0.0 to 1.0 */
+} dresserduck_settings;
+
+/* The settings of the original, to begin with: `dresserduck_settings s = DRESSERDUCK_DEFAULT_SETTINGS;` */
+#define DRESSERDUCK_DEFAULT_SETTINGS {5.0, 16, 0.1, 0.01}
 
 /* How many places the two work slices need for n objects; a constant where n is one. */
 #define DRESSERDUCK_WORK_PLACES(n) (8 * (size_t)(n))
@@ -126,12 +139,14 @@ typedef struct dresserduck_encoded {
  *   pattern        its alternating pattern
  *   pattern_place  that one's place in its hit pattern
  *   hit            its hit pattern
- *   interval       how many hit patterns back the last one like it was, 1 to 15; 17 for none */
+ *   interval       how many hit patterns back the last one like it was, below the search limit; the limit plus 1 for none. Under the
+ *                  default settings it is 1 to 15, or 17 */
 dresserduck_encoded dresserduck_encode(
     const uint8_t *kind, size_t kind_count,
     const double *start, size_t start_count,
     const double *delta, size_t delta_count,
     const double *ratio, size_t ratio_count,
+    dresserduck_settings settings,
     uint16_t *streak, size_t streak_count,
     uint16_t *streak_place, size_t streak_place_count,
     uint16_t *pattern, size_t pattern_count,
@@ -150,14 +165,15 @@ typedef struct dresserduck_coloured {
 /* Fills per object its colour value, which tells how new the change of colour there is, not how fast it comes: no time enters
  * it, and the tempo is for the host, or for the player's limit, to bring in. Where the colour stays it is 0. In an even rhythm
  * (every ratio 1) a value is at most about 2.99 from the third object on, and at most about 4.98 at the first two. In other
- * rhythms the ratio two objects earlier decides from the fifth object on: a value is at most about 1 after a ratio of 2, and
- * negative after one above 2.5. In an even rhythm alternations of one length score lowest of all that change. Never a NaN or an
- * infinity. */
+ * rhythms, under the default tolerance, the ratio two objects earlier decides from the fifth object on: a value is at most about 1
+ * after a ratio of 2, and negative after one above 2.5. In an even rhythm alternations of one length score lowest of all that
+ * change. Never a NaN or an infinity. */
 dresserduck_coloured dresserduck_colour(
     const uint8_t *kind, size_t kind_count,
     const double *start, size_t start_count,
     const double *delta, size_t delta_count,
     const double *ratio, size_t ratio_count,
+    dresserduck_settings settings,
     double *value, size_t value_count,
     uint16_t *work, size_t work_count,
     double *scratch, size_t scratch_count);
@@ -177,6 +193,7 @@ dresserduck_stretched dresserduck_stretch(
     const double *start, size_t start_count,
     const double *delta, size_t delta_count,
     const double *ratio, size_t ratio_count,
+    dresserduck_settings settings,
     size_t a, size_t b,
     double *value, size_t value_count,
     uint16_t *work, size_t work_count,
@@ -201,14 +218,15 @@ dresserduck_grouped dresserduck_rhythm(
     const double *start, size_t start_count,
     const double *delta, size_t delta_count,
     const double *ratio, size_t ratio_count,
+    dresserduck_settings settings,
     uint16_t *group, size_t group_count,
     uint16_t *pattern, size_t pattern_count,
     uint16_t *work, size_t work_count,
     double *scratch, size_t scratch_count);
 
 /* What is sure of a note and the next one, NonHits between them passed over, whatever deltas inside their ranges they have. They are
- * near where the two deltas differ by at most 5.0; where not, they are a rise if the second is above the first plus 5.0. Both the
- * difference and the sum are rounded to doubles. */
+ * near where the two deltas differ by at most the margin; where not, they are a rise if the second is above the first plus the margin.
+ * Both the difference and the sum are rounded to doubles. */
 enum {
     DRESSERDUCK_NEAR = 0,     /* surely near */
     DRESSERDUCK_RISE = 1,     /* surely a rise */
@@ -237,6 +255,7 @@ dresserduck_tapped dresserduck_taps(
     const double *lowest, size_t lowest_count,
     const double *highest, size_t highest_count,
     const double *ratio, size_t ratio_count,
+    dresserduck_settings settings,
     uint8_t *pair, size_t pair_count,
     uint16_t *group, size_t group_count,
     uint16_t *work, size_t work_count,
@@ -252,7 +271,7 @@ typedef struct dresserduck_recorded {
     uint64_t has_own;            /* 1 where the group has an own interval, which takes two notes; else 0 */
     uint64_t own_bits;           /* the own interval in milliseconds, a whole number; 0 where it is absent */
     uint64_t ratio_bits;         /* own interval over that of the group before; 1.0 where either is absent, NaN for two zeros */
-    uint64_t interval_bits;      /* from the start of the group before; 0.0 within 5 ms, infinity for the first group */
+    uint64_t interval_bits;      /* from the start of the group before; 0.0 within the margin, infinity for the first group */
     uint64_t penalty_bits;       /* a factor: smaller where two of the last groups have nearly one own interval, and for a long group; finite */
     uint64_t pattern_group;      /* the number of its pattern group */
     uint64_t pattern_ratio_bits; /* that one's interval over that of the pattern group before; 1.0 for the first, NaN for two zeros */
@@ -266,6 +285,7 @@ dresserduck_recorded dresserduck_record(
     const double *start, size_t start_count,
     const double *delta, size_t delta_count,
     const double *ratio, size_t ratio_count,
+    dresserduck_settings settings,
     size_t group, double window,
     uint16_t *work, size_t work_count,
     double *scratch, size_t scratch_count);

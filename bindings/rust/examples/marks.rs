@@ -6,7 +6,7 @@ use std::env;
 use std::error::Error;
 use std::io;
 
-use dresserduck::{Chart, Refusal, Stretch, Workspace, CENTER, NON_HIT, RIM};
+use dresserduck::{Chart, Refusal, Settings, Stretch, Workspace, CENTER, NON_HIT, RIM};
 
 #[derive(Default)]
 struct Lists {
@@ -58,12 +58,12 @@ fn told(stretch: Stretch, limit: f64) -> String {
 }
 
 fn print_marks(chart: &Chart, limit: f64) -> Result<(), Refusal> {
-    let mut workspace = Workspace::new();
-    let encoding = workspace.encode(chart)?;
+    let (mut workspace, settings) = (Workspace::new(), Settings::default());
+    let encoding = workspace.encode(chart, settings)?;
     println!("{} hit patterns", encoding.hit_patterns);
     for objects in encoding.hit_pattern_objects() {
         let (a, b) = (objects.start, objects.end);
-        let said = match workspace.stretch(chart, objects) {
+        let said = match workspace.stretch(chart, settings, objects) {
             Err(Refusal::NoNote) => String::from("no note"),
             stretch => told(stretch?, limit),
         };

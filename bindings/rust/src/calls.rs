@@ -1,24 +1,25 @@
 //! The seven calls as the library exports them, for a host that lends memory of its own. A
 //! [`Workspace`](crate::Workspace) and a [`RawChart`] do the same with memory that they make.
 //!
-//! Each call takes a chart, then plain arguments, then the slices that it is lent to fill and to work in; [`taps`]
-//! takes a [`TapChart`], and [`build`] takes a raw chart and has none to work in. It needs n places in each slice for n
-//! objects, and 8n in `work`; slices may be longer. The answer is a record of plain numbers: `refusal` is 0 and the
-//! first n places of each slice are filled, with `work` and `scratch` left 0; or `refusal` is the number of the first
-//! [`Refusal`] that applies, `place` is the object for 4 to 7 and 15 and 0 for the others, every other field is 0, and
-//! every slice is as it was lent. One answer slice may be left as it was where a call is accepted: the groups of
-//! [`taps`].
+//! Each call takes a chart, then [`Settings`], then plain arguments, then the slices that it is lent to fill and to work
+//! in; [`taps`] takes a [`TapChart`], and [`build`] takes a raw chart, no settings, and has no slices to work in. It
+//! needs n places in each slice for n objects, and 8n in `work`; slices may be longer. The answer is a record of plain
+//! numbers: `refusal` is 0 and the first n places of each slice are filled, with `work` and `scratch` left 0; or
+//! `refusal` is the number of the first [`Refusal`] that applies, `place` is the object for 4 to 7 and 15 and 0 for the
+//! others, every other field is 0, and every slice is as it was lent. One answer slice may be left as it was where a
+//! call is accepted: the groups of [`taps`].
 //!
 //! ```
-//! use dresserduck::{calls, Chart};
+//! use dresserduck::{calls, Chart, Settings};
 //!
 //! let chart = Chart::new(&[0, 1], &[0.0, 125.0], &[125.0; 2], &[1.0; 2]);
 //! let (mut value, mut work, mut scratch) = ([0.0; 2], [0; 16], [0.0; 2]);
-//! let answer = calls::colour(&chart, &mut value, &mut work, &mut scratch);
+//! let settings = Settings::default();
+//! let answer = calls::colour(&chart, settings, &mut value, &mut work, &mut scratch);
 //! assert_eq!((answer.refusal, answer.place), (0, 0));
 //! assert!(value[0] > 0.0);
 //!
-//! let answer = calls::colour(&chart, &mut value, &mut work[..15], &mut scratch);
+//! let answer = calls::colour(&chart, settings, &mut value, &mut work[..15], &mut scratch);
 //! assert_eq!(answer.refusal, dresserduck::Refusal::SliceTooShort.number());
 //! ```
 //!
@@ -28,6 +29,7 @@ use crate::chart::Chart;
 use crate::raw_chart::RawChart;
 #[cfg(doc)]
 use crate::refusal::Refusal;
+use crate::settings::Settings;
 use crate::tap_chart::TapChart;
 
 /// What [`build`] answers.
@@ -184,7 +186,7 @@ pub fn build(
 }
 
 /// Declares exports on a chart, and each as a safe function over slices: the chart with its lists beside the kinds, the
-/// arguments that follow it, `;`, the lent slices.
+/// arguments that follow the settings, `;`, the lent slices.
 macro_rules! exports {
     ($(
         $(#[$doc:meta])*
@@ -201,6 +203,7 @@ macro_rules! exports {
                     kind: *const u8,
                     kind_count: usize,
                     $($list: *const f64, _: usize,)*
+                    settings: Settings,
                     $($argument: $type,)*
                     $($slice: *mut $element, _: usize),*
                 ) -> $answer;
@@ -209,7 +212,12 @@ macro_rules! exports {
         $(
             $(#[$doc])*
             #[allow(clippy::too_many_arguments)] // as many as the export has
-            pub fn $name(chart: &$chart, $($argument: $type,)* $($slice: &mut [$element]),*) -> $answer {
+            pub fn $name(
+                chart: &$chart,
+                settings: Settings,
+                $($argument: $type,)*
+                $($slice: &mut [$element]),*
+            ) -> $answer {
                 // SAFETY: each pointer and count is that of one slice, so it is aligned, valid for its count and not
                 // null; the lent slices are borrowed mutably, so they lie apart from all others. The library answers
                 // every input, and reads and writes inside its slices only: both are proved.
@@ -218,6 +226,7 @@ macro_rules! exports {
                         chart.kind.as_ptr(),
                         chart.kind.len(),
                         $(chart.$list.as_ptr(), chart.$list.len(),)*
+                        settings,
                         $($argument,)*
                         $($slice.as_mut_ptr(), $slice.len()),*
                     )

@@ -15,7 +15,7 @@ pub const NON_HIT: u8 = 2;
 /// Nothing is tested here: a call on the chart tells what is wrong with it.
 ///
 /// ```
-/// use dresserduck::{Chart, Refusal, Workspace, CENTER};
+/// use dresserduck::{Chart, Refusal, Settings, Workspace, CENTER};
 ///
 /// let chart = Chart {
 ///     kind: &[CENTER, 3],
@@ -23,7 +23,7 @@ pub const NON_HIT: u8 = 2;
 ///     delta: &[125.0, 125.0],
 ///     ratio: &[1.0, 1.0],
 /// };
-/// let refusal = Workspace::new().colour(&chart).unwrap_err();
+/// let refusal = Workspace::new().colour(&chart, Settings::default()).unwrap_err();
 /// assert_eq!(refusal, Refusal::BadKind { object: 1 });
 /// assert_eq!(refusal.number(), 4);
 /// ```

@@ -3,12 +3,13 @@
 //!
 //! A [`Chart`] borrows four slices. A [`Workspace`] has the memory that the calls work in; it grows as needed and can be
 //! used again and again. Every call answers every chart: with its result, or with the first [`Refusal`] that applies.
+//! [`Settings`] are the four numbers that may be other ones for another player.
 //! A [`RawChart`], of kinds and times as an editor holds them, builds a chart. Of a [`TapChart`], whose deltas are only
 //! known to within ranges, as a foot switch gives them, a call tells whether its rhythm groups are sure. A host that
 //! lends memory of its own finds the same calls in [`calls`].
 //!
 //! ```
-//! use dresserduck::{Chart, Workspace, CENTER, RIM};
+//! use dresserduck::{Chart, Settings, Workspace, CENTER, RIM};
 //!
 //! // d kk dd k, an eighth apart
 //! let kind = [CENTER, RIM, RIM, CENTER, CENTER, RIM];
@@ -16,11 +17,12 @@
 //! let chart = Chart::new(&kind, &start, &[125.0; 6], &[1.0; 6]);
 //!
 //! let mut workspace = Workspace::new();
-//! let encoding = workspace.encode(&chart)?;
+//! let settings = Settings::default();
+//! let encoding = workspace.encode(&chart, settings)?;
 //! assert_eq!(encoding.hit_patterns, 3);
 //! assert_eq!(encoding.interval, [17, 17, 17, 17, 17, 2]);
 //!
-//! let stretch = workspace.stretch(&chart, 1..5)?;
+//! let stretch = workspace.stretch(&chart, settings, 1..5)?;
 //! assert_eq!(stretch.tenths, 14);
 //! # Ok::<(), dresserduck::Refusal>(())
 //! ```
@@ -28,13 +30,13 @@
 //! From an editor, played at three quarters of the speed; the first two objects are only what came before:
 //!
 //! ```
-//! use dresserduck::{RawChart, Workspace};
+//! use dresserduck::{RawChart, Settings, Workspace};
 //!
 //! let raw = RawChart::new(&[0, 0, 0, 1, 1], &[0.0, 75.0, 150.0, 225.0, 375.0], 0.75);
 //! let built = raw.build()?;
 //! assert_eq!(built.delta, [100.0, 100.0, 200.0]);
 //! assert_eq!(built.ratio, [1.0, 1.0, 2.0]);
-//! let values = Workspace::new().colour(&built.chart())?;
+//! let values = Workspace::new().colour(&built.chart(), Settings::default())?;
 //! assert_eq!(values.len(), 3);
 //! # Ok::<(), dresserduck::Refusal>(())
 //! ```
@@ -46,6 +48,7 @@ mod chart;
 mod raw_chart;
 mod refusal;
 mod result;
+mod settings;
 mod tap_chart;
 mod workspace;
 
@@ -53,5 +56,6 @@ pub use chart::{Chart, CENTER, LARGEST_CHART, NON_HIT, RIM};
 pub use raw_chart::{BuiltChart, RawChart, LARGEST_RAW_CHART};
 pub use refusal::Refusal;
 pub use result::{Encoding, GroupRecord, PairClass, Rhythm, Stretch, Taps, NO_GROUP, NO_PAIR};
+pub use settings::Settings;
 pub use tap_chart::TapChart;
 pub use workspace::Workspace;

@@ -4,14 +4,14 @@ use std::error::Error;
 use std::fmt;
 
 /// The first refusal that applies. The first three are the host programmer's, the next four and 15 the chart writer's,
-/// the others the player's settings'. They are tested in the order of their numbers, but 10 before 4, and 15 between 6
-/// and 7.
+/// the others the player's settings'. They are tested in the order of their numbers, but 10 and 16 before 4, and 15
+/// between 6 and 7.
 ///
 /// ```
-/// use dresserduck::{Chart, Workspace};
+/// use dresserduck::{Chart, Settings, Workspace};
 ///
 /// let chart = Chart::new(&[0], &[0.0], &[f64::NAN], &[1.0]);
-/// let refusal = Workspace::new().encode(&chart).unwrap_err();
+/// let refusal = Workspace::new().encode(&chart, Settings::default()).unwrap_err();
 /// assert_eq!((refusal.number(), refusal.object()), (6, Some(0)));
 /// println!("{refusal}");
 /// ```
@@ -58,6 +58,8 @@ pub enum Refusal {
         /// its number, counted from 0
         object: usize,
     },
+    /// 16: a number of the [`Settings`](crate::Settings) lies outside its range, or is a NaN.
+    BadSettings,
 }
 
 impl Refusal {
@@ -76,6 +78,7 @@ impl Refusal {
             Refusal::BadRate => 10,
             Refusal::NoNote => 11,
             Refusal::LowestAboveHighest { .. } => 15,
+            Refusal::BadSettings => 16,
         }
     }
 
@@ -108,6 +111,7 @@ impl Refusal {
             10 => Some(Refusal::BadRate),
             11 => Some(Refusal::NoNote),
             15 => Some(Refusal::LowestAboveHighest { object }),
+            16 => Some(Refusal::BadSettings),
             _ => unreachable!("the library has no refusal {number}"),
         }
     }
@@ -145,6 +149,10 @@ impl fmt::Display for Refusal {
             Refusal::NoNote => "The passage that was asked for has no note, only rolls and swells.",
             Refusal::LowestAboveHighest { .. } => {
                 "has a lowest delta that is above its highest."
+            }
+            Refusal::BadSettings => {
+                "The margin in the settings is not from 0 to 50 milliseconds, the search limit not from 2 to 64, \
+                 or the threshold or the tolerance not from 0 to 1."
             }
         })
     }

@@ -17,7 +17,7 @@ pub struct Encoding {
     pub pattern_place: Vec<u16>,
     /// each object's hit pattern
     pub hit: Vec<u16>,
-    /// how many hit patterns back the last one like it was, 1 to 15; 17 for none
+    /// how many hit patterns back the last one like it was, below the search limit; the limit plus 1 for none
     pub interval: Vec<u8>,
 }
 
@@ -25,10 +25,10 @@ impl Encoding {
     /// The objects of each hit pattern, in order.
     ///
     /// ```
-    /// use dresserduck::{Chart, Workspace};
+    /// use dresserduck::{Chart, Settings, Workspace};
     ///
     /// let chart = Chart::new(&[0, 0, 1], &[0.0; 3], &[125.0; 3], &[1.0; 3]);
-    /// let encoding = Workspace::new().encode(&chart)?;
+    /// let encoding = Workspace::new().encode(&chart, Settings::default())?;
     /// assert!(encoding.hit_pattern_objects().eq([0..2, 2..3]));
     /// # Ok::<(), dresserduck::Refusal>(())
     /// ```
@@ -84,8 +84,8 @@ impl Rhythm {
 
 /// What is sure of a note and the next one, whatever deltas inside their ranges they have.
 ///
-/// Two notes are near where their deltas differ by at most 5.0. Where they are not, they are a rise if the second delta
-/// is above the first plus 5.0. Both the difference and the sum are rounded to an f64.
+/// Two notes are near where their deltas differ by at most the margin. Where they are not, they are a rise if the second
+/// delta is above the first plus the margin. Both the difference and the sum are rounded to an f64.
 #[derive(Clone, Copy, Debug, PartialEq, Eq, Hash)]
 pub enum PairClass {
     /// 0: surely near
@@ -153,7 +153,7 @@ pub struct GroupRecord {
     pub own_interval: Option<f64>,
     /// own interval over that of the group before; 1.0 where either is absent. Two zeros give a NaN.
     pub ratio: f64,
-    /// from the start of the group before; 0.0 within 5 ms, infinity for the first group
+    /// from the start of the group before; 0.0 within the margin, infinity for the first group
     pub interval: f64,
     /// a factor: smaller where an own interval came a few groups before, and for a long group; finite
     pub penalty: f64,

@@ -6,7 +6,7 @@
 /// Nothing is tested here: [`Workspace::taps`](crate::Workspace::taps) tells what is wrong with it.
 ///
 /// ```
-/// use dresserduck::{Refusal, TapChart, Workspace, CENTER, RIM};
+/// use dresserduck::{Refusal, Settings, TapChart, Workspace, CENTER, RIM};
 ///
 /// let chart = TapChart {
 ///     kind: &[CENTER, RIM],
@@ -15,7 +15,7 @@
 ///     highest: &[127.0, 123.0],
 ///     ratio: &[1.0, 1.0],
 /// };
-/// let refusal = Workspace::new().taps(&chart).unwrap_err();
+/// let refusal = Workspace::new().taps(&chart, Settings::default()).unwrap_err();
 /// assert_eq!(refusal, Refusal::LowestAboveHighest { object: 1 });
 /// assert_eq!(refusal.number(), 15);
 /// ```

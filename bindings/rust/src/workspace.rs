@@ -6,19 +6,21 @@ use crate::calls;
 use crate::chart::{Chart, LARGEST_CHART};
 use crate::refusal::Refusal;
 use crate::result::{Encoding, GroupRecord, Rhythm, Stretch, Taps};
+use crate::settings::Settings;
 use crate::tap_chart::TapChart;
 
 /// The two work slices, and room for the colour values of a stretch. They grow to the largest chart that was asked
 /// about, and are kept for the next call.
 ///
 /// ```
-/// use dresserduck::{Chart, Refusal, Workspace};
+/// use dresserduck::{Chart, Refusal, Settings, Workspace};
 ///
 /// let mut workspace = Workspace::new();
 /// let mut values = Vec::new(); // its memory too is used again
 /// for kind in [&[0, 1][..], &[1; 300], &[]] {
 ///     let (times, ratio) = (vec![125.0; kind.len()], vec![1.0; kind.len()]);
-///     workspace.colour_into(&Chart::new(kind, &times, &times, &ratio), &mut values)?;
+///     let chart = Chart::new(kind, &times, &times, &ratio);
+///     workspace.colour_into(&chart, Settings::default(), &mut values)?;
 ///     assert_eq!(values.len(), kind.len());
 /// }
 /// # Ok::<(), Refusal>(())
@@ -57,14 +59,19 @@ impl Workspace {
     }
 
     /// Streaks, alternating patterns, hit patterns and their repetition intervals.
-    pub fn encode(&mut self, chart: &Chart) -> Result<Encoding, Refusal> {
+    pub fn encode(&mut self, chart: &Chart, settings: Settings) -> Result<Encoding, Refusal> {
         let mut encoding = Encoding::default();
-        self.encode_into(chart, &mut encoding)?;
+        self.encode_into(chart, settings, &mut encoding)?;
         Ok(encoding)
     }
 
     /// The same into an encoding whose memory is used again. What it holds after a refusal is of no use.
-    pub fn encode_into(&mut self, chart: &Chart, out: &mut Encoding) -> Result<(), Refusal> {
+    pub fn encode_into(
+        &mut self,
+        chart: &Chart,
+        settings: Settings,
+        out: &mut Encoding,
+    ) -> Result<(), Refusal> {
         let n = chart.len();
         self.grow(n);
         for numbers in [
@@ -79,6 +86,7 @@ impl Workspace {
         room(&mut out.interval, n);
         let answer = calls::encode(
             chart,
+            settings,
             &mut out.streak,
             &mut out.streak_place,
             &mut out.pattern,
@@ -94,40 +102,51 @@ impl Workspace {
     }
 
     /// Each object's colour value: how new the change of colour at it is, not how fast. Never a NaN or an infinity.
-    pub fn colour(&mut self, chart: &Chart) -> Result<Vec<f64>, Refusal> {
+    pub fn colour(&mut self, chart: &Chart, settings: Settings) -> Result<Vec<f64>, Refusal> {
         let mut values = Vec::new();
-        self.colour_into(chart, &mut values)?;
+        self.colour_into(chart, settings, &mut values)?;
         Ok(values)
     }
 
     /// The same into a list whose memory is used again. What it holds after a refusal is of no use.
-    pub fn colour_into(&mut self, chart: &Chart, values: &mut Vec<f64>) -> Result<(), Refusal> {
+    pub fn colour_into(
+        &mut self,
+        chart: &Chart,
+        settings: Settings,
+        values: &mut Vec<f64>,
+    ) -> Result<(), Refusal> {
         self.grow(chart.len());
         room(values, chart.len());
-        let answer = calls::colour(chart, values, &mut self.work, &mut self.scratch);
+        let answer = calls::colour(chart, settings, values, &mut self.work, &mut self.scratch);
         accepted(answer.refusal, answer.place)
     }
 
     /// The mean of the colour values of the notes among some objects. A NonHit there counts for nothing.
     ///
     /// ```
-    /// use dresserduck::{Chart, Refusal, Workspace};
+    /// use dresserduck::{Chart, Refusal, Settings, Workspace};
     ///
     /// // d, a roll, k
     /// let chart = Chart::new(&[0, 2, 1], &[0.0, 125.0, 250.0], &[125.0; 3], &[1.0; 3]);
-    /// let mut workspace = Workspace::new();
-    /// let values = workspace.colour(&chart)?;
-    /// assert_eq!(workspace.stretch(&chart, 0..3)?.mean, (values[0] + values[2]) / 2.0);
-    /// assert_eq!(workspace.stretch(&chart, 1..2), Err(Refusal::NoNote));
-    /// assert_eq!(workspace.stretch(&chart, 0..4), Err(Refusal::OutsideChart));
+    /// let (mut workspace, settings) = (Workspace::new(), Settings::default());
+    /// let values = workspace.colour(&chart, settings)?;
+    /// assert_eq!(workspace.stretch(&chart, settings, 0..3)?.mean, (values[0] + values[2]) / 2.0);
+    /// assert_eq!(workspace.stretch(&chart, settings, 1..2), Err(Refusal::NoNote));
+    /// assert_eq!(workspace.stretch(&chart, settings, 0..4), Err(Refusal::OutsideChart));
     /// # Ok::<(), Refusal>(())
     /// ```
-    pub fn stretch(&mut self, chart: &Chart, objects: Range<usize>) -> Result<Stretch, Refusal> {
+    pub fn stretch(
+        &mut self,
+        chart: &Chart,
+        settings: Settings,
+        objects: Range<usize>,
+    ) -> Result<Stretch, Refusal> {
         self.grow(chart.len());
         room(&mut self.values, chart.len());
         let Range { start, end } = objects;
         let answer = calls::stretch(
             chart,
+            settings,
             start,
             end,
             &mut self.values,
@@ -144,29 +163,35 @@ impl Workspace {
     /// Rhythm groups and pattern groups.
     ///
     /// ```
-    /// use dresserduck::{Chart, Workspace};
+    /// use dresserduck::{Chart, Settings, Workspace};
     ///
     /// // two notes at 100 ms, a NonHit, and a note at 200 ms
     /// let (start, delta) = ([0.0, 100.0, 150.0, 300.0], [100.0, 100.0, 50.0, 200.0]);
     /// let chart = Chart::new(&[0, 0, 2, 1], &start, &delta, &[1.0; 4]);
-    /// let rhythm = Workspace::new().rhythm(&chart)?;
+    /// let rhythm = Workspace::new().rhythm(&chart, Settings::default())?;
     /// assert_eq!(rhythm.groups, 2);
     /// assert_eq!([0, 1, 2, 3].map(|i| rhythm.group(i)), [Some(0), Some(0), None, Some(1)]);
     /// # Ok::<(), dresserduck::Refusal>(())
     /// ```
-    pub fn rhythm(&mut self, chart: &Chart) -> Result<Rhythm, Refusal> {
+    pub fn rhythm(&mut self, chart: &Chart, settings: Settings) -> Result<Rhythm, Refusal> {
         let mut rhythm = Rhythm::default();
-        self.rhythm_into(chart, &mut rhythm)?;
+        self.rhythm_into(chart, settings, &mut rhythm)?;
         Ok(rhythm)
     }
 
     /// The same into a rhythm whose memory is used again. What it holds after a refusal is of no use.
-    pub fn rhythm_into(&mut self, chart: &Chart, out: &mut Rhythm) -> Result<(), Refusal> {
+    pub fn rhythm_into(
+        &mut self,
+        chart: &Chart,
+        settings: Settings,
+        out: &mut Rhythm,
+    ) -> Result<(), Refusal> {
         self.grow(chart.len());
         room(&mut out.group, chart.len());
         room(&mut out.pattern_group, chart.len());
         let answer = calls::rhythm(
             chart,
+            settings,
             &mut out.group,
             &mut out.pattern_group,
             &mut self.work,
@@ -185,13 +210,14 @@ impl Workspace {
     /// looked at, unless it is the last, at which it always looks.
     ///
     /// ```
-    /// use dresserduck::{PairClass, TapChart, Workspace};
+    /// use dresserduck::{PairClass, Settings, TapChart, Workspace};
     ///
     /// // three taps 100 ms apart and one at 200, each within 1 ms
     /// let (kind, start) = ([0, 0, 0, 1], [100.0, 200.0, 300.0, 500.0]);
     /// let (lowest, highest) = ([99.0, 99.0, 99.0, 199.0], [101.0, 101.0, 101.0, 201.0]);
-    /// let mut workspace = Workspace::new();
-    /// let taps = workspace.taps(&TapChart::new(&kind, &start, &lowest, &highest, &[1.0; 4]))?;
+    /// let (mut workspace, settings) = (Workspace::new(), Settings::default());
+    /// let chart = TapChart::new(&kind, &start, &lowest, &highest, &[1.0; 4]);
+    /// let taps = workspace.taps(&chart, settings)?;
     /// let classes = [0, 1, 2, 3].map(|i| taps.pair(i));
     /// let [near, rise] = [PairClass::Near, PairClass::Rise].map(Some);
     /// assert_eq!(classes, [near, near, rise, None]);
@@ -200,24 +226,31 @@ impl Workspace {
     ///
     /// // all at 100 ms, but only within 3 ms: two of them may be 6 ms apart
     /// let (lowest, highest) = ([97.0; 4], [103.0; 4]);
-    /// let taps = workspace.taps(&TapChart::new(&kind, &start, &lowest, &highest, &[1.0; 4]))?;
+    /// let chart = TapChart::new(&kind, &start, &lowest, &highest, &[1.0; 4]);
+    /// let taps = workspace.taps(&chart, settings)?;
     /// assert_eq!(taps.pair(0), Some(PairClass::Open));
     /// assert_eq!((taps.groups, taps.group(0)), (None, None));
     /// # Ok::<(), dresserduck::Refusal>(())
     /// ```
-    pub fn taps(&mut self, chart: &TapChart) -> Result<Taps, Refusal> {
+    pub fn taps(&mut self, chart: &TapChart, settings: Settings) -> Result<Taps, Refusal> {
         let mut taps = Taps::default();
-        self.taps_into(chart, &mut taps)?;
+        self.taps_into(chart, settings, &mut taps)?;
         Ok(taps)
     }
 
     /// The same into taps whose memory is used again. What they hold after a refusal is of no use.
-    pub fn taps_into(&mut self, chart: &TapChart, out: &mut Taps) -> Result<(), Refusal> {
+    pub fn taps_into(
+        &mut self,
+        chart: &TapChart,
+        settings: Settings,
+        out: &mut Taps,
+    ) -> Result<(), Refusal> {
         self.grow(chart.len());
         room(&mut out.pair, chart.len());
         room(&mut out.group, chart.len());
         let answer = calls::taps(
             chart,
+            settings,
             &mut out.pair,
             &mut out.group,
             &mut self.work,
@@ -235,10 +268,10 @@ impl Workspace {
     /// One rhythm group, by its number. The window is the hit window in milliseconds, from 1.0 to 1,000.0.
     ///
     /// ```
-    /// use dresserduck::{Chart, Workspace};
+    /// use dresserduck::{Chart, Settings, Workspace};
     ///
     /// let chart = Chart::new(&[0; 3], &[0.0, 105.0, 210.0], &[100.0, 105.0, 105.0], &[1.0; 3]);
-    /// let record = Workspace::new().record(&chart, 0, 50.0)?;
+    /// let record = Workspace::new().record(&chart, Settings::default(), 0, 50.0)?;
     /// assert_eq!((record.first_note, record.note_count), (0, 3));
     /// assert_eq!(record.own_interval, Some(102.0));
     /// # Ok::<(), dresserduck::Refusal>(())
@@ -246,11 +279,19 @@ impl Workspace {
     pub fn record(
         &mut self,
         chart: &Chart,
+        settings: Settings,
         group: usize,
         window: f64,
     ) -> Result<GroupRecord, Refusal> {
         self.grow(chart.len());
-        let answer = calls::record(chart, group, window, &mut self.work, &mut self.scratch);
+        let answer = calls::record(
+            chart,
+            settings,
+            group,
+            window,
+            &mut self.work,
+            &mut self.scratch,
+        );
         accepted(answer.refusal, answer.place)?;
         Ok(GroupRecord {
             first_note: answer.first_note as usize,
