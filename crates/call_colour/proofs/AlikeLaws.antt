@@ -31,11 +31,11 @@ module _ (s : Settings) (c c' : Chart) (a b a' b' : ℕ) (x : StretchLies c.kind
 
   values-alike : from_to a b (values_of s c) ≡ from_to a' b' (values_of s c')
   values-alike =
-      let l = length-values s.limit s.tolerance c.kinds c.ratios in
-      let l' = length-values s.limit s.tolerance c'.kinds c'.ratios in
+      let l = length-values s.search_limit s.tolerance c.kinds c.ratios in
+      let l' = length-values s.search_limit s.tolerance c'.kinds c'.ratios in
       part-alike nan a a' (b - a) (values_of s c) (values_of s c') (omega (arith, end, l)) (omega (arith, end', l'))
-      (λ i h. value_of s.limit s.tolerance c.kinds c.ratios (a + i) (omega (arith, end)) ∙ values i h
-      ∙ sym (value_of s.limit s.tolerance c'.kinds c'.ratios (a' + i) (omega (arith, end'))))
+      (λ i h. value_of s.search_limit s.tolerance c.kinds c.ratios (a + i) (omega (arith, end)) ∙ values i h
+      ∙ sym (value_of s.search_limit s.tolerance c'.kinds c'.ratios (a' + i) (omega (arith, end'))))
       ∙ ap (λ (n : ℕ). part a' n (values_of s c')) equal
 
   pub good_alike : GoodStretch c'.kinds a' b'

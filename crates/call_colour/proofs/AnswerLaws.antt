@@ -20,7 +20,7 @@ module _ (s : Settings) (c : Chart) (lent : Memory) (good : judged s c lent ≡ 
   unfolding filled
   value-written i h =
       rw (← colour-done s c lent good refl)
-      (get_or-over (values_of s c) lent.value i nan (omega (arith, length-values s.limit s.tolerance c.kinds c.ratios)))
+      (get_or-over (values_of s c) lent.value i nan (omega (arith, length-values s.search_limit s.tolerance c.kinds c.ratios)))
 
   pub stretch-answered : (a b : ℕ) → GoodStretch c.kinds a b
       → (stretch_outcome s c a b lent).answer ≡ Ok (stretch_mean (chart_mean s c a b) (chart_tenths s c a b))

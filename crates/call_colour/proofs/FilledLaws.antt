@@ -13,7 +13,7 @@ use Rattle.evaluator_values.specs.Colour.{colour_values}
 use Rattle.call_colour.specs.Call.{Memory, memory, filled}
 
 pub filled_is : (s : Settings) {kinds w work : List ℕ} {k : Levels} {value scratch : List Float} (ratios : List Float) (m : Memory)
-    → Tables s.limit kinds m.work w k
+    → Tables s.search_limit kinds m.work w k
     → value ≡ over (colour_values k.limit s.tolerance kinds ratios) m.value
     → work ≡ over (replicate (8 * length kinds) 0) w
     → scratch ≡ over (replicate (length kinds) (of_bits binary64 0)) m.scratch

@@ -34,7 +34,7 @@ module _ {s : Settings} {c : Chart} {m : Memory} {a b : ℕ} {new : Memory} (x :
   values = values_of s c
 
   long : length values ≡ size c
-  long = length-values s.limit s.tolerance c.kinds c.ratios
+  long = length-values s.search_limit s.tolerance c.kinds c.ratios
 
   lies : StretchLies c.kinds a b
   lies = good_lies c.kinds a b x.good

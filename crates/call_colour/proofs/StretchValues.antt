@@ -20,7 +20,7 @@ use Rattle.call_colour.proofs.StretchCases.{StretchLies}
 
 -- object i's value
 abbrev pub value_at : Settings → Chart → ℕ → Float
-value_at s c i = colour_at s.limit s.tolerance c.kinds c.ratios i
+value_at s c i = colour_at s.search_limit s.tolerance c.kinds c.ratios i
 
 module _ (s : Settings) (c : Chart) (a b : ℕ) (x : StretchLies c.kinds a b) where
   -- the kinds and the values of all its objects
@@ -35,7 +35,7 @@ module _ (s : Settings) (c : Chart) (a b : ℕ) (x : StretchLies c.kinds a b) wh
 
   length_all : length values ≡ b - a
   length_all =
-      length-part a (b - a) (values_of s c) (omega (arith, x.some, x.inside, length-values s.limit s.tolerance c.kinds c.ratios))
+      length-part a (b - a) (values_of s c) (omega (arith, x.some, x.inside, length-values s.search_limit s.tolerance c.kinds c.ratios))
 
   equally_many : length values ≡ length kinds
   equally_many = length_all ∙ sym length-kinds

@@ -33,7 +33,7 @@ judged s c m = judged_by s c (answer_lengths m) m.work m.scratch
 -- the memory after an accepted call, by the chart's kinds and ratios
 unfoldable pub filled : Settings → List ℕ → List Float → Memory → Memory
 filled s kinds ratios m = record {
-  value = over (colour_values s.limit s.tolerance kinds ratios) m.value;
+  value = over (colour_values s.search_limit s.tolerance kinds ratios) m.value;
   work = cleared_work (length kinds) m.work;
   scratch = cleared_scratch (length kinds) m.scratch;
 }

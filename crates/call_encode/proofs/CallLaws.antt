@@ -49,7 +49,7 @@ module _ (s : Settings) (c : Chart) (m : Memory) where
   done-outcome h e f = answered-done _ _ m h (λ t. outcome (Ok (e t)) (f t))
 
   -- the memory that the passes leave is the definition's
-  pub filled_is : {new : Memory} {scratch : List Float} → new ≡ encoded_kinds s.limit c.kinds (with_scratch m [])
+  pub filled_is : {new : Memory} {scratch : List Float} → new ≡ encoded_kinds s.search_limit c.kinds (with_scratch m [])
       → scratch ≡ over (replicate (size c) (of_bits binary64 0)) m.scratch → with_scratch new scratch ≡ filled s c m
   unfolding filled encoded_kinds
   filled_is e f t = with_scratch (e t) (f t)
@@ -58,7 +58,7 @@ module _ (s : Settings) (c : Chart) (m : Memory) where
   pub limit_small : judged s c m ≡ accepted → InRanges s
   limit_small h = in_ranges (accommodated s c (answer_lengths m) _ _ h).permitted
 
-  pub kinds_room : judged s c m ≡ accepted → KindsRoom (size c) s.limit (with_scratch m [])
+  pub kinds_room : judged s c m ≡ accepted → KindsRoom (size c) s.search_limit (with_scratch m [])
   kinds_room h =
       let r = accommodated s c (answer_lengths m) _ _ h in
       record {
@@ -85,7 +85,7 @@ module _ (s : Settings) (c : Chart) (lent : Memory) (good : judged s c lent ≡ 
   unfolding filled encoded_kinds
   hit-written i h = rw left (get_or-over (hit_of c.kinds) lent.hit i 0 (omega (arith, length-hit_of c.kinds)))
 
-  pub interval-written : (i : ℕ) → i < size c → get_or (encode_outcome s c lent).memory.interval i 0 ≡ get_or (interval_of s.limit c.kinds) i 0
+  pub interval-written : (i : ℕ) → i < size c → get_or (encode_outcome s c lent).memory.interval i 0 ≡ get_or (interval_of s.search_limit c.kinds) i 0
   unfolding filled encoded_kinds
   interval-written i h =
-      rw left (get_or-over (interval_of s.limit c.kinds) lent.interval i 0 (omega (arith, length-interval_of c.kinds s.limit)))
+      rw left (get_or-over (interval_of s.search_limit c.kinds) lent.interval i 0 (omega (arith, length-interval_of c.kinds s.search_limit)))

@@ -73,7 +73,7 @@ kinds_memory streak streak_place pattern pattern_place hit interval work =
 
 -- the memory after an accepted call: encoded, and +0.0 in the first n places of the scratch slice
 unfoldable pub filled : Settings → Chart → Memory → Memory
-filled s c m = with_scratch (encoded_kinds s.limit c.kinds m) (cleared_scratch (size c) m.scratch)
+filled s c m = with_scratch (encoded_kinds s.search_limit c.kinds m) (cleared_scratch (size c) m.scratch)
 
 -- the number of hit patterns, or the first refusal that applies
 unfoldable pub encode_outcome : Settings → Chart → Memory → Outcome (Result ℕ Refusal) Memory

@@ -112,7 +112,7 @@ pub fn encode(
     // by `as`: a set's limit is a u64 by its type, of which fewer bits would ask more, and that it fits is known, so
     // that TryFrom's Err can't come
     let limit = SearchLimit {
-        value: s.limit as u16,
+        value: s.search_limit as u16,
     };
     let hits = encode_kinds(
         chart.kind,

@@ -26,10 +26,10 @@ abbrev pub largest_colour : ℕ
 largest_colour = 83886085
 
 value_is : (s : Settings) (c : Chart) (i : ℕ) → i < size c
-    → get_or (values_of s c) i nan ≡ mul binary64 (object_sum (standing_at s.limit c.kinds i))
+    → get_or (values_of s c) i nan ≡ mul binary64 (object_sum (standing_at s.search_limit c.kinds i))
     (ratio_penalty s.tolerance i (get_or c.ratios i nan) (get_or c.ratios (i - 2) nan))
 unfolding colour_at
-value_is s c i h = value_of s.limit s.tolerance c.kinds c.ratios i h
+value_is s c i h = value_of s.search_limit s.tolerance c.kinds c.ratios i h
 
 ratio_at_lem : {c : Chart} {beside : Check} → GoodChart c beside → (i : ℕ) → i < size c
     → T (le least_ratio (get_or c.ratios i nan)) × T (le (get_or c.ratios i nan) greatest_ratio)
@@ -43,7 +43,7 @@ module _ (s : Settings) (c : Chart) (beside : Check) (good : verdict c beside �
       let p = ratio_at_lem objects (i - 2) (omega arith) in
       rw (value_is s c i h)
       (formulas.colour_bounded s.tolerance i (get_or c.ratios i nan) (get_or c.ratios (i - 2) nan) r.0 r.1 p.0 p.1
-      (standing_at s.limit c.kinds i))
+      (standing_at s.search_limit c.kinds i))
 
   pub value_number : (i : ℕ) → i < size c → Number (get_or (values_of s c) i nan)
   value_number i h =

@@ -38,4 +38,4 @@ colour_values limit tolerance kinds ratios = tabulate (colour_at limit tolerance
 
 -- the colour values of a chart
 abbrev pub values_of : Settings → Chart → List Float
-values_of s c = colour_values s.limit s.tolerance c.kinds c.ratios
+values_of s c = colour_values s.search_limit s.tolerance c.kinds c.ratios

@@ -16,8 +16,8 @@ use Rattle.grouping_chart.proofs.AcceptedLaws.{test_passed}
 -- each number lies in its range
 pub record InRanges (s : Settings) : Type 0 where
   pub margin : T (within zero64 fifty64 s.margin)
-  pub least : 2 ≤ s.limit
-  pub most : s.limit ≤ 64
+  pub least : 2 ≤ s.search_limit
+  pub most : s.search_limit ≤ 64
   pub threshold : T (within zero64 one64 s.threshold)
   pub tolerance : T (within zero64 one64 s.tolerance)
 
@@ -30,8 +30,8 @@ in_ranges {s} p =
     let scores = and_parts _ _ rest.1 in
     record {
       margin = passes _ all.0;
-      least = leb-true 2 s.limit limit.0;
-      most = leb-true s.limit 64 limit.1;
+      least = leb-true 2 s.search_limit limit.0;
+      most = leb-true s.search_limit 64 limit.1;
       threshold = passes _ scores.0;
       tolerance = passes _ scores.1;
     }
@@ -40,7 +40,7 @@ in_ranges {s} p =
 
 pub base_is : ◌≡◌ {A = Settings} base_settings (record {
   margin = fin false 5 (pos 0);
-  limit = 16;
+  search_limit = 16;
   threshold = round binary64 false 1 10;
   tolerance = round binary64 false 1 100;
 })

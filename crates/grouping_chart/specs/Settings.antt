@@ -10,10 +10,10 @@ use Rattle.grouping_chart.specs.Refusal.{Check, passed}
 use Rattle.grouping_chart.specs.declared.refusal.Reason.TheVariants.{BadSettings}
 use Rattle.grouping_chart.specs.declared.settings.Settings as declared
 
--- margin: how far apart two times may lie and still be near, in milliseconds. limit: a hit pattern is compared with
--- those less than this far back, and the interval of one that is like none of these is the limit plus 1. threshold: two
--- own intervals count as repeated where their quotient differs from 1.0 by no more. tolerance: an object's
--- ratio counts as that of the object two before it where their quotient differs from 1.0 by no more
+-- margin: how far apart two times may lie and still be near, in milliseconds. search_limit: a hit pattern is compared
+-- with those less than this far back, and the interval of one that is like none of these is the limit plus 1.
+-- threshold: two own intervals count as repeated where their quotient differs from 1.0 by no more. tolerance: an
+-- object's ratio counts as that of the object two before it where their quotient differs from 1.0 by no more
 abbrev pub Settings : Type 0
 Settings = declared.Settings
 
@@ -21,7 +21,7 @@ Settings = declared.Settings
 abbrev pub base_settings : Settings
 base_settings = record {
   margin = of_bits binary64 0x4014_0000_0000_0000;
-  limit = 16;
+  search_limit = 16;
   threshold = of_bits binary64 0x3fb9_9999_9999_999a;
   tolerance = of_bits binary64 0x3f84_7ae1_47ae_147b;
 }
@@ -33,7 +33,8 @@ fifty64 = fin false 25 (pos 1)
 unfoldable pub settings_good : Settings → Bool
 settings_good s =
     within zero64 fifty64 s.margin
-    && ((leb 2 s.limit && leb s.limit 64) && (within zero64 one64 s.threshold && within zero64 one64 s.tolerance))
+    && ((leb 2 s.search_limit && leb s.search_limit 64)
+    && (within zero64 one64 s.threshold && within zero64 one64 s.tolerance))
 
 unfoldable pub settings_refusal : Settings → Check
 settings_refusal s = cond (settings_good s) passed (Err BadSettings)

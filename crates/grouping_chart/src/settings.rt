@@ -14,7 +14,7 @@ pub const SEARCH_LIMIT: u16 = 16;
 #[derive(Clone, Copy)]
 pub struct Settings {
     pub margin: f64,
-    pub limit: u64,
+    pub search_limit: u64,
     pub threshold: f64,
     pub tolerance: f64,
 }
@@ -25,7 +25,7 @@ pub fn base() -> Settings
 {
     Settings {
         margin: 5.0,
-        limit: u64::from(SEARCH_LIMIT),
+        search_limit: u64::from(SEARCH_LIMIT),
         threshold: 0.1,
         tolerance: 0.01,
     }
@@ -37,7 +37,7 @@ fn settings_good(s: Settings) -> bool
     ensures { result ≡ settings_good s }
 {
     let margin = range::is_within(0.0, 50.0, s.margin);
-    let limit = (2 <= s.limit) & (s.limit <= 64);
+    let limit = (2 <= s.search_limit) & (s.search_limit <= 64);
     let threshold = range::is_within(0.0, 1.0, s.threshold);
     let tolerance = range::is_within(0.0, 1.0, s.tolerance);
     margin & (limit & (threshold & tolerance))

@@ -43,11 +43,11 @@ lent kinds new =
       intervals = take n new.interval;
     }
 
-module _ (kinds : List ℕ) (old : Memory) {new : Memory} (x : new ≡ encoded_kinds base_settings.limit kinds old) where
+module _ (kinds : List ℕ) (old : Memory) {new : Memory} (x : new ≡ encoded_kinds base_settings.search_limit kinds old) where
   pub lent-columns : columns kinds ≡ lent kinds new
   unfolding columns
   lent-columns =
-      let limit : ℕ = base_settings.limit in
+      let limit : ℕ = base_settings.search_limit in
       rw (x, streaks_front limit kinds old, patterns_front limit kinds old, hits_front limit kinds old, intervals_front limit kinds old)
 
   pub lines_fit : length kinds ≤ most_objects → LinesFit (lent kinds new) 0 5120

@@ -17,7 +17,7 @@ columns kinds = record {
   streaks = streak_of kinds;
   patterns = alternating_of kinds;
   hits = hit_of kinds;
-  intervals = interval_of base_settings.limit kinds;
+  intervals = interval_of base_settings.search_limit kinds;
 }
 
 -- what is printed for what an input is

@@ -40,16 +40,16 @@ module _ (c : Chart) {p before : ℕ} (x : HitsCut c.kinds p before) where
 
 -- ---- two charts that agree
 
-module _ (s : Settings) (c c' : Chart) {a g b h : ℕ} (r : Agree s.limit c.kinds a g c'.kinds b h) where
+module _ (s : Settings) (c c' : Chart) {a g b h : ℕ} (r : Agree s.search_limit c.kinds a g c'.kinds b h) where
   hit-agree : (i i' : ℕ) → a ≤ i → Counterparts (size c) (size c') i i' → i < size c → get_or (hit_of c.kinds) i 0 + h ≡ get_or (hit_of c'.kinds) i' 0 + g
   hit-agree = at_counterparts r (λ (i i' : ℕ). i < size c → get_or (hit_of c.kinds) i 0 + h ≡ get_or (hit_of c'.kinds) i' 0 + g) r.hit
 
-  interval-agree : (i i' : ℕ) → a ≤ i → Counterparts (size c) (size c') i i' → i < size c → g + s.limit ≤ get_or (hit_of c.kinds) i 0 + 1
-      → get_or (interval_of s.limit c.kinds) i 0 ≡ get_or (interval_of s.limit c'.kinds) i' 0
+  interval-agree : (i i' : ℕ) → a ≤ i → Counterparts (size c) (size c') i i' → i < size c → g + s.search_limit ≤ get_or (hit_of c.kinds) i 0 + 1
+      → get_or (interval_of s.search_limit c.kinds) i 0 ≡ get_or (interval_of s.search_limit c'.kinds) i' 0
   interval-agree =
       at_counterparts r
-      (λ (i i' : ℕ). i < size c → g + s.limit ≤ get_or (hit_of c.kinds) i 0 + 1
-      → get_or (interval_of s.limit c.kinds) i 0 ≡ get_or (interval_of s.limit c'.kinds) i' 0) r.interval
+      (λ (i i' : ℕ). i < size c → g + s.search_limit ≤ get_or (hit_of c.kinds) i 0 + 1
+      → get_or (interval_of s.search_limit c.kinds) i 0 ≡ get_or (interval_of s.search_limit c'.kinds) i' 0) r.interval
 
   pub same_hits : SameGroups (hit_patterns c) a (hit_patterns c') b
   same_hits = same_groups (record {
@@ -61,21 +61,21 @@ module _ (s : Settings) (c c' : Chart) {a g b h : ℕ} (r : Agree s.limit c.kind
     reach' = λ i i' l k e y. absurd (cut_closed c' r.cut' i' (omega (arith, r.objects)) (omega arith) y);
   })
 
-  settled-agree : (i i' : ℕ) → Counterparts (size c) (size c') i i' → Settled s.limit (hit_patterns c) a i ↔ Settled s.limit (hit_patterns c') b i'
+  settled-agree : (i i' : ℕ) → Counterparts (size c) (size c') i i' → Settled s.search_limit (hit_patterns c) a i ↔ Settled s.search_limit (hit_patterns c') b i'
   settled-agree i i' e = (there, back)
     where
-      there : Settled s.limit (hit_patterns c) a i → Settled s.limit (hit_patterns c') b i'
+      there : Settled s.search_limit (hit_patterns c) a i → Settled s.search_limit (hit_patterns c') b i'
       there x =
           counts-settled c' r.cut' (omega (arith, r.objects, x.after)) (omega (arith, x.there))
           (omega (arith, settled-counts c r.cut x, hit-agree i i' x.after e x.there))
 
-      back : Settled s.limit (hit_patterns c') b i' → Settled s.limit (hit_patterns c) a i
+      back : Settled s.search_limit (hit_patterns c') b i' → Settled s.search_limit (hit_patterns c) a i
       back x =
           let l : a ≤ i = omega (arith, r.objects, x.after) in
           let k : i < size c = omega (arith, x.there) in
           counts-settled c r.cut l k (omega (arith, settled-counts c' r.cut' x, hit-agree i i' l e k))
 
-  hits_claim : HitsClaim s.limit (hits_of s c) a (hits_of s c') b
+  hits_claim : HitsClaim s.search_limit (hits_of s c) a (hits_of s c') b
   hits_claim = record {
     same = same_hits;
     opens_there = cut-opens c r.cut;
@@ -85,17 +85,17 @@ module _ (s : Settings) (c c' : Chart) {a g b h : ℕ} (r : Agree s.limit c.kind
 
   module _ {m : ℕ} (whole : length c.ratios ≡ size c) (whole' : length c'.ratios ≡ size c')
       (k : SameLast m c.kinds c'.kinds) (t : SameLast m c.ratios c'.ratios) (late : size c + 4 ≤ a + m) where
-    same_kind : (i i' : ℕ) → Settled s.limit (hit_patterns c) a i → Counterparts (size c) (size c') i i' → get_or c.kinds i 0 ≡ get_or c'.kinds i' 0
+    same_kind : (i i' : ℕ) → Settled s.search_limit (hit_patterns c) a i → Counterparts (size c) (size c') i i' → get_or c.kinds i 0 ≡ get_or c'.kinds i' 0
     same_kind i i' x e = same_at k i i' (omega (arith, x.after)) e 0
 
-    same_value : (i i' : ℕ) → Settled s.limit (hit_patterns c) a i → Counterparts (size c) (size c') i i' → value_at s c i ≡ value_at s c' i'
+    same_value : (i i' : ℕ) → Settled s.search_limit (hit_patterns c) a i → Counterparts (size c) (size c') i i' → value_at s c i ≡ value_at s c' i'
     same_value i i' x e = value-agree r s.tolerance whole whole' t late i i' x.after e x.there (settled-counts c r.cut x)
 
     claimed : ColourClaim s c c' a b
     claimed = record {
       hits = hits_claim;
-      value = λ i i' x e. value_of s.limit s.tolerance c.kinds c.ratios i x.there ∙ same_value i i' x e
-          ∙ sym (value_of s.limit s.tolerance c'.kinds c'.ratios i' (omega (arith, x.there)));
+      value = λ i i' x e. value_of s.search_limit s.tolerance c.kinds c.ratios i x.there ∙ same_value i i' x e
+          ∙ sym (value_of s.search_limit s.tolerance c'.kinds c'.ratios i' (omega (arith, x.there)));
       onwards = settled-onwards c;
       stretch = same_stretch s c c' a same_kind same_value;
     }
@@ -106,6 +106,6 @@ pub colour_claim : (s : Settings) (c c' : Chart) {m p p' : ℕ} → length c.rat
     → SameLast m c.kinds c'.kinds → SameLast m c.ratios c'.ratios → Counterparts (size c) (size c') p p'
     → ColourLandmark c.kinds m p ⊎ ColourLandmark c'.kinds m p' → ColourClaim s c c' p p'
 colour_claim s c c' {m} {p} {p'} whole whole' k t far x =
-    let r = colour-agree s.limit c.kinds c'.kinds m p p' k far x in
+    let r = colour-agree s.search_limit c.kinds c'.kinds m p p' k far x in
     let late : size c + 4 ≤ p + m = ⊎_elim (λ y. omega (arith, landmark_late y)) (λ y. omega (arith, landmark_late y)) x in
     claimed s c c' r.agree whole whole' k t late

@@ -19,9 +19,9 @@ pub settled-onwards : (c : Chart) {limit p : ℕ} (i j : ℕ) → Settled limit 
 settled-onwards c i j x l h = record { after = omega (arith, x.after); there = h; late = omega (arith, x.late, hit_rises c.kinds i j l h) }
 
 module _ (s : Settings) (c c' : Chart) (p : ℕ)
-    (kinds : (i i' : ℕ) → Settled s.limit (hit_patterns c) p i → Counterparts (size c) (size c') i i' → get_or c.kinds i 0 ≡ get_or c'.kinds i' 0)
-    (values : (i i' : ℕ) → Settled s.limit (hit_patterns c) p i → Counterparts (size c) (size c') i i' → value_at s c i ≡ value_at s c' i')
-    (a b a' b' : ℕ) (x : Settled s.limit (hit_patterns c) p a) (y : GoodStretch c.kinds a b)
+    (kinds : (i i' : ℕ) → Settled s.search_limit (hit_patterns c) p i → Counterparts (size c) (size c') i i' → get_or c.kinds i 0 ≡ get_or c'.kinds i' 0)
+    (values : (i i' : ℕ) → Settled s.search_limit (hit_patterns c) p i → Counterparts (size c) (size c') i i' → value_at s c i ≡ value_at s c' i')
+    (a b a' b' : ℕ) (x : Settled s.search_limit (hit_patterns c) p a) (y : GoodStretch c.kinds a b)
     (from : Counterparts (size c) (size c') a a') (to : Counterparts (size c) (size c') b b') where
   lies : StretchLies c.kinds a b
   lies = good_lies c.kinds a b y
@@ -32,7 +32,7 @@ module _ (s : Settings) (c c' : Chart) (p : ℕ)
   inside' : b' ≤ size c'
   inside' = omega (arith, lies.inside)
 
-  settled : (i : ℕ) → i < b - a → Settled s.limit (hit_patterns c) p (a + i)
+  settled : (i : ℕ) → i < b - a → Settled s.search_limit (hit_patterns c) p (a + i)
   settled i k = settled-onwards c a (a + i) x (omega arith) (omega (arith, lies.inside))
 
   same_kinds : (i : ℕ) → i < b - a → get_or c.kinds (a + i) 0 ≡ get_or c'.kinds (a' + i) 0

@@ -20,17 +20,17 @@ hits_written s c lent = record {
 
 -- encode
 abbrev pub EncodeClaim : Settings → Chart → Chart → encode.Memory → encode.Memory → ℕ → ℕ → Type 0
-EncodeClaim s c c' lent lent' p p' = HitsClaim s.limit (hits_written s c lent) p (hits_written s c' lent') p'
+EncodeClaim s c c' lent lent' p p' = HitsClaim s.search_limit (hits_written s c lent) p (hits_written s c' lent') p'
 
 -- colour and stretch
 pub record CallsClaim (s : Settings) (c c' : Chart) (lent lent' : Memory) (p p' : ℕ) : Type 0 where
   -- the values that colour writes
-  pub written : SettledSame s.limit (hit_patterns c) p (size c') nan
+  pub written : SettledSame s.search_limit (hit_patterns c) p (size c') nan
       (colour_outcome s c lent).memory.value (colour_outcome s c' lent').memory.value
   -- stretch answers a mean and its tenths, no refusal,
   pub done : (a b : ℕ) → GoodStretch c.kinds a b
       → (stretch_outcome s c a b lent).answer ≡ Ok (stretch_mean (chart_mean s c a b) (chart_tenths s c a b))
   -- and the same ones for the counterpart
-  pub stretch : (a b a' b' : ℕ) → Settled s.limit (hit_patterns c) p a → GoodStretch c.kinds a b
+  pub stretch : (a b a' b' : ℕ) → Settled s.search_limit (hit_patterns c) p a → GoodStretch c.kinds a b
       → Counterparts (size c) (size c') a a' → Counterparts (size c) (size c') b b'
       → (stretch_outcome s c a b lent).answer ≡ (stretch_outcome s c' a' b' lent').answer

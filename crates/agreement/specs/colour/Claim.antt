@@ -44,7 +44,7 @@ abbrev pub hit_patterns : Chart → Groups
 hit_patterns c = groups (size c) (hit_of c.kinds)
 
 abbrev pub hits_of : Settings → Chart → EncodedHits
-hits_of s c = record { patterns = hit_patterns c; intervals = interval_of s.limit c.kinds }
+hits_of s c = record { patterns = hit_patterns c; intervals = interval_of s.search_limit c.kinds }
 
 -- the stretch from a to b, b not included, and its counterpart
 pub record SameStretch (s : Settings) (c : Chart) (a b : ℕ) (c' : Chart) (a' b' : ℕ) : Type 0 where
@@ -55,12 +55,12 @@ pub record SameStretch (s : Settings) (c : Chart) (a b : ℕ) (c' : Chart) (a' b
 
 -- two charts, from a landmark on before which p objects stand in the one and p' in the other
 pub record ColourClaim (s : Settings) (c c' : Chart) (p p' : ℕ) : Type 0 where
-  pub hits : HitsClaim s.limit (hits_of s c) p (hits_of s c') p'
+  pub hits : HitsClaim s.search_limit (hits_of s c) p (hits_of s c') p'
   -- from the M-th hit pattern on the colour values are the same
-  pub value : SettledSame s.limit (hit_patterns c) p (size c') nan (values_of s c) (values_of s c')
+  pub value : SettledSame s.search_limit (hit_patterns c) p (size c') nan (values_of s c) (values_of s c')
   -- what follows such an object is such an object, so that for a stretch its first object decides
-  pub onwards : (i j : ℕ) → Settled s.limit (hit_patterns c) p i → i ≤ j → j < size c
-      → Settled s.limit (hit_patterns c) p j
+  pub onwards : (i j : ℕ) → Settled s.search_limit (hit_patterns c) p i → i ≤ j → j < size c
+      → Settled s.search_limit (hit_patterns c) p j
   -- an accepted stretch of such objects is accepted in both charts, with one mean and one number of tenths
-  pub stretch : (a b a' b' : ℕ) → Settled s.limit (hit_patterns c) p a → GoodStretch c.kinds a b
+  pub stretch : (a b a' b' : ℕ) → Settled s.search_limit (hit_patterns c) p a → GoodStretch c.kinds a b
       → Counterparts (size c) (size c') a a' → Counterparts (size c) (size c') b b' → SameStretch s c a b c' a' b'

@@ -7,8 +7,8 @@ use Rattle.call_colour.specs.Call.{Memory}
 
 -- a search limit from 2 to 64, a ratio for each object, and room for them in every slice that is written
 pub record ChartRoom (s : Settings) (kinds : List ℕ) (ratios : List Float) (m : Memory) : Type 0 where
-  pub least : 2 ≤ s.limit
-  pub most : s.limit ≤ 64
+  pub least : 2 ≤ s.search_limit
+  pub most : s.search_limit ≤ 64
   pub ratio : length ratios ≡ length kinds
   pub values : length kinds ≤ length m.value
   pub regions : Regions (length kinds) m.work

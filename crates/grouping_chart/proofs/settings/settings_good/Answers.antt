@@ -8,5 +8,5 @@ use Rattle.grouping_chart.proofs.settings.settings_good.Goals as goal
 pub returns : goal.returns
 unfolding settings_good of_bits
 returns c =
-    let limit = c.args.s.limit in
+    let limit = c.args.s.search_limit in
     λ t. c.is_within-margin.ensures t && ((leb 2 limit && leb limit 64) && (c.is_within-threshold.ensures t && c.is_within-tolerance.ensures t))
