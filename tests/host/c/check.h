@@ -1,6 +1,10 @@
-/* What the C programs share: facts that are checked, and the answer of `main`. */
+/* What the C programs share: the default settings, a colour value, facts that are checked, and the answer of `main`. */
+#include "dresserduck.h"
+
 #include <stdio.h>
 #include <string.h>
+
+static const dresserduck_settings default_settings = DRESSERDUCK_DEFAULT_SETTINGS;
 
 #define CHECK(fact) check((fact) ? 1 : 0, #fact, __FILE__, __LINE__)
 
@@ -12,6 +16,14 @@ static inline void check(int holds, const char *fact, const char *file, int line
         printf("%s:%d: %s\n", file, line, fact);
         failures += 1;
     }
+}
+
+/* By T(0) and the T of its interval, the colour value of an object that opens all three groups, before its penalty. */
+static inline double opening_value(double t)
+{
+    double t0 = dresserduck_double(0x3FEFDC7BB58F155Bu);
+    double hit = 2.0 * (1.0 - t), alt = t0 * hit, mono = t0 * alt * 0.5;
+    return mono + alt + hit;
 }
 
 static inline int finish(void)

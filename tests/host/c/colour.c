@@ -12,17 +12,15 @@ static const double start[N] = {0.0, 100.0, 200.0};
 static const double delta[N] = {100.0, 100.0, 100.0};
 static double ratio[N] = {4.0, 1.0, 4.0};
 
-/* of an object that opens all three groups, by T(0) and T(17) */
-static double opening_value(void)
+/* of an object whose interval is 17 */
+static double new_value(void)
 {
-    double t0 = dresserduck_double(0x3FEFDC7BB58F155Bu), t17 = dresserduck_double(0x3C4210F50A27FC81u);
-    double hit = 2.0 * (1.0 - t17), alt = t0 * hit, mono = t0 * alt * 0.5;
-    return mono + alt + hit;
+    return opening_value(dresserduck_double(0x3C4210F50A27FC81u));
 }
 
 static void check_values(void)
 {
-    double value = opening_value();
+    double value = new_value();
     double want[N] = {0.0, 0.0, 0.0};
     want[0] = value;
     want[2] = value * (1.0 - 4.0 / 2.0 * 0.8);
@@ -33,8 +31,8 @@ static void check_values(void)
 static void coloured(void)
 {
     lend();
-    dresserduck_coloured got =
-        dresserduck_colour(kind, N, start, N, delta, N, ratio, N, lent.value, PLACES, lent.work, WORK_PLACES, lent.scratch, PLACES);
+    dresserduck_coloured got = dresserduck_colour(
+        kind, N, start, N, delta, N, ratio, N, default_settings, lent.value, PLACES, lent.work, WORK_PLACES, lent.scratch, PLACES);
     CHECK(got.refusal == DRESSERDUCK_ACCEPTED && got.place == 0);
     check_values();
 }
@@ -42,19 +40,19 @@ static void coloured(void)
 static dresserduck_stretched stretch(size_t a, size_t b)
 {
     lend();
-    return dresserduck_stretch(
-        kind, N, start, N, delta, N, ratio, N, a, b, lent.value, PLACES, lent.work, WORK_PLACES, lent.scratch, PLACES);
+    return dresserduck_stretch(kind, N, start, N, delta, N, ratio, N, default_settings, a, b, lent.value, PLACES, lent.work,
+        WORK_PLACES, lent.scratch, PLACES);
 }
 
 static void stretched(void)
 {
     dresserduck_stretched got = stretch(1, 3);
     CHECK(got.refusal == DRESSERDUCK_ACCEPTED && got.place == 0);
-    CHECK(got.mean == opening_value() * (1.0 - 4.0 / 2.0 * 0.8) / 2.0);
+    CHECK(got.mean == new_value() * (1.0 - 4.0 / 2.0 * 0.8) / 2.0);
     CHECK(got.mean > -1.5 && got.mean < -1.4 && got.tenths == -15);
     check_values();
     got = stretch(0, 1);
-    CHECK(got.mean == opening_value() && got.tenths == 50);
+    CHECK(got.mean == new_value() && got.tenths == 50);
 }
 
 static void expect_refused(uint64_t refusal, size_t a, size_t b)
@@ -64,7 +62,8 @@ static void expect_refused(uint64_t refusal, size_t a, size_t b)
     CHECK(untouched());
 }
 
-/* All ratios are the one with these bits, by which the mean of all three objects lies half-way between two tenths: the even one is shown. */
+/* All ratios are the one with these bits, by which the mean of all three objects lies half-way between two tenths: the even one is
+ * shown. */
 static void half_way(uint64_t equal_ratio, double mean, int64_t tenths)
 {
     ratio[0] = ratio[1] = ratio[2] = dresserduck_double(equal_ratio);
@@ -78,7 +77,7 @@ static void struck(void)
     kind[2] = DRESSERDUCK_NON_HIT;
     dresserduck_stretched got = stretch(0, 3);
     CHECK(got.refusal == DRESSERDUCK_ACCEPTED && got.place == 0);
-    CHECK(lent.value[2] != 0.0 && got.mean == opening_value() / 2.0 && got.tenths == 25);
+    CHECK(lent.value[2] != 0.0 && got.mean == new_value() / 2.0 && got.tenths == 25);
     expect_refused(DRESSERDUCK_NO_NOTE, 2, 3);
     expect_refused(DRESSERDUCK_BAD_STRETCH, 2, 4);
     expect_refused(DRESSERDUCK_BAD_STRETCH, 3, 3);

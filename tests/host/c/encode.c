@@ -9,8 +9,9 @@ static dresserduck_encoded encode(const uint8_t *kind, size_t n)
 {
     static const double ones[N] = {1.0, 1.0, 1.0, 1.0, 1.0, 1.0, 1.0, 1.0, 1.0, 1.0, 1.0, 1.0, 1.0, 1.0, 1.0, 1.0};
     lend();
-    return dresserduck_encode(kind, n, ones, n, ones, n, ones, n, lent.numbers[0], PLACES, lent.numbers[1], PLACES, lent.numbers[2],
-        PLACES, lent.numbers[3], PLACES, lent.numbers[4], PLACES, lent.interval, PLACES, lent.work, WORK_PLACES, lent.scratch, PLACES);
+    return dresserduck_encode(kind, n, ones, n, ones, n, ones, n, default_settings, lent.numbers[0], PLACES, lent.numbers[1], PLACES,
+        lent.numbers[2], PLACES, lent.numbers[3], PLACES, lent.numbers[4], PLACES, lent.interval, PLACES, lent.work, WORK_PLACES,
+        lent.scratch, PLACES);
 }
 
 /* d | kk,dd | k */

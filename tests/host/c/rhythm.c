@@ -15,8 +15,8 @@ static void grouped(void)
     static const uint16_t group[N] = {0, 0, 0, DRESSERDUCK_NO_GROUP, 1, 1, 1, 2, 2, 2, 3};
     static const uint16_t pattern[N] = {0, 0, 0, DRESSERDUCK_NO_GROUP, 0, 0, 0, 1, 1, 1, 2};
     lend();
-    dresserduck_grouped got = dresserduck_rhythm(kind, N, start, N, delta, N, ratio, N, lent.numbers[0], PLACES, lent.numbers[1],
-        PLACES, lent.work, WORK_PLACES, lent.scratch, PLACES);
+    dresserduck_grouped got = dresserduck_rhythm(kind, N, start, N, delta, N, ratio, N, default_settings, lent.numbers[0], PLACES,
+        lent.numbers[1], PLACES, lent.work, WORK_PLACES, lent.scratch, PLACES);
     CHECK(got.refusal == DRESSERDUCK_ACCEPTED && got.place == 0 && got.groups == 4 && got.pattern_groups == 3);
     CHECK(FILLED(lent.numbers[0], group) && FILLED(lent.numbers[1], pattern));
     CHECK(cleared());
@@ -25,7 +25,8 @@ static void grouped(void)
 static dresserduck_recorded record(size_t group, double window)
 {
     lend();
-    return dresserduck_record(kind, N, start, N, delta, N, ratio, N, group, window, lent.work, WORK_PLACES, lent.scratch, PLACES);
+    return dresserduck_record(
+        kind, N, start, N, delta, N, ratio, N, default_settings, group, window, lent.work, WORK_PLACES, lent.scratch, PLACES);
 }
 
 static void recorded(void)

@@ -25,8 +25,8 @@ static void known_chart(void)
 static dresserduck_tapped taps(void)
 {
     lend();
-    return dresserduck_taps(kind, N, start, N, lowest, N, highest, N, ratio, N, lent.pair, PLACES, lent.numbers[0],
-        PLACES, lent.work, WORK_PLACES, lent.scratch, PLACES);
+    return dresserduck_taps(kind, N, start, N, lowest, N, highest, N, ratio, N, default_settings, lent.pair, PLACES,
+        lent.numbers[0], PLACES, lent.work, WORK_PLACES, lent.scratch, PLACES);
 }
 
 static void known(void)
@@ -67,8 +67,8 @@ static void as_rhythm_gives_them(void)
             delta[i] = choice >> i & 1 ? highest[i] : lowest[i];
         }
         lend();
-        dresserduck_grouped got = dresserduck_rhythm(kind, N, start, N, delta, N, ratio, N, lent.numbers[0], PLACES,
-            lent.numbers[1], PLACES, lent.work, WORK_PLACES, lent.scratch, PLACES);
+        dresserduck_grouped got = dresserduck_rhythm(kind, N, start, N, delta, N, ratio, N, default_settings, lent.numbers[0],
+            PLACES, lent.numbers[1], PLACES, lent.work, WORK_PLACES, lent.scratch, PLACES);
         CHECK(got.refusal == DRESSERDUCK_ACCEPTED && got.groups == told.groups && FILLED(lent.numbers[0], group));
     }
 }
