@@ -11,6 +11,7 @@
 
 static uint8_t kind[N];
 static double start[N], delta[N], ratio[N];
+static dresserduck_settings settings;
 
 static void good_chart(void)
 {
@@ -20,12 +21,13 @@ static void good_chart(void)
         delta[i] = 100.0;
         ratio[i] = 1.0;
     }
+    settings = default_settings;
     lend();
 }
 
-/* A chart of n objects that has this many ratios. */
-#define CHART kind, n, start, n, delta, n, ratio, ratios
-#define TAP_CHART kind, n, start, n, delta, n, delta, n, ratio, ratios
+/* A chart of n objects that has this many ratios, and the settings. */
+#define CHART kind, n, start, n, delta, n, ratio, ratios, settings
+#define TAP_CHART kind, n, start, n, delta, n, delta, n, ratio, ratios, settings
 
 /* All six refuse it, taps with the delta for the lowest and the highest, with this many places to work in. */
 static void expect(uint64_t refusal, uint64_t place, size_t n, size_t ratios, size_t places)
@@ -49,9 +51,11 @@ static void expect(uint64_t refusal, uint64_t place, size_t n, size_t ratios, si
 #undef WORK
 }
 
+/* Though the settings are bad. */
 static void by_the_host(void)
 {
     good_chart();
+    settings.margin = NAN;
     expect(DRESSERDUCK_TOO_MANY_OBJECTS, 0, N, N, 8 * N);
     expect(DRESSERDUCK_LENGTHS_DIFFER, 0, FEW, FEW - 1, 8 * FEW);
     expect(DRESSERDUCK_SLICE_TOO_SHORT, 0, FEW, FEW, 8 * FEW - 1);
@@ -69,6 +73,8 @@ static void by_the_chart(void)
     expect(DRESSERDUCK_BAD_START, 2, FEW, FEW, 8 * FEW);
     kind[2] = 3;
     expect(DRESSERDUCK_BAD_KIND, 2, FEW, FEW, 8 * FEW);
+    settings.tolerance = NAN;
+    expect(DRESSERDUCK_BAD_SETTINGS, 0, FEW, FEW, 8 * FEW);
 }
 
 static void by_the_settings(void)
