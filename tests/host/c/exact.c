@@ -1,14 +1,15 @@
-/* All seven calls on heap memory of exactly the size that they need, for a tool that watches the heap's bounds.
- * Prints `ok`, or each line that fails. */
+/* All seven calls on heap memory of exactly the size that they need, for a tool that watches the heap's bounds. Those on a chart have
+ * the default settings, the narrowest and the widest. Prints `ok`, or each line that fails. */
 #include "dresserduck.h"
 
 #include "check.h"
 
 #include <stdlib.h>
 
-/* The chart's lists, each a block of its own. */
+/* The chart's lists, each a block of its own, and the settings for it. */
 struct chart {
     size_t n;
+    dresserduck_settings settings;
     uint8_t *kind;
     double *start, *delta, *ratio;
 };
@@ -28,6 +29,7 @@ static struct chart chart_of(size_t n)
     static const uint8_t kinds[7] = {0, 1, 1, 0, 0, 2, 1};
     struct chart c;
     c.n = n;
+    c.settings = default_settings;
     c.kind = (uint8_t *)block(n, sizeof *c.kind);
     c.start = (double *)block(n, sizeof *c.start);
     c.delta = (double *)block(n, sizeof *c.delta);
@@ -57,7 +59,7 @@ static void build_exactly(const struct chart *c, size_t m)
     free(times);
 }
 
-#define CHART c->kind, c->n, c->start, c->n, c->delta, c->n, c->ratio, c->n
+#define CHART c->kind, c->n, c->start, c->n, c->delta, c->n, c->ratio, c->n, c->settings
 
 static void encode_exactly(const struct chart *c, uint16_t *work, double *scratch)
 {
@@ -117,7 +119,7 @@ static void tap_exactly(const struct chart *c, double width, uint16_t *work, dou
         highest[i] = c->delta[i] + width;
     }
     dresserduck_tapped got = dresserduck_taps(c->kind, c->n, c->start, c->n, c->delta, c->n, highest, c->n, c->ratio,
-        c->n, pair, c->n, group, c->n, work, 8 * c->n, scratch, c->n);
+        c->n, c->settings, pair, c->n, group, c->n, work, 8 * c->n, scratch, c->n);
     CHECK(got.refusal == DRESSERDUCK_ACCEPTED);
     CHECK(width > 0.0 ? got.open == 1 || c->n < 31 : got.open == 0);
     free(highest);
@@ -125,7 +127,7 @@ static void tap_exactly(const struct chart *c, double width, uint16_t *work, dou
     free(group);
 }
 
-/* The six calls on a chart. */
+/* The six calls on a chart, under its settings. */
 static void ask_exactly(const struct chart *c)
 {
     uint16_t *work = (uint16_t *)block(8 * c->n, sizeof *work);
@@ -134,9 +136,18 @@ static void ask_exactly(const struct chart *c)
     score_exactly(c, work, scratch);
     group_exactly(c, work, scratch);
     tap_exactly(c, 0.0, work, scratch);
-    tap_exactly(c, 10.0, work, scratch);
+    tap_exactly(c, c->settings.margin + 10.0, work, scratch);
     free(work);
     free(scratch);
+}
+
+static void ask_under_each(struct chart *c)
+{
+    static const dresserduck_settings each[3] = {DRESSERDUCK_DEFAULT_SETTINGS, {0.0, 2, 0.0, 0.0}, {50.0, 64, 1.0, 1.0}};
+    for (size_t i = 0; i < 3; i++) {
+        c->settings = each[i];
+        ask_exactly(c);
+    }
 }
 
 int main(void)
@@ -144,12 +155,12 @@ int main(void)
     static const size_t sizes[] = {0, 1, 2, 3, 6, 7, 8, 31, 200};
     for (size_t i = 0; i < sizeof sizes / sizeof sizes[0]; i++) {
         struct chart c = chart_of(sizes[i]);
-        ask_exactly(&c);
+        ask_under_each(&c);
         /* up to two raw objects build a chart of none */
         for (size_t m = c.n == 0 ? 0 : c.n + 2; m <= c.n + 2; m++) {
             build_exactly(&c, m);
         }
-        ask_exactly(&c);
+        ask_under_each(&c);
         free(c.kind);
         free(c.start);
         free(c.delta);
