@@ -36,14 +36,21 @@ static inline int untouched(void)
     return all_sentinels(&lent, sizeof lent);
 }
 
-/* The slice has these N answers, and what it had past them. */
-#define FILLED(slice, want) (memcmp(slice, want, N * sizeof slice[0]) == 0 && all_sentinels(&slice[N], sizeof slice[0]))
+/* The slice has these answers, and what it had past them. */
+#define FILLED(slice, want) \
+    (memcmp(slice, want, sizeof(want)) == 0 && all_sentinels((const char *)(slice) + sizeof(want), sizeof(slice) - sizeof(want)))
 
-/* The work slices are 0 as far as they are needed, and as they were past that. */
-static inline int cleared(void)
+/* The work slices are 0 as far as n objects need them, and as they were past that. */
+static inline int cleared_for(size_t n)
 {
     static const uint16_t no_work[8 * N] = {0};
     static const double no_scratch[N] = {0.0};
-    return FILLED(lent.scratch, no_scratch) && memcmp(lent.work, no_work, sizeof no_work) == 0
-        && all_sentinels(&lent.work[8 * N], sizeof lent.work[0]);
+    const size_t work = 8 * n * sizeof no_work[0], scratch = n * sizeof no_scratch[0];
+    return memcmp(lent.work, no_work, work) == 0 && all_sentinels(&lent.work[8 * n], sizeof lent.work - work)
+        && memcmp(lent.scratch, no_scratch, scratch) == 0 && all_sentinels(&lent.scratch[n], sizeof lent.scratch - scratch);
+}
+
+static inline int cleared(void)
+{
+    return cleared_for(N);
 }
