@@ -2,6 +2,7 @@
 pub mod StretchValues
 pub mod CallLaws
 pub mod BoundLaws
+pub mod ThirdBranch
 pub mod AlikeLaws
 pub mod AnswerLaws
 mod FilledLaws

@@ -1,5 +1,6 @@
 -- The outcome of encode, case by case, over plain lists: a refusal leaves all as lent, and an accepted chart has room in every slice.
 use mathlib.Core.Path.{◌≡◌, refl}
+use mathlib.Core.Logic.{⊎_elim}
 use mathlib.Core.List.{List, []}
 use Prim.Native.Nat.{ℕ, ◌≤◌, ◌<◌}
 use lib.ListN.{length, take, get_or, replicate}
@@ -18,7 +19,8 @@ use Rattle.grouping_chart.proofs.OutcomeLaws.{answered-done, accommodated}
 use Rattle.grouping_colour.specs.MonoStreak.{streak_of}
 use Rattle.grouping_colour.proofs.StreakListLaws.{length-streak_of}
 use Rattle.grouping_preprocessor.specs.Preprocessor.{alternating_of, hit_of, interval_of, hit_count}
-use Rattle.grouping_preprocessor.proofs.BoundLaws.{length-alternating_of, length-hit_of, length-interval_of}
+use Rattle.grouping_hits.proofs.RangeLaws.{InReach}
+use Rattle.grouping_preprocessor.proofs.BoundLaws.{length-alternating_of, length-hit_of, length-interval_of, interval_of_range}
 use Rattle.call_encode.specs.Call.{Memory, answer_lengths, judged, encoded_kinds, with_scratch, filled, encode_outcome}
 use Rattle.call_encode.specs.passes.Rooms.{KindsRoom}
 
@@ -89,3 +91,13 @@ module _ (s : Settings) (c : Chart) (lent : Memory) (good : judged s c lent ≡ 
   unfolding filled encoded_kinds
   interval-written i h =
       rw left (get_or-over (interval_of s.search_limit c.kinds) lent.interval i 0 (omega (arith, length-interval_of c.kinds s.search_limit)))
+
+  -- each interval is from 1 to the search limit less 1, or the limit plus 1
+  pub interval-in_reach : (i : ℕ) → i < size c → InReach s.search_limit (get_or (encode_outcome s c lent).memory.interval i 0)
+  interval-in_reach i h = rw (interval-written i h) (interval_of_range c.kinds s.search_limit i h)
+
+  -- so the largest that any settings allow is 65, which fits a byte
+  pub interval-most : (i : ℕ) → i < size c → get_or (encode_outcome s c lent).memory.interval i 0 ≤ 65
+  interval-most i h =
+      let small = limit_small s c lent good in
+      ⊎_elim (λ u. omega (arith, u, small)) (λ u. omega (arith, small)) (interval-in_reach i h)

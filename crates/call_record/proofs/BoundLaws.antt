@@ -1,9 +1,9 @@
--- Of an accepted record the penalty is finite and no NaN: the group's objects are the chart's, whose starts are at most 2 ^ 24 in size, so its duration is
--- at most 2 ^ 25 in size, and the window is at least 1.0.
+-- Of an accepted record the penalty is bounded, so finite, and no NaN: the group's objects are the chart's, whose starts are at most 2 ^ 24 in size, so
+-- its duration is at most 2 ^ 25 in size, and the window is at least 1.0.
 use mathlib.Core.Path.{◌≡◌, ap}
 use mathlib.Core.Bool.{true, not}
 use mathlib.Core.List.{List}
-use Prim.Native.Nat.{ℕ, ◌-◌, ◌^◌, ◌<◌}
+use Prim.Native.Nat.{ℕ, ◌+◌, ◌-◌, ◌^◌, ◌<◌}
 use native.Mathlib.Omega.{arith}
 use lib.Dec.{T, lit≤}
 use lib.ListN.{length, get_or}
@@ -65,6 +65,15 @@ module _ (s : Settings) (c : Chart) (beside : Check) (g : ℕ) (told : verdict c
       sub_bounded (get_or c.starts (get_or objects (length objects - 1) 0) nan) (get_or c.starts (get_or objects 0 0) nan) (2 ^ 24) (2 ^ 24) (lit≤ tt)
       (start_bounded good (get_or objects (length objects - 1) 0) (object-inside (length objects - 1) (omega (arith, has_object))))
       (start_bounded good (get_or objects 0 0) (object-inside 0 has_object))
+
+  -- 2 ^ 26 + 1 at most in size, so finite
+  pub record_penalty_bounded : (window : Float) → window_good window ≡ true
+      → Bounded (record_at s c.kinds c.starts c.deltas g window).penalty (2 ^ 26 + 1)
+  unfolding record_at window_good objects
+  record_penalty_bounded window w =
+      let r = within_ends one64 thousand64 window (rw w tt) in
+      penalty.penalty_bounded s.threshold (owns_at s.margin c.kinds c.deltas g) (length objects) (duration_of c.starts objects) window
+      duration_bounded (penalty.window_at_least window r.0 r.1)
 
   pub penalty_no_nan : (window : Float) → window_good window ≡ true → T (not (is_nan (record_at s c.kinds c.starts c.deltas g window).penalty))
   unfolding record_at window_good objects

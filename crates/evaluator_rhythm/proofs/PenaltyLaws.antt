@@ -45,7 +45,7 @@ from_one (inf s) p h = absurd p
 from_one (fin true m e) p h = absurd p
 from_one (fin false m e) p h = let k = le→cross one64 (fin false m e) tt p h in omega arith
 
-window_at_least : (w : Float) → T (le one64 w) → T (le w thousand64) → AtLeast w 1
+pub window_at_least : (w : Float) → T (le one64 w) → T (le w thousand64) → AtLeast w 1
 window_at_least w lo hi = from_one w (between one64 w thousand64 tt tt lo hi) lo
 
 -- ---- the penalty: a difference of two starts is at most 2 ^ 25 in size

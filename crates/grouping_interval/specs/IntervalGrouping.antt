@@ -5,7 +5,7 @@
 --
 -- Of two neighbours the grouping asks their class alone, which is a parameter: so values of which each is known to
 -- within a range are grouped by the same definition (change requests: 6/12). Notes are grouped by their deltas, groups
--- by their intervals. The margin is 5.0 in every call.
+-- by their intervals. The margin is 5.0 in the scope, and a setting of a call since 7/12.
 use Rattle.std.specs.Prelude.{ℕ, Bool, cond, ◌&&◌, List, [], ◌∷◌, eqb, ltb, length, Float}
 use Rattle.std.specs.Float.{binary64}
 use Rattle.std.specs.Float.Ieee.{add, lt}

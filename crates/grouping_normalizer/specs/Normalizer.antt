@@ -1,6 +1,6 @@
 -- What each delta of one group counts as (scope: delta_time_normalizer.rs). The deltas that differ are put in order and
 -- cut into sets, each of those near its first value; a delta counts as the middle of its set. What is near is told by a
--- margin, 5.0 in every call.
+-- margin, 5.0 in the scope, and a setting of a call since 7/12.
 use Rattle.std.specs.Prelude.{◌-◌, ◌/◌, ◌%◌, ◌≡◌, Bool, false, cond, ◌&&◌, ◌||◌, List, [], ◌∷◌, ◌++◌, map, eqb, length}
 use Rattle.std.specs.Prelude.{get_or, Float}
 use Rattle.std.specs.Float.{nan, binary64}

@@ -1,9 +1,8 @@
 -- How long the lists of patterns and hit patterns are, one number an object, and how far the numbers go: each is below its
--- level's count, and an interval is below the search limit or one above it.
+-- level's count, and an interval is from 1 to the search limit less 1, or one above the limit.
 use mathlib.Core.Path.{◌≡◌, refl, ◌∙◌}
-use mathlib.Core.Logic.{◌⊎◌}
 use mathlib.Core.List.{List}
-use Prim.Native.Nat.{ℕ, ◌+◌, ◌≤◌, ◌<◌}
+use Prim.Native.Nat.{ℕ, ◌≤◌, ◌<◌}
 use native.Mathlib.Omega.{arith}
 use lib.ListN.{length, get_or}
 use Rattle.lent.specs.Scan.{gathered}
@@ -11,7 +10,7 @@ use Rattle.grouping_marks.specs.Marks.{group_count, group_numbers, group_places}
 use Rattle.lent.proofs.FillLaws.{length-gathered, get_or-gathered}
 use Rattle.grouping_marks.proofs.MarksLaws.{numbers-below, length-sizes, length-firsts}
 use Rattle.grouping_hits.proofs.LengthLaws.{length-hit_marks, length-intervals}
-use Rattle.grouping_hits.proofs.RangeLaws.{interval_range, interval_byte}
+use Rattle.grouping_hits.proofs.RangeLaws.{InReach, interval_range, interval_byte}
 use Rattle.grouping_colour.specs.MonoStreak.{streak_marks, streak_of, streak_lengths}
 use Rattle.grouping_preprocessor.specs.Preprocessor.{patterns_open, first_lengths, streak_counts, pattern_types, coupled_patterns, hits_open, hit_count}
 use Rattle.grouping_preprocessor.specs.Preprocessor.{hit_sizes, hit_firsts, hit_seconds, hit_intervals, streak_place_of, alternating_of, pattern_place_of}
@@ -43,9 +42,7 @@ module _ (kinds : List ℕ) where
   unfolding hit_count
   hit-below j h = numbers-below (hits_open kinds) j (omega (arith, length-hits_open))
 
-  -- a hit pattern's interval is below the limit, or one above it
-  pub hit-interval_range : (limit j : ℕ) → j < hit_count kinds
-      → (get_or (hit_intervals limit kinds) j 0 < limit) ⊎ (get_or (hit_intervals limit kinds) j 0 ≡ limit + 1)
+  pub hit-interval_range : (limit j : ℕ) → j < hit_count kinds → InReach limit (get_or (hit_intervals limit kinds) j 0)
   unfolding hit_intervals hit_sizes hit_count
   hit-interval_range limit j h = interval_range limit (hit_sizes kinds) (hit_firsts kinds) (hit_seconds kinds) j (omega (arith, length-sizes (hits_open kinds)))
 
@@ -80,6 +77,13 @@ module _ (kinds : List ℕ) where
   hit_of-below i h =
       rw (get_or-gathered (group_numbers (hits_open kinds)) (alternating_of kinds) i (omega (arith, length-alternating_of)))
       (hit-below (get_or (alternating_of kinds) i 0) (alternating_of-below i h))
+
+  -- each object has its hit pattern's
+  pub interval_of_range : (limit i : ℕ) → i < length kinds → InReach limit (get_or (interval_of limit kinds) i 0)
+  unfolding interval_of
+  interval_of_range limit i h =
+      rw (get_or-gathered (hit_intervals limit kinds) (hit_of kinds) i (omega (arith, length-hit_of)))
+      (hit-interval_range limit (get_or (hit_of kinds) i 0) (hit_of-below i h))
 
   -- ---- each object's numbers, looked up level by level
   pub streak_place_of_looked : gathered (group_places (patterns_open kinds)) (streak_of kinds) ≡ streak_place_of kinds

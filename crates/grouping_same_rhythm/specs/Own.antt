@@ -1,6 +1,6 @@
 -- A rhythm group's own interval, and its ratio to that of the group before (scope:
 -- same_rhythm_hit_object_grouping.rs). A group is the list of its notes' deltas; what is near is told by a margin, 5.0
--- in every call.
+-- in the scope, and a setting of a call since 7/12.
 use Rattle.std.specs.Prelude.{ℕ, zero, suc, cond, List, [], ◌∷◌, get_or, Float}
 use Rattle.std.specs.Float.{binary64}
 use Rattle.std.specs.Float.Ieee.{div}

@@ -1,5 +1,5 @@
 -- Two values are near where they are a margin apart at most: a parameter, as of the source's `almost_eq`.
--- In the scope's interval_grouping.rs it is 5.0.
+-- In the scope's interval_grouping.rs it is 5.0, which a call's settings may replace since 7/12.
 -- The difference is IEEE 754-2019's subtraction (5.4.1), rounded; the comparison is 5.11's, so a NaN is near nothing.
 use Rattle.std.specs.Prelude.{Bool, false, Float}
 use Rattle.std.specs.Float.{nan, inf, fin, binary64}
