@@ -13,7 +13,7 @@ import random
 import re
 import sys
 
-from library import GUIDE, ROOT, Chart, build, colour, encode, open_library, record, rhythm, starts, stretch, taps
+from library import DEFAULT, GUIDE, ROOT, Chart, Settings, build, colour, encode, open_library, record, rhythm, starts, stretch, taps
 
 # the searches go through every chart of up to ALL objects, and through RANDOM longer ones of up to LONG
 ALL, RANDOM, LONG, SEED = 9, 3000, 60, 1
@@ -203,14 +203,33 @@ def other_penalty(library):
     return penalties(library)[1]
 
 
-def known_within(library):
+def known_within(library, settings=DEFAULT):
     """To within how many whole milliseconds the deltas of the guide's chart may be known at most for its groups to be given, and one more."""
-    within = next(within for within in itertools.count() if taps(library, GUIDE, within + 1).open)
-    whole = rhythm(library, GUIDE)
+    within = next(within for within in itertools.count() if taps(library, GUIDE, within + 1, settings).open)
+    whole = rhythm(library, GUIDE, settings)
     for known in range(within + 1):
-        tapped = taps(library, GUIDE, known)
+        tapped = taps(library, GUIDE, known, settings)
         demand((tapped.group, tapped.groups) == (whole.group, whole.groups), f"known to within {known} ms the guide's chart has other groups")
     return [within, within + 1]
+
+
+def with_margin(margin):
+    return Settings(margin, DEFAULT.search_limit, DEFAULT.threshold, DEFAULT.tolerance)
+
+
+def known_under_10(library):
+    """The same under a margin of 10 ms, without the one more."""
+    wide = with_margin(10.0)
+    demand(rhythm(library, GUIDE, wide) == rhythm(library, GUIDE), "under a margin of 10 ms the guide's chart has other groups")
+    return known_within(library, wide)[:1]
+
+
+def interval_under_4(library):
+    """The interval that the objects 13 and 14 of the guide's chart have in common under a search limit of 4."""
+    short = Settings(DEFAULT.margin, 4, DEFAULT.threshold, DEFAULT.tolerance)
+    found = set(encode(library, GUIDE, short).interval[13:15])
+    demand(len(found) == 1, "under a search limit of 4 the objects 13 and 14 have two intervals")
+    return [*found]
 
 
 def ends_apart(library):
@@ -245,6 +264,8 @@ FIGURES = [
     ("docs/GUIDE.md", "{:g} for the other {}", other_penalty),
     ("docs/GUIDE.md", "known to within {} ms either way, and the groups are those above; to within {} ms, and they are open", known_within),
     ("docs/GUIDE.md", "{} and {} are not near", ends_apart),
+    ("docs/GUIDE.md", "Under a margin of 10 ms the deltas of our chart may be known to within {} ms", known_under_10),
+    ("docs/GUIDE.md", "the interval at 13 and 14 is {}", interval_under_4),
     ("README.md", "at most {:.2f} from the third object on", from_third),
     ("README.md", "up to {:.2f} at the first two", first_two),
     ("include/dresserduck.h", "a value is at most about {:.2f} from the third object on", from_third),

@@ -34,6 +34,14 @@ GUIDE = timed(
 )
 
 
+class Settings(ctypes.Structure):
+    """The four numbers that every call on a chart takes."""
+    _fields_ = [("margin", ctypes.c_double), ("search_limit", ctypes.c_uint64), ("threshold", ctypes.c_double), ("tolerance", ctypes.c_double)]
+
+
+DEFAULT = Settings(5.0, 16, 0.1, 0.01)
+
+
 def lent(element, values):
     """A slice as the calls take it: an array and how many elements it has."""
     return [(element * len(values))(*values), ctypes.c_size_t(len(values))]
@@ -90,8 +98,8 @@ def asked(library, name, letters, *slices):
     return returned
 
 
-def call(library, name, chart, *behind, deltas=None):
-    """Calls dresserduck_`name` with the chart, what stands behind it, and the slices to work in.
+def call(library, name, chart, *behind, deltas=None, settings=DEFAULT):
+    """Calls dresserduck_`name` with the chart, the settings, what stands behind them, and the slices to work in.
 
     The chart's deltas are one list, or those that are given.
     """
@@ -100,7 +108,7 @@ def call(library, name, chart, *behind, deltas=None):
     for numbers in (starts(chart), *(deltas or [chart.deltas]), chart.ratios):
         slices += lent(ctypes.c_double, numbers)
     work = lent(ctypes.c_uint16, [0] * (8 * n)) + lent(ctypes.c_double, [0.0] * n)
-    return asked(library, name, chart.letters, *slices, *behind, *work)
+    return asked(library, name, chart.letters, *slices, settings, *behind, *work)
 
 
 def build(library, letters, times, rate):
@@ -113,11 +121,11 @@ def build(library, letters, times, rate):
     return Built("".join("dkn"[number] for number in kind), *numbers)
 
 
-def encode(library, chart):
+def encode(library, chart, settings=DEFAULT):
     """The six numbers of each object, a list of each."""
     n = len(chart.letters)
     filled = [lent(ctypes.c_uint16, [0] * n) for _ in range(5)] + [lent(ctypes.c_uint8, [0] * n)]
-    call(library, "encode", chart, *sum(filled, []))
+    call(library, "encode", chart, *sum(filled, []), settings=settings)
     return Encoding(*[list(numbers) for numbers, _ in filled])
 
 
@@ -135,18 +143,18 @@ def stretch(library, chart, a, b):
     return returned.mean, returned.tenths
 
 
-def rhythm(library, chart):
+def rhythm(library, chart, settings=DEFAULT):
     """The two numbers of each object, a list of each, and how many groups there are of both sorts."""
     filled = [lent(ctypes.c_uint16, [0] * len(chart.letters)) for _ in range(2)]
-    returned = call(library, "rhythm", chart, *sum(filled, []))
+    returned = call(library, "rhythm", chart, *sum(filled, []), settings=settings)
     return Rhythm(*[list(numbers) for numbers, _ in filled], returned.groups, returned.pattern_groups)
 
 
-def taps(library, chart, within):
+def taps(library, chart, within, settings=DEFAULT):
     """The two numbers of each object where its delta is known to within so many milliseconds either way, and the groups' number or that they are open."""
     filled = lent(ctypes.c_uint8, [0] * len(chart.letters)) + lent(ctypes.c_uint16, [0] * len(chart.letters))
     ends = [[delta + side * within for delta in chart.deltas] for side in (-1, 1)]
-    returned = call(library, "taps", chart, *filled, deltas=ends)
+    returned = call(library, "taps", chart, *filled, deltas=ends, settings=settings)
     return Taps(list(filled[0]), list(filled[2]), returned.groups, returned.open == 1)
 
 
