@@ -2,13 +2,17 @@
 
 use std::fmt;
 
+use dresserduck::Settings;
+
 /// A chart's slices as the host lends them.
-#[derive(Clone)]
+#[derive(Clone, Default)]
 pub struct Chart {
     pub kind: Vec<u8>,
     pub start: Vec<f64>,
     pub delta: Vec<f64>,
     pub ratio: Vec<f64>,
+    /// the settings that it is asked under
+    pub settings: Settings,
 }
 
 const COMMON_DELTA: f64 = 125.0;
@@ -48,6 +52,7 @@ impl Chart {
             start: (0..n).map(common_start).collect(),
             delta: vec![COMMON_DELTA; n],
             ratio: (0..n).map(common_ratio).collect(),
+            settings: Settings::DEFAULT,
         }
     }
 
@@ -60,6 +65,14 @@ impl Chart {
     /// A good chart of n objects that has all three kinds from n = 6 on.
     pub fn of_size(n: usize) -> Self {
         Self::of_kinds((0..n).map(|i| [0, 1, 1, 0, 0, 2, 1][i % 7]).collect())
+    }
+
+    /// The same, asked under these settings.
+    pub fn under(&self, settings: Settings) -> Self {
+        Chart {
+            settings,
+            ..self.clone()
+        }
     }
 
     /// As the calls take it.
@@ -86,14 +99,33 @@ impl Chart {
 }
 
 /// Bits beside the value, since there are many NaNs.
-fn value_text(list: &[f64], object: usize) -> String {
-    match list.get(object) {
-        Some(x) => format!("{x:e} ({:016x})", x.to_bits()),
-        None => "none".into(),
-    }
+fn with_bits(x: f64) -> String {
+    format!("{x:e} ({:016x})", x.to_bits())
 }
 
-/// The lengths, the kinds as letters, and the first few objects whose start, delta or ratio is not the builder's.
+fn value_text(list: &[f64], object: usize) -> String {
+    list.get(object).map_or("none".into(), |&x| with_bits(x))
+}
+
+/// Nothing for the default.
+fn settings_text(settings: Settings) -> String {
+    if settings == Settings::DEFAULT {
+        return String::new();
+    }
+    let Settings {
+        margin,
+        search_limit,
+        threshold,
+        tolerance,
+    } = settings;
+    let [margin, threshold, tolerance] = [margin, threshold, tolerance].map(with_bits);
+    format!(
+        "under margin {margin}, search limit {search_limit}, threshold {threshold}, tolerance {tolerance}: "
+    )
+}
+
+/// The settings where they are not the default, the lengths, the kinds as letters, and the first few objects whose start,
+/// delta or ratio is not the builder's.
 impl fmt::Display for Chart {
     fn fmt(&self, out: &mut fmt::Formatter) -> fmt::Result {
         let rest = [&self.start, &self.delta, &self.ratio];
@@ -101,7 +133,8 @@ impl fmt::Display for Chart {
         let letters: String = self.kind.iter().map(|&kind| letter_of(kind)).collect();
         write!(
             out,
-            "chart of {} kinds and {lengths:?}: {letters}",
+            "{}chart of {} kinds and {lengths:?}: {letters}",
+            settings_text(self.settings),
             self.size()
         )?;
         let odd = (0..self.size()).filter(|&object| !self.is_common(object));

@@ -37,7 +37,7 @@ pub fn accepted_with(chart: &Chart, sizes: Sizes, answers: &Answers) {
 /// The chart is accepted with memory of exactly the size that it needs, and gets the answers of the plain encoder.
 #[track_caller]
 pub fn accepted(chart: &Chart) -> Answers {
-    let answers = plain::encode(&chart.kind);
+    let answers = plain::encode(&chart.kind, chart.settings.search_limit);
     accepted_with(chart, exact_sizes(chart.size()), &answers);
     answers
 }

@@ -41,6 +41,7 @@ pub fn colour(chart: &Chart, memory: &mut Memory) -> Coloured {
     let Memory { value, working } = memory;
     calls::colour(
         &chart.lent(),
+        chart.settings,
         value.lend(),
         working.work.lend(),
         working.scratch.lend(),
@@ -51,6 +52,7 @@ pub fn stretch(chart: &Chart, a: usize, b: usize, memory: &mut Memory) -> Stretc
     let Memory { value, working } = memory;
     calls::stretch(
         &chart.lent(),
+        chart.settings,
         a,
         b,
         value.lend(),

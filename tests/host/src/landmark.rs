@@ -1,5 +1,6 @@
 //! The scope's colour landmarks, read sentence by sentence from the plain encoder's numbers of one chart.
 
+use crate::chart::Chart;
 use crate::plain;
 
 const NON_HIT: u8 = 2;
@@ -36,8 +37,9 @@ fn runs(openings: &[usize], end: usize) -> Vec<(usize, usize)> {
 }
 
 impl<'a> Reading<'a> {
-    fn new(kinds: &'a [u8]) -> Self {
-        let [streak, _, pattern, _, _] = plain::encode(kinds).numbers;
+    fn new(chart: &'a Chart) -> Self {
+        let kinds = chart.kind.as_slice();
+        let [streak, _, pattern, _, _] = plain::encode(kinds, chart.settings.search_limit).numbers;
         let streak_firsts = openings(&streak);
         let by_streak: Vec<u16> = streak_firsts.iter().map(|&first| pattern[first]).collect();
         let streaks = runs(&streak_firsts, kinds.len()).into_iter();
@@ -103,6 +105,6 @@ impl<'a> Reading<'a> {
 }
 
 /// The landmarks of the tail that begins at object `tail_start`, each by the object that follows it, or n at the end.
-pub fn colour_landmarks(kinds: &[u8], tail_start: usize) -> Vec<usize> {
-    Reading::new(kinds).landmarks(tail_start)
+pub fn colour_landmarks(chart: &Chart, tail_start: usize) -> Vec<usize> {
+    Reading::new(chart).landmarks(tail_start)
 }

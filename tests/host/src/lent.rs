@@ -11,7 +11,7 @@ pub trait Element: Copy {
     fn bits(self) -> u64;
 }
 
-// An interval is below 18, a class below 4, or 255 for none.
+// An interval is below 66, a class below 4, or 255 for none.
 impl Element for u8 {
     fn sentinel(slice: usize, place: usize) -> Self {
         0x80 | ((place * 5 + slice) % 0x7F) as u8

@@ -37,6 +37,7 @@ pub fn encode(chart: &Chart, lent: &mut Lent) -> Encoded {
     let [streak, streak_place, pattern, pattern_place, hit] = &mut lent.numbers;
     calls::encode(
         &chart.lent(),
+        chart.settings,
         streak.lend(),
         streak_place.lend(),
         pattern.lend(),

@@ -4,6 +4,7 @@ use std::fmt;
 
 use crate::chart::Chart;
 use crate::samples::Xorshift;
+use dresserduck::Settings;
 
 /// Two charts that end with the same kinds, deltas and ratios, for as many objects as `tail` says.
 pub struct Pair {
@@ -19,7 +20,6 @@ impl fmt::Display for Pair {
 }
 
 const LONGEST_OPENING: usize = 20;
-const TIMES: [f64; 6] = [0.0, -0.0, 125.0, 16_777_216.0, -333.25, 0.1];
 const RATIOS: [f64; 8] = [
     1.0,
     0.5,
@@ -84,25 +84,35 @@ fn drawn(random: &mut Xorshift, choices: &[f64], n: usize) -> Vec<f64> {
     (0..n).map(|_| random.pick(choices)).collect()
 }
 
+/// Of the last three, the first and the third are near 125.0, and the second is not.
+fn times(margin: f64) -> [f64; 8] {
+    let beyond = (125.0 + margin).next_up();
+    let [from, to] = [125.0 - margin, 125.0 + margin];
+    [0.0, -0.0, 125.0, 16_777_216.0, -333.25, from, beyond, to]
+}
+
 /// The opening before the tail; starts are drawn anew, and so is all of the opening.
 fn behind(random: &mut Xorshift, opening: &[u8], tail: &Chart) -> Chart {
     let (before, n) = (opening.len(), opening.len() + tail.size());
     let joined = |front: Vec<f64>, back: &[f64]| [front, back.to_vec()].concat();
+    let times = times(tail.settings.margin);
     Chart {
         kind: [opening, &tail.kind].concat(),
-        start: drawn(random, &TIMES, n),
-        delta: joined(drawn(random, &TIMES, before), &tail.delta),
+        start: drawn(random, &times, n),
+        delta: joined(drawn(random, &times, before), &tail.delta),
         ratio: joined(drawn(random, &RATIOS, before), &tail.ratio),
+        settings: tail.settings,
     }
 }
 
-/// A tail of 20 to 200 objects behind two openings of 0 to 20 that differ in kinds.
-pub fn random_pair(random: &mut Xorshift) -> Pair {
-    let n = random.between(20, 200);
-    let mut tail = Chart::of_kinds(tail_kinds(random, n));
+/// A tail of 20 to 200 objects, or more where a hit pattern is searched far back, behind two openings of 0 to 20 that differ in
+/// kinds. Both charts are asked under these settings.
+pub fn random_pair(random: &mut Xorshift, settings: Settings) -> Pair {
+    let n = random.between(20, 200.max(8 * settings.search_limit as usize));
+    let mut tail = Chart::of_kinds(tail_kinds(random, n)).under(settings);
     let few = random.pick::<&[f64]>(&[&RATIOS, &RATIOS[..3], &RATIOS[3..6]]);
     tail.ratio = drawn(random, few, n);
-    tail.delta = drawn(random, &TIMES, n);
+    tail.delta = drawn(random, &times(settings.margin), n);
     let first = opening_kinds(random, &tail.kind);
     let mut second = opening_kinds(random, &tail.kind);
     while second == first {

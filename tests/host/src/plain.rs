@@ -1,7 +1,6 @@
 //! The scope's encoder, sentence by sentence over lists of lists. It knows nothing of the library.
 
 const NON_HIT: u8 = 2;
-const NO_INTERVAL: u8 = 17;
 
 /// The six numbers of every object, and how many hit patterns there are.
 #[derive(Debug, PartialEq, Eq)]
@@ -97,13 +96,14 @@ fn is_match(a: &HitPattern, b: &HitPattern) -> bool {
     a.len() == b.len() && firsts.all(|(x, y)| x[0].length == y[0].length)
 }
 
-fn interval(hits: &[HitPattern], h: usize) -> u8 {
-    let found = (1..=15).find(|&k| h >= k && is_match(&hits[h], &hits[h - k]));
-    found.map_or(NO_INTERVAL, |k| k as u8)
+fn interval(hits: &[HitPattern], h: usize, search_limit: u64) -> u8 {
+    let is_found = |&k: &usize| h >= k && is_match(&hits[h], &hits[h - k]);
+    let found = (1..search_limit as usize).find(is_found);
+    found.map_or(search_limit as u8 + 1, |k| k as u8)
 }
 
 /// Numbers streaks and patterns through the chart and places within their parents, object by object.
-pub fn encode(kinds: &[u8]) -> Answers {
+pub fn encode(kinds: &[u8], search_limit: u64) -> Answers {
     let hits = hit_patterns(patterns(streaks(kinds)));
     let mut rows: Vec<[usize; 5]> = Vec::new();
     let mut intervals = Vec::new();
@@ -119,7 +119,7 @@ pub fn encode(kinds: &[u8]) -> Answers {
                     h,
                 ];
                 rows.extend(vec![row; streak.length]);
-                intervals.extend(vec![interval(&hits, h); streak.length]);
+                intervals.extend(vec![interval(&hits, h, search_limit); streak.length]);
                 streak_number += 1;
             }
             pattern_number += 1;

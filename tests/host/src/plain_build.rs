@@ -44,6 +44,7 @@ pub fn chart(raw: &Raw) -> Chart {
         start: later.map(|time| time / raw.rate).collect(),
         ratio: first.chain(others).collect(),
         delta,
+        ..Chart::default()
     }
 }
 

@@ -3,12 +3,12 @@
 use crate::chart::Chart;
 use crate::plain;
 
-fn penalty(idx: usize, ratio: &[f64]) -> f64 {
+fn penalty(idx: usize, ratio: &[f64], tolerance: f64) -> f64 {
     if idx < 2 {
         return 1.0;
     }
     let (c, p) = (ratio[idx], ratio[idx - 2]);
-    if (1.0 - c / p).abs() <= 0.01 {
+    if (1.0 - c / p).abs() <= tolerance {
         return 1.0 - c / 2.0 * 0.8;
     }
     if idx < 4 {
@@ -19,7 +19,7 @@ fn penalty(idx: usize, ratio: &[f64]) -> f64 {
 
 /// The colour values, with `table` for T.
 pub fn values(chart: &Chart, table: &dyn Fn(usize) -> f64) -> Vec<f64> {
-    let answers = plain::encode(&chart.kind);
+    let answers = plain::encode(&chart.kind, chart.settings.search_limit);
     let [streak, streak_place, pattern, pattern_place, hit] = &answers.numbers;
     let first = |numbers: &[u16], i: usize| i == 0 || numbers[i] != numbers[i - 1];
     let value = |i: usize| {
@@ -36,7 +36,7 @@ pub fn values(chart: &Chart, table: &dyn Fn(usize) -> f64) -> Vec<f64> {
                 sum += part;
             }
         }
-        sum * penalty(i, &chart.ratio)
+        sum * penalty(i, &chart.ratio, chart.settings.tolerance)
     };
     (0..chart.kind.len()).map(value).collect()
 }

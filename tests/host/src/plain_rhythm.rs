@@ -4,30 +4,27 @@ use crate::chart::Chart;
 use crate::plain_normalizer::normal;
 use crate::rhythm::Recorded;
 
-pub const MARGIN: f64 = 5.0;
-const THRESHOLD: f64 = 0.1;
-
 /// What a NonHit has for a group.
 pub const NO_GROUP: u16 = 65_535;
 
-pub fn near(a: f64, b: f64) -> bool {
-    (a - b).abs() <= MARGIN
+pub fn near(a: f64, b: f64, margin: f64) -> bool {
+    (a - b).abs() <= margin
 }
 
 /// Where each group ends, one place after its last value.
-fn group_ends(values: &[f64]) -> Vec<usize> {
+fn group_ends(values: &[f64], margin: f64) -> Vec<usize> {
     let last = values.len().saturating_sub(1);
     let mut ends = Vec::new();
     let mut at = 0;
     while at < values.len() {
         let mut i = at + 1;
-        while i < last && near(values[i], values[i + 1]) {
+        while i < last && near(values[i], values[i + 1], margin) {
             i += 1;
         }
         let taken = if i < last {
-            values[i + 1] > values[i] + MARGIN
+            values[i + 1] > values[i] + margin
         } else {
-            i == last && values.len() > 2 && near(values[i], values[i - 1])
+            i == last && values.len() > 2 && near(values[i], values[i - 1], margin)
         };
         at = i + usize::from(taken);
         ends.push(at);
@@ -43,20 +40,20 @@ fn parted<T: Copy>(ends: &[usize], items: &[T]) -> Vec<Vec<T>> {
         .collect()
 }
 
-fn own_intervals(groups: &[Vec<f64>]) -> Vec<Option<f64>> {
+fn own_intervals(groups: &[Vec<f64>], margin: f64) -> Vec<Option<f64>> {
     let mut owns: Vec<Option<f64>> = Vec::new();
     for deltas in groups {
         let previous = owns.last().copied().flatten();
         let second = deltas.get(1);
-        let whole = second.map(|&x| normal(deltas, MARGIN, x).round_ties_even());
-        let snapped = |own: f64| previous.filter(|&p| near(own, p)).unwrap_or(own);
+        let whole = second.map(|&x| normal(deltas, margin, x).round_ties_even());
+        let snapped = |own: f64| previous.filter(|&p| near(own, p, margin)).unwrap_or(own);
         owns.push(whole.map(snapped));
     }
     owns
 }
 
-fn intervals(starts: &[f64]) -> Vec<f64> {
-    let step = |pair: &[f64]| match near(pair[1], pair[0]) {
+fn intervals(starts: &[f64], margin: f64) -> Vec<f64> {
+    let step = |pair: &[f64]| match near(pair[1], pair[0], margin) {
         true => 0.0,
         false => pair[1] - pair[0],
     };
@@ -67,14 +64,14 @@ fn intervals(starts: &[f64]) -> Vec<f64> {
         .collect()
 }
 
-fn walk(owns: &[Option<f64>], group: usize, count: usize) -> f64 {
+fn walk(owns: &[Option<f64>], group: usize, count: usize, threshold: f64) -> f64 {
     let back = owns[..=group].iter().rev().take(count);
     let found: Vec<f64> = back.copied().flatten().collect();
     if found.len() < count {
         return 1.0;
     }
     let pairs = (0..count).flat_map(|i| (i + 1..count).map(move |j| (i, j)));
-    let similar = |(i, j): (usize, usize)| (1.0 - found[i] / found[j]).abs() <= THRESHOLD;
+    let similar = |(i, j): (usize, usize)| (1.0 - found[i] / found[j]).abs() <= threshold;
     if pairs.into_iter().any(similar) {
         0.8
     } else {
@@ -102,26 +99,29 @@ pub struct Groups {
     /// the pattern group of each group
     pattern_of: Vec<usize>,
     starts: Vec<f64>,
+    threshold: f64,
 }
 
 impl Groups {
     pub fn of(chart: &Chart) -> Self {
+        let margin = chart.settings.margin;
         let notes = chart.notes();
         let deltas: Vec<f64> = notes.iter().map(|&i| chart.delta[i]).collect();
-        let ends = group_ends(&deltas);
+        let ends = group_ends(&deltas, margin);
         let objects = parted(&ends, &notes);
         let first_starts: Vec<f64> = objects.iter().map(|g| chart.start[g[0]]).collect();
-        let intervals = intervals(&first_starts);
-        let patterns = parted(&group_ends(&intervals), &intervals);
+        let intervals = intervals(&first_starts, margin);
+        let patterns = parted(&group_ends(&intervals, margin), &intervals);
         let numbered = patterns.iter().enumerate();
         let pattern_of = numbered.flat_map(|(p, groups)| vec![p; groups.len()]);
         Groups {
-            owns: own_intervals(&parted(&ends, &deltas)),
+            owns: own_intervals(&parted(&ends, &deltas), margin),
             pattern_of: pattern_of.collect(),
             objects,
             intervals,
             patterns,
             starts: chart.start.clone(),
+            threshold: chart.settings.threshold,
         }
     }
 
@@ -147,9 +147,10 @@ impl Groups {
 
     fn penalty(&self, group: usize, window: f64) -> f64 {
         let objects = &self.objects[group];
-        let long = walk(&self.owns, group, 3);
+        let walked = |count| walk(&self.owns, group, count, self.threshold);
+        let long = walked(3);
         let short = match objects.len() {
-            0..=5 => walk(&self.owns, group, 4),
+            0..=5 => walked(4),
             _ => 1.0,
         };
         let duration = self.starts[objects[objects.len() - 1]] - self.starts[objects[0]];

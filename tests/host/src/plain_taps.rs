@@ -1,7 +1,7 @@
 //! The words of the request for taps, with two loops: one over the pairs, one over what the grouping looks at. It knows
 //! nothing of the library.
 
-use crate::plain_rhythm::{near, MARGIN, NO_GROUP};
+use crate::plain_rhythm::{near, NO_GROUP};
 use crate::taps::{Range, TapChart};
 
 pub const NEAR: u8 = 0;
@@ -11,15 +11,15 @@ pub const OPEN: u8 = 3;
 pub const NO_PAIR: u8 = 255;
 
 /// The later one is above the earlier one by more than the margin.
-pub fn rise(a: f64, b: f64) -> bool {
-    b > a + MARGIN
+pub fn rise(a: f64, b: f64, margin: f64) -> bool {
+    b > a + margin
 }
 
 /// The class of two deltas: near is asked before rise.
-pub fn class_of_deltas(a: f64, b: f64) -> u8 {
-    if near(a, b) {
+pub fn class_of_deltas(a: f64, b: f64, margin: f64) -> u8 {
+    if near(a, b, margin) {
         NEAR
-    } else if rise(a, b) {
+    } else if rise(a, b, margin) {
         RISE
     } else {
         NEITHER
@@ -27,7 +27,9 @@ pub fn class_of_deltas(a: f64, b: f64) -> u8 {
 }
 
 /// The class that two deltas surely have which lie in these ranges, or that it is open.
-pub fn class_of_ranges([al, ah]: Range, [bl, bh]: Range) -> u8 {
+pub fn class_of_ranges([al, ah]: Range, [bl, bh]: Range, margin: f64) -> u8 {
+    let near = |a, b| near(a, b, margin);
+    let rise = |a, b| rise(a, b, margin);
     if near(ah, bl) && near(al, bh) {
         return NEAR;
     }
@@ -114,7 +116,7 @@ pub fn told(chart: &TapChart) -> Told {
     let mut class = Vec::new();
     for two in notes.windows(2) {
         let [a, b] = [two[0], two[1]].map(|object| chart.range(object));
-        class.push(class_of_ranges(a, b));
+        class.push(class_of_ranges(a, b, chart.low.settings.margin));
         pair[two[0]] = class[class.len() - 1];
     }
     let mut walk = Walk {

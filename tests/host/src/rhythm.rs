@@ -49,6 +49,7 @@ impl Memory {
 pub fn rhythm(chart: &Chart, memory: &mut Memory) -> Grouped {
     calls::rhythm(
         &chart.lent(),
+        chart.settings,
         memory.group.lend(),
         memory.pattern.lend(),
         memory.working.work.lend(),
@@ -58,5 +59,12 @@ pub fn rhythm(chart: &Chart, memory: &mut Memory) -> Grouped {
 
 pub fn record(chart: &Chart, group: usize, window: f64, memory: &mut Memory) -> Recorded {
     let Work { work, scratch } = &mut memory.working;
-    calls::record(&chart.lent(), group, window, work.lend(), scratch.lend())
+    calls::record(
+        &chart.lent(),
+        chart.settings,
+        group,
+        window,
+        work.lend(),
+        scratch.lend(),
+    )
 }

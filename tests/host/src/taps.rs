@@ -6,7 +6,7 @@ use crate::chart::Chart;
 use crate::lent::{Room, Work};
 use crate::plain_taps::{self, Told};
 use crate::samples::Xorshift;
-use dresserduck::calls;
+use dresserduck::{calls, Settings};
 
 pub use dresserduck::calls::Tapped;
 
@@ -44,6 +44,14 @@ impl TapChart {
         let low = Chart::of_size(n);
         let highest = low.delta.iter().map(|delta| delta + 2.0).collect();
         TapChart { low, highest }
+    }
+
+    /// The same, asked under these settings.
+    pub fn under(&self, settings: Settings) -> Self {
+        TapChart {
+            low: self.low.under(settings),
+            highest: self.highest.clone(),
+        }
     }
 
     /// As the call takes it.
@@ -149,6 +157,7 @@ pub fn taps(chart: &TapChart, memory: &mut Memory) -> Tapped {
     } = memory;
     calls::taps(
         &chart.lent(),
+        chart.low.settings,
         pair.lend(),
         group.lend(),
         working.work.lend(),

@@ -7,6 +7,8 @@ use host_tests::landmark::colour_landmarks;
 use host_tests::pairs::{random_pair, Pair};
 use host_tests::samples::Xorshift;
 
+use dresserduck::Settings;
+
 const PAIRS: usize = 4_000;
 // counted from 0
 const SIXTEENTH: usize = 15;
@@ -15,7 +17,7 @@ const SIXTEENTH: usize = 15;
 fn landmarks(pair: &Pair) -> Vec<usize> {
     let [a, b] = pair.charts.each_ref().map(|chart| {
         let before = chart.size() - pair.tail;
-        let found = colour_landmarks(&chart.kind, before).into_iter();
+        let found = colour_landmarks(chart, before).into_iter();
         found.map(|at| at - before).collect::<Vec<usize>>()
     });
     assert_eq!(a, b, "landmarks of {pair}");
@@ -116,7 +118,7 @@ fn charts_agree_from_colour_landmarks_on() {
     let mut random = Xorshift::new(0xA62E);
     let mut counts = Counts::default();
     for _ in 0..PAIRS {
-        let pair = random_pair(&mut random);
+        let pair = random_pair(&mut random, Settings::DEFAULT);
         check_pair(&mut random, &pair, &mut counts);
     }
     println!("{counts:?}");

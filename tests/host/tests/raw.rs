@@ -2,7 +2,7 @@
 
 use std::ptr::{dangling, dangling_mut};
 
-use dresserduck::calls;
+use dresserduck::{calls, Settings};
 
 /// Where a call's slices begin. The chart's lists of floats are one, as what is only read may be shared.
 struct Places {
@@ -40,7 +40,7 @@ macro_rules! asked {
         // SAFETY: a call touches no place that it does not need, and none at all when it is refused for its counts: the memory
         // is there for what it needs, or it is refused. One that did would be stopped by the processor or found out.
         let answer = unsafe {
-            calls::$export(at.kind, $kind, $(x, $list,)* $($argument,)* $($slice, $count),*)
+            calls::$export(at.kind, $kind, $(x, $list,)* Settings::DEFAULT, $($argument,)* $($slice, $count),*)
         };
         (answer.refusal, answer.place)
     }};

@@ -4,6 +4,8 @@ use host_tests::pairs::{random_pair, Pair};
 use host_tests::rhythm::{rhythm, Memory};
 use host_tests::samples::Xorshift;
 
+use dresserduck::Settings;
+
 const PAIRS: usize = 3_000;
 const MARGIN: f64 = 5.0;
 
@@ -51,7 +53,7 @@ fn charts_agree_from_rhythm_landmarks_on() {
     let mut random = Xorshift::new(0x4217);
     let (mut seen, mut differ, mut non_hits) = (0, 0, 0);
     for _ in 0..PAIRS {
-        let pair = random_pair(&mut random);
+        let pair = random_pair(&mut random, Settings::DEFAULT);
         let notes = tail_notes(&pair);
         let marks = landmarks(&pair, &notes);
         non_hits += usize::from(notes.len() < pair.tail);

@@ -132,6 +132,7 @@ fn every_other_call_accepts_a_built_chart() {
             start: memory.start.lent().to_vec(),
             delta: memory.delta.lent().to_vec(),
             ratio: memory.ratio.lent().to_vec(),
+            ..Chart::default()
         };
         // an empty chart has no stretch, and one without notes no mean and no group
         let noted = chart.kind.iter().any(|&kind| kind < 2);

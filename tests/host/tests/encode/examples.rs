@@ -137,7 +137,8 @@ fn examples_as_written() {
 #[test]
 fn plain_encoder_on_the_examples() {
     for example in STARRED.iter().chain(&MORE) {
-        let got = plain::encode(&Chart::of_text(example.0).kind);
+        let chart = Chart::of_text(example.0);
+        let got = plain::encode(&chart.kind, chart.settings.search_limit);
         assert_eq!(got, answers_of(example), "plain encoder on {:?}", example.0);
     }
 }

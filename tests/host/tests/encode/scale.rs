@@ -61,7 +61,7 @@ fn random_charts() {
         let mut chart = biased_chart(&mut random, n);
         scatter(&mut random, &mut chart);
         let sizes = exact_sizes(n).map(|count| count + random.below(4));
-        let answers = plain::encode(&chart.kind);
+        let answers = plain::encode(&chart.kind, chart.settings.search_limit);
         accepted_with(&chart, sizes, &answers);
         count_intervals(&mut counts, &answers);
         seen.count(&chart, &answers);

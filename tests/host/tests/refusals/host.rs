@@ -115,7 +115,7 @@ fn work_of_a_wrapped_count() {
 fn lent_slices_with_room() {
     for n in [0, 1, 2, 9, LARGEST_CHART] {
         let chart = Chart::of_size(n);
-        let answers = plain::encode(&chart.kind);
+        let answers = plain::encode(&chart.kind, chart.settings.search_limit);
         accepted_with(&chart, exact_sizes(n).map(|count| count + 11), &answers);
         for slice in 0..8 {
             let mut sizes = exact_sizes(n);

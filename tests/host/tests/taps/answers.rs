@@ -42,7 +42,8 @@ fn check_choice(chart: &TapChart, told: &Told, choice: &Chart) {
     for two in choice.notes().windows(2) {
         let [a, b] = [two[0], two[1]];
         if told.pair[a] != OPEN {
-            let class = class_of_deltas(choice.delta[a], choice.delta[b]);
+            let margin = choice.settings.margin;
+            let class = class_of_deltas(choice.delta[a], choice.delta[b], margin);
             assert_eq!(told.pair[a], class, "note {a} of {choice}");
         }
     }

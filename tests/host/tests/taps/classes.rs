@@ -3,9 +3,13 @@
 
 use crate::known;
 use host_tests::faults::{BOUND, LARGEST_SUBNORMAL, TINY};
-use host_tests::plain_rhythm::{near, MARGIN};
+use host_tests::plain_rhythm::near;
 use host_tests::plain_taps::{class_of_deltas, rise, NEAR, NEITHER, OPEN, RISE};
 use host_tests::taps::{accepted, Range, TapChart};
+
+use dresserduck::Settings;
+
+const MARGIN: f64 = Settings::DEFAULT.margin;
 
 /// What the call tells of two notes, and the plain version too; of two, no pair is looked at.
 #[track_caller]
@@ -18,8 +22,8 @@ fn told(a: Range, b: Range) -> u8 {
 
 /// The class that any two of these deltas have, if it is one.
 fn common(a: &[f64], b: &[f64]) -> u8 {
-    let first = class_of_deltas(a[0], b[0]);
-    let same = |&x: &f64| b.iter().all(|&y| class_of_deltas(x, y) == first);
+    let first = class_of_deltas(a[0], b[0], MARGIN);
+    let same = |&x: &f64| b.iter().all(|&y| class_of_deltas(x, y, MARGIN) == first);
     if a.iter().all(same) {
         first
     } else {
@@ -170,7 +174,7 @@ fn wide_ranges_have_the_class_that_the_deciding_choices_have() {
 #[test]
 fn where_near_and_a_rise_both_hold_it_is_near() {
     let [a, b] = near_and_rise();
-    assert!(near(a, b) && rise(a, b), "both hold");
+    assert!(near(a, b, MARGIN) && rise(a, b, MARGIN), "both hold");
     assert_eq!(told(known(a), known(b)), NEAR);
     // the next pairs that are one of the two
     assert_eq!(told(known(a), known(b.next_up())), RISE);
@@ -180,7 +184,10 @@ fn where_near_and_a_rise_both_hold_it_is_near() {
 #[test]
 fn one_that_is_above_may_be_neither_near_nor_a_rise() {
     let [a, b] = above_and_neither();
-    assert!(b > a && !near(a, b) && !rise(a, b), "neither holds");
+    assert!(
+        b > a && !near(a, b, MARGIN) && !rise(a, b, MARGIN),
+        "neither holds"
+    );
     assert_eq!(told(known(a), known(b)), NEITHER);
     assert_eq!(told(known(a), known(b.next_down())), NEAR);
     assert_eq!(told(known(a), known(b.next_up())), RISE);
@@ -193,8 +200,11 @@ fn one_that_is_above_may_be_neither_near_nor_a_rise() {
 #[test]
 fn corners_of_one_class_are_not_enough() {
     let [a, b] = above_and_neither();
-    assert_eq!([a, 20.0].map(|x| class_of_deltas(x, b)), [NEITHER; 2]);
-    assert_eq!(class_of_deltas(b, b), NEAR);
+    assert_eq!(
+        [a, 20.0].map(|x| class_of_deltas(x, b, MARGIN)),
+        [NEITHER; 2]
+    );
+    assert_eq!(class_of_deltas(b, b, MARGIN), NEAR);
     assert_eq!(told([a, 20.0], known(b)), OPEN);
     assert_eq!(told(known(b), [a, 20.0]), OPEN);
     // the range of the other side of each
