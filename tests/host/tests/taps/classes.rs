@@ -1,29 +1,37 @@
-//! The class of two ranges: narrow ones by every choice of deltas, around the margin and at the bounds, wide ones by
-//! the deltas that decide; and the request's traps, by name.
+//! The class of two ranges: narrow ones by every choice of deltas, around each margin and at the bounds, wide ones by
+//! the deltas that decide; and the request's traps at the default margin, by name.
 
 use crate::known;
+use dresserduck::Settings;
 use host_tests::faults::{BOUND, LARGEST_SUBNORMAL, TINY};
 use host_tests::plain_rhythm::near;
 use host_tests::plain_taps::{class_of_deltas, rise, NEAR, NEITHER, OPEN, RISE};
 use host_tests::taps::{accepted, Range, TapChart};
 
-use dresserduck::Settings;
-
 const MARGIN: f64 = Settings::DEFAULT.margin;
+/// With it some that are smaller and larger.
+const MARGINS: [f64; 5] = [0.0, TINY, MARGIN, 8.5, 50.0];
 
-/// What the call tells of two notes, and the plain version too; of two, no pair is looked at.
+/// What the call tells of two notes under this margin, and the plain version too; of two, no pair is looked at.
 #[track_caller]
-fn told(a: Range, b: Range) -> u8 {
-    let told = accepted(&TapChart::of_ranges(&[a, b]));
+fn told_under(margin: f64, a: Range, b: Range) -> u8 {
+    let chart = TapChart::of_ranges(&[a, b]);
+    let told = accepted(&chart.under(Settings::DEFAULT.with_margin(margin)));
     let groups = told.groups.map(|groups| groups.of_object);
     assert_eq!(groups, Some(vec![0, 1]), "{a:?} and {b:?}");
     told.pair[0]
 }
 
+/// The same under the default margin.
+#[track_caller]
+fn told(a: Range, b: Range) -> u8 {
+    told_under(MARGIN, a, b)
+}
+
 /// The class that any two of these deltas have, if it is one.
-fn common(a: &[f64], b: &[f64]) -> u8 {
-    let first = class_of_deltas(a[0], b[0], MARGIN);
-    let same = |&x: &f64| b.iter().all(|&y| class_of_deltas(x, y, MARGIN) == first);
+fn common(margin: f64, a: &[f64], b: &[f64]) -> u8 {
+    let first = class_of_deltas(a[0], b[0], margin);
+    let same = |&x: &f64| b.iter().all(|&y| class_of_deltas(x, y, margin) == first);
     if a.iter().all(same) {
         first
     } else {
@@ -81,11 +89,12 @@ fn near_and_rise() -> [f64; 2] {
 }
 
 /// Two deltas about the margin apart.
-fn centres() -> Vec<[f64; 2]> {
+fn centres(margin: f64) -> Vec<[f64; 2]> {
+    let half = margin / 2.0;
     let mut all = vec![
         above_and_neither(),
         near_and_rise(),
-        [2.5, -2.5],
+        [half, -half],
         [100.0, 100.0],
         [0.0, 1000.0],
     ];
@@ -96,48 +105,76 @@ fn centres() -> Vec<[f64; 2]> {
         -TINY,
         LARGEST_SUBNORMAL,
         -f64::MIN_POSITIVE,
-        -5.0,
+        -margin,
         3.0,
-        8.0 - MARGIN,
+        8.0 - margin,
         100.1,
-        128.0 - MARGIN,
-        BOUND - MARGIN,
+        128.0 - margin,
+        BOUND - margin,
         -BOUND,
     ];
-    all.extend(firsts.map(|x| [x, x + MARGIN]));
+    all.extend(firsts.map(|x| [x, x + margin]));
     all
 }
 
 /// How often each class was told.
 type Counts = [usize; 4];
 
+/// Where the margin is so small fewer pairs are near.
+fn least(margin: f64, count: usize) -> usize {
+    if margin > TINY {
+        count
+    } else {
+        count / 20
+    }
+}
+
+/// Two ranges, and the choices of a delta in each that decide their class.
+struct Choices {
+    ranges: [Range; 2],
+    deltas: [Vec<f64>; 2],
+}
+
+/// Both ways round.
 #[track_caller]
-fn check(a: Range, b: Range, [a_deltas, b_deltas]: [&[f64]; 2], counts: &mut Counts) {
-    let want = common(a_deltas, b_deltas);
-    assert_eq!(told(a, b), want, "{a:?} and {b:?}");
-    counts[usize::from(want)] += 1;
+fn check(margin: f64, choices: &Choices, counts: &mut Counts) {
+    for (one, other) in [(0, 1), (1, 0)] {
+        let [a, b] = [one, other].map(|k| choices.ranges[k]);
+        let want = common(margin, &choices.deltas[one], &choices.deltas[other]);
+        assert_eq!(
+            told_under(margin, a, b),
+            want,
+            "{a:?} and {b:?}, {margin:e}"
+        );
+        counts[usize::from(want)] += 1;
+    }
+}
+
+/// Each range of the one list with each of the other.
+fn each_two(ones: &[Range], others: &[Range]) -> Vec<[Range; 2]> {
+    let with = |&one: &Range| others.iter().map(move |&other| [one, other]);
+    ones.iter().flat_map(with).collect()
 }
 
 #[test]
 fn narrow_ranges_have_the_class_that_every_choice_has() {
-    let mut counts = Counts::default();
-    for [x, y] in centres() {
-        for a in narrow(x) {
-            for b in narrow(y) {
-                let (in_a, in_b) = (all_inside(a), all_inside(b));
-                check(a, b, [&in_a, &in_b], &mut counts);
-                check(b, a, [&in_b, &in_a], &mut counts);
-            }
+    for margin in MARGINS {
+        let mut counts = Counts::default();
+        let about = centres(margin).into_iter();
+        for ranges in about.flat_map(|[x, y]| each_two(&narrow(x), &narrow(y))) {
+            let deltas = ranges.map(all_inside);
+            check(margin, &Choices { ranges, deltas }, &mut counts);
         }
+        let often = counts.iter().all(|&count| count > least(margin, 3_000));
+        assert!(often, "{margin:e}: {counts:?}");
     }
-    assert!(counts.iter().all(|&count| count > 3_000), "{counts:?}");
 }
 
 /// The ends of a range, and what lies in it near an end of the other one and near those a margin away.
-fn deciding([low, high]: Range, other: Range) -> Vec<f64> {
+fn deciding(margin: f64, [low, high]: Range, other: Range) -> Vec<f64> {
     let marks = other
         .iter()
-        .flat_map(|&end| [end - MARGIN, end, end + MARGIN]);
+        .flat_map(|&end| [end - margin, end, end + margin]);
     let around = marks.flat_map(|mark| (-4..=4).map(move |steps| stepped(mark, steps)));
     let inside = around.filter(|&x| low <= x && x <= high);
     [low, high].into_iter().chain(inside).collect()
@@ -158,17 +195,17 @@ fn wide(around: f64) -> Vec<Range> {
 
 #[test]
 fn wide_ranges_have_the_class_that_the_deciding_choices_have() {
-    let mut counts = Counts::default();
-    for [x, y] in centres() {
-        for a in wide(x) {
-            for b in wide(y) {
-                let (in_a, in_b) = (deciding(a, b), deciding(b, a));
-                check(a, b, [&in_a, &in_b], &mut counts);
-                check(b, a, [&in_b, &in_a], &mut counts);
-            }
+    for margin in MARGINS {
+        let mut counts = Counts::default();
+        let about = centres(margin).into_iter();
+        for ranges in about.flat_map(|[x, y]| each_two(&wide(x), &wide(y))) {
+            let [a, b] = ranges;
+            let deltas = [deciding(margin, a, b), deciding(margin, b, a)];
+            check(margin, &Choices { ranges, deltas }, &mut counts);
         }
+        let often = counts.iter().all(|&count| count > least(margin, 300));
+        assert!(often, "{margin:e}: {counts:?}");
     }
-    assert!(counts.iter().all(|&count| count > 300), "{counts:?}");
 }
 
 #[test]
@@ -184,10 +221,8 @@ fn where_near_and_a_rise_both_hold_it_is_near() {
 #[test]
 fn one_that_is_above_may_be_neither_near_nor_a_rise() {
     let [a, b] = above_and_neither();
-    assert!(
-        b > a && !near(a, b, MARGIN) && !rise(a, b, MARGIN),
-        "neither holds"
-    );
+    let neither = !near(a, b, MARGIN) && !rise(a, b, MARGIN);
+    assert!(b > a && neither, "neither holds");
     assert_eq!(told(known(a), known(b)), NEITHER);
     assert_eq!(told(known(a), known(b.next_down())), NEAR);
     assert_eq!(told(known(a), known(b.next_up())), RISE);
