@@ -1,4 +1,4 @@
-//! Two charts with a common tail agree from the colour landmarks of the scope on: demand 3 through the calls.
+//! Two charts with a common tail agree from the colour landmarks of the scope on: demand 3 through the calls, under one set of settings.
 
 use host_tests::chart::Chart;
 use host_tests::colour::{stretch, Memory, Stretched};
@@ -9,9 +9,24 @@ use host_tests::samples::Xorshift;
 
 use dresserduck::Settings;
 
-const PAIRS: usize = 4_000;
-// counted from 0
-const SIXTEENTH: usize = 15;
+/// How many pairs are asked under the default, and under each other set.
+const PAIRS: [usize; 2] = [4_000, 1_000];
+
+/// Other search limits, and tolerances that tell other ratios alike.
+fn sets() -> [Settings; 6] {
+    let with = |search_limit, tolerance| {
+        let limited = Settings::DEFAULT.with_search_limit(search_limit);
+        limited.with_tolerance(tolerance)
+    };
+    [
+        Settings::DEFAULT,
+        with(2, 0.0),
+        with(3, 0.01),
+        with(15, 0.2),
+        with(17, 1.0),
+        with(64, 0.5),
+    ]
+}
 
 /// The landmarks by their distance from the tail's first object; both charts must show the same ones.
 fn landmarks(pair: &Pair) -> Vec<usize> {
@@ -35,10 +50,19 @@ fn check_hit_patterns(pair: &Pair, [a, b]: &[Heard; 2], landmark: usize) {
     }
 }
 
-/// The first object of the sixteenth hit pattern that opens after the landmark.
-fn sixteenth(heard: &Heard, landmark: usize) -> Option<usize> {
-    let mut opened = (landmark..heard.opens.len()).filter(|&object| heard.opens[object]);
-    opened.nth(SIXTEENTH)
+/// Which hit pattern after the landmark is the first of which all is settled: by default the sixteenth.
+fn number_of_first(pair: &Pair) -> usize {
+    pair.charts[0].settings.search_limit as usize
+}
+
+/// The first objects of the hit patterns that open after the landmark.
+fn opened(heard: &Heard, landmark: usize) -> impl Iterator<Item = usize> + '_ {
+    (landmark..heard.opens.len()).filter(|&object| heard.opens[object])
+}
+
+/// Its first object.
+fn settled(pair: &Pair, heard: &Heard, landmark: usize) -> Option<usize> {
+    opened(heard, landmark).nth(number_of_first(pair) - 1)
 }
 
 fn check_values(pair: &Pair, [a, b]: &[Heard; 2], from: usize) {
@@ -80,9 +104,9 @@ fn check_stretch(pair: &Pair, bounds: [usize; 2]) -> bool {
 #[derive(Debug, Default)]
 struct Counts {
     landmark: usize,
-    sixteenth: usize,
+    settled: usize,
     stretches: usize,
-    // pairs whose openings tell: hit patterns differ before the first landmark, intervals between it and the sixteenth
+    // pairs whose openings tell: hit patterns differ before the first landmark, intervals behind it
     other_openings: usize,
     other_intervals: usize,
 }
@@ -97,10 +121,10 @@ fn check_pair(random: &mut Xorshift, pair: &Pair, counts: &mut Counts) {
     counts.other_openings += usize::from(both[0].opens[..first] != both[1].opens[..first]);
     let after = both.each_ref().map(|heard| &heard.interval[first..]);
     counts.other_intervals += usize::from(after[0] != after[1]);
-    counts.sixteenth += usize::from(sixteenth(&both[0], first).is_some());
+    counts.settled += usize::from(settled(pair, &both[0], first).is_some());
     for landmark in marks {
         check_hit_patterns(pair, &both, landmark);
-        let Some(from) = sixteenth(&both[0], landmark) else {
+        let Some(from) = settled(pair, &both[0], landmark) else {
             continue;
         };
         check_values(pair, &both, from);
@@ -116,18 +140,23 @@ fn check_pair(random: &mut Xorshift, pair: &Pair, counts: &mut Counts) {
 #[test]
 fn charts_agree_from_colour_landmarks_on() {
     let mut random = Xorshift::new(0xA62E);
-    let mut counts = Counts::default();
-    for _ in 0..PAIRS {
-        let pair = random_pair(&mut random, Settings::DEFAULT);
-        check_pair(&mut random, &pair, &mut counts);
+    for settings in sets() {
+        let pairs = PAIRS[usize::from(settings != Settings::DEFAULT)];
+        let mut counts = Counts::default();
+        for _ in 0..pairs {
+            let pair = random_pair(&mut random, settings);
+            check_pair(&mut random, &pair, &mut counts);
+        }
+        println!("{settings:?}: {counts:?}");
+        // hardly an opening tells where only the hit pattern before is looked at
+        let far = settings.search_limit > 2;
+        let enough = 2 * counts.landmark >= pairs
+            && 13 * counts.settled >= pairs
+            && 4 * counts.stretches >= pairs
+            && 13 * counts.other_openings >= pairs
+            && (40 * counts.other_intervals >= pairs || !far);
+        assert!(enough, "of {pairs} pairs under {settings:?}: {counts:?}");
     }
-    println!("{counts:?}");
-    let enough = counts.landmark >= 2_000
-        && counts.sixteenth >= 300
-        && counts.stretches >= 1_000
-        && counts.other_openings >= 300
-        && counts.other_intervals >= 100;
-    assert!(enough, "of {PAIRS} pairs: {counts:?}");
 }
 
 /// One uncoupled pattern is not enough: after `dkdd` a hit pattern opens in one chart and not in the other.
@@ -140,22 +169,32 @@ fn one_uncoupled_pattern_is_no_landmark() {
     assert_eq!(last, [true, false], "opens at the last object of {pair}");
 }
 
-/// The fifteenth hit pattern is not enough: a match 15 before it may lie before the landmark.
+/// A landmark, then streaks of 3 objects and more, up to the limit, and three more.
+fn tail_for(search_limit: u64) -> String {
+    let run = |length: usize| ["k", "d"][length % 2].repeat(length);
+    let runs: String = (3..=search_limit as usize).map(run).collect();
+    let end = ["dkkddd", "kddkkk"][search_limit as usize % 2];
+    format!("dkddk{runs}{end}")
+}
+
+/// The fifteenth hit pattern is not enough: a match 15 before it may lie before the landmark. So it is with other limits;
+/// below 5 the streaks are too few for this landmark.
 #[test]
 fn fifteenth_hit_pattern_may_differ() {
-    let run = |length: usize| ["k", "d"][length % 2].repeat(length);
-    let runs: String = (3..=16).map(run).collect();
-    let tail = format!("dkddk{runs}dkkddd");
-    let charts = [tail.clone(), format!("d{tail}")].map(|letters| Chart::of_text(&letters));
-    let pair = Pair {
-        charts,
-        tail: tail.len(),
-    };
-    assert_eq!(landmarks(&pair)[0], 5, "landmarks of {pair}");
-    let both = pair.charts.each_ref().map(|chart| heard(chart, pair.tail));
-    let mut opened = (5..pair.tail).filter(|&object| both[0].opens[object]);
-    let fifteenth = opened.nth(SIXTEENTH - 1);
-    let at = fifteenth.unwrap_or_else(|| panic!("no fifteenth in {pair}"));
-    let intervals = both.map(|heard| heard.interval[at]);
-    assert_eq!(intervals, [15, 17], "intervals at {at} of {pair}");
+    for search_limit in 5..=64 {
+        let tail = tail_for(search_limit);
+        let settings = Settings::DEFAULT.with_search_limit(search_limit);
+        let charts = [tail.clone(), format!("d{tail}")];
+        let pair = Pair {
+            charts: charts.map(|letters| Chart::of_text(&letters).under(settings)),
+            tail: tail.len(),
+        };
+        assert_eq!(landmarks(&pair)[0], 5, "landmarks of {pair}");
+        let both = pair.charts.each_ref().map(|chart| heard(chart, pair.tail));
+        let before_it = opened(&both[0], 5).nth(number_of_first(&pair) - 2);
+        let at = before_it.unwrap_or_else(|| panic!("no such hit pattern in {pair}"));
+        let intervals = both.map(|heard| u64::from(heard.interval[at]));
+        let want = [search_limit - 1, search_limit + 1];
+        assert_eq!(intervals, want, "intervals at {at} of {pair}");
+    }
 }
