@@ -3,6 +3,8 @@
 pub mod build;
 pub mod chart;
 pub mod check;
+pub mod check_colour;
+pub mod check_rhythm;
 pub mod colour;
 pub mod faults;
 pub mod heard;

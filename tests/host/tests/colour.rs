@@ -2,36 +2,10 @@
 
 use host_tests::chart::Chart;
 use host_tests::check::bad_charts;
-use host_tests::colour::{colour, stretch, Coloured, Memory};
+use host_tests::check_colour::{check_stretch, check_values, exact, refused, roomy, DONE};
+use host_tests::colour::{colour, stretch, Memory};
 use host_tests::samples::{biased_chart, ratios, Xorshift};
 use host_tests::LARGEST_CHART;
-use host_tests::{plain_colour, plain_tenths};
-
-/// The table T by the definition's own list of bit patterns.
-fn table() -> impl Fn(usize) -> f64 {
-    let spec = include_str!("../../../crates/numeric/specs/Logistic.antt");
-    let pattern = |word: &str| u64::from_str_radix(word.strip_prefix("0x")?, 16).ok();
-    let values: Vec<f64> = spec
-        .split_whitespace()
-        .filter_map(pattern)
-        .map(f64::from_bits)
-        .collect();
-    assert_eq!(values.len(), 264, "the definition's list");
-    move |n| values.get(n).copied().unwrap_or(0.0)
-}
-
-fn exact(n: usize) -> Memory {
-    Memory::of_sizes([n, 8 * n, n])
-}
-
-fn roomy(n: usize) -> Memory {
-    Memory::of_sizes([n + 3, 8 * n + 5, n + 2])
-}
-
-const DONE: Coloured = Coloured {
-    refusal: 0,
-    place: 0,
-};
 
 #[test]
 fn one_object_has_the_value_of_the_scope() {
@@ -40,47 +14,15 @@ fn one_object_has_the_value_of_the_scope() {
     assert_eq!(memory.value.lent()[0].to_bits(), 0x4013_ee42_c838_4268);
 }
 
-#[track_caller]
-fn check_values(chart: &Chart, table: &dyn Fn(usize) -> f64) -> Vec<f64> {
-    let values = plain_colour::values(chart, table);
-    let n = values.len();
-    for lent in [exact(n), roomy(n)] {
-        let mut memory = lent.clone();
-        assert_eq!(colour(chart, &mut memory), DONE, "{chart}");
-        assert_eq!(memory.bits(), lent.filled(&values).bits(), "{chart}");
-    }
-    values
-}
-
-/// Checks the stretch from a to b, whose colour values are known, and gives its mean, if it has one.
-#[track_caller]
-fn check_stretch(chart: &Chart, values: &[f64], a: usize, b: usize) -> Option<f64> {
-    let mean = plain_colour::mean(&chart.kind[a..b], &values[a..b]);
-    let lent = roomy(values.len());
-    let Some(mean) = mean else {
-        refused(chart, Some((a, b)), lent, 11, 0);
-        return None;
-    };
-    let mut memory = lent.clone();
-    let got = stretch(chart, a, b, &mut memory);
-    assert_eq!((got.refusal, got.place), (0, 0), "{a}..{b} of {chart}");
-    assert_eq!(got.mean.to_bits(), mean.to_bits(), "{a}..{b} of {chart}");
-    let tenths = plain_tenths::tenths(mean);
-    assert_eq!(got.tenths, tenths, "{a}..{b} of {chart}");
-    assert_eq!(memory.bits(), lent.filled(values).bits(), "{chart}");
-    Some(mean)
-}
-
 #[test]
 fn values_and_stretches_follow_the_scope() {
-    let table = table();
     let mut rng = Xorshift::new(0x5EED);
     let (mut stretches, mut negative, mut noteless) = (0, 0, 0);
     for round in 0..2_000 {
         let n = rng.below(120);
         let mut chart = biased_chart(&mut rng, n);
         chart.ratio = ratios(&mut rng, n);
-        let values = check_values(&chart, &table);
+        let values = check_values(&chart);
         if n == 0 {
             continue;
         }
@@ -106,7 +48,6 @@ fn values_and_stretches_follow_the_scope() {
 /// Means half-way between two tenths: the even one is shown. All ratios of a chart are equal.
 #[test]
 fn half_way_the_even_tenth_is_shown() {
-    let table = table();
     for (kinds, ratio, (a, b), mean, tenths) in [
         ("ddddk", 0x3FFD_F719_7F2D_26A0, (4, 5), 1.25, 12),
         ("dkkdk", 0x4022_FAA8_E5E7_E3F9, (0, 4), 0.75, 8),
@@ -116,7 +57,7 @@ fn half_way_the_even_tenth_is_shown() {
     ] {
         let mut chart = Chart::of_text(kinds);
         chart.ratio = vec![f64::from_bits(ratio); kinds.len()];
-        let values = check_values(&chart, &table);
+        let values = check_values(&chart);
         assert_eq!(check_stretch(&chart, &values, a, b), Some(mean));
         let got = stretch(&chart, a, b, &mut roomy(kinds.len()));
         assert_eq!(got.tenths, tenths, "{a}..{b} of {chart}");
@@ -126,9 +67,8 @@ fn half_way_the_even_tenth_is_shown() {
 /// NonHits are filled like other objects, and lend the mean neither their values nor their number.
 #[test]
 fn non_hits_do_not_move_a_mean() {
-    let table = table();
     let chart = Chart::of_text("nndknkn");
-    let values = check_values(&chart, &table);
+    let values = check_values(&chart);
     assert!(values[0] > 0.0, "a NonHit has a value");
     for (a, b, notes) in [
         // at both ends, at either, and inside
@@ -169,41 +109,13 @@ fn notes_of_minus_zero_have_the_mean_zero() {
     let mut chart = Chart::of_text("dndd");
     // the last two open nothing, and their penalty is below zero
     chart.ratio = vec![4.0; 4];
-    let values = check_values(&chart, &table());
+    let values = check_values(&chart);
     let minus_zero = (-0.0f64).to_bits();
     assert_eq!([2, 3].map(|i| values[i].to_bits()), [minus_zero; 2]);
     for a in [1, 2, 3] {
         let mean = check_stretch(&chart, &values, a, 4);
         assert_eq!(mean.map(f64::to_bits), Some(0), "{a}..4");
     }
-}
-
-#[track_caller]
-fn refused(
-    chart: &Chart,
-    bounds: Option<(usize, usize)>,
-    memory: Memory,
-    refusal: u64,
-    place: u64,
-) {
-    let mut after = memory.clone();
-    let got = match bounds {
-        None => {
-            let got = colour(chart, &mut after);
-            (got.refusal, got.place)
-        }
-        Some((a, b)) => {
-            let got = stretch(chart, a, b, &mut after);
-            assert_eq!(
-                (got.mean.to_bits(), got.tenths),
-                (0, 0),
-                "{a}..{b} of {chart}"
-            );
-            (got.refusal, got.place)
-        }
-    };
-    assert_eq!(got, (refusal, place), "{bounds:?} of {chart}");
-    assert_eq!(after.bits(), memory.bits(), "{bounds:?} of {chart}");
 }
 
 #[test]
@@ -251,6 +163,6 @@ fn earlier_refusals_come_before_9_and_11() {
 #[test]
 fn the_largest_chart_is_accepted() {
     let mut rng = Xorshift::new(7);
-    let values = check_values(&biased_chart(&mut rng, LARGEST_CHART), &table());
+    let values = check_values(&biased_chart(&mut rng, LARGEST_CHART));
     assert_eq!(values.len(), LARGEST_CHART);
 }

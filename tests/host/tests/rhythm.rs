@@ -2,18 +2,11 @@
 
 use host_tests::chart::Chart;
 use host_tests::check::bad_charts;
+use host_tests::check_rhythm::{check_record, check_rhythm, exact, refused, roomy};
 use host_tests::plain_rhythm::{Groups, NO_GROUP};
-use host_tests::rhythm::{record, rhythm, Grouped, Memory, Recorded};
+use host_tests::rhythm::{record, rhythm, Memory};
 use host_tests::samples::{rhythmic_chart, Xorshift};
 use host_tests::LARGEST_CHART;
-
-fn exact(n: usize) -> Memory {
-    Memory::of_sizes([n, n, 8 * n, n])
-}
-
-fn roomy(n: usize) -> Memory {
-    Memory::of_sizes([n + 3, n + 1, 8 * n + 5, n + 2])
-}
 
 /// Notes with these deltas, each start the one before and its delta.
 fn notes(deltas: &[f64]) -> Chart {
@@ -25,36 +18,6 @@ fn notes(deltas: &[f64]) -> Chart {
         *start = now;
     }
     chart
-}
-
-#[track_caller]
-fn check_rhythm(chart: &Chart, groups: &Groups) {
-    let [group, pattern] = groups.numbers();
-    let want = Grouped {
-        refusal: 0,
-        place: 0,
-        groups: groups.objects.len() as u64,
-        pattern_groups: groups.patterns.len() as u64,
-    };
-    for lent in [exact(chart.size()), roomy(chart.size())] {
-        let mut memory = lent.clone();
-        assert_eq!(rhythm(chart, &mut memory), want, "{chart}");
-        let after = lent.filled(&group, &pattern);
-        assert_eq!(memory.bits(), after.bits(), "{chart}");
-    }
-}
-
-#[track_caller]
-fn check_record(chart: &Chart, groups: &Groups, group: usize, window: f64) -> Recorded {
-    let want = groups.record(group, window);
-    for lent in [exact(chart.size()), roomy(chart.size())] {
-        let mut memory = lent.clone();
-        let got = record(chart, group, window, &mut memory);
-        assert_eq!(got, want, "group {group}, window {window:?} of {chart}");
-        let after = lent.cleared(chart.size());
-        assert_eq!(memory.bits(), after.bits(), "group {group} of {chart}");
-    }
-    want
 }
 
 #[test]
@@ -138,33 +101,6 @@ fn a_chart_without_notes_has_no_groups() {
     assert_eq!(rhythm(&empty, &mut exact(0)).refusal, 0);
     refused(&chart, Some((0, 50.0)), roomy(2), 9, 0);
     refused(&empty, Some((0, 50.0)), exact(0), 9, 0);
-}
-
-/// rhythm, or record of this group with this window, is refused, and all memory is as it was lent.
-#[track_caller]
-fn refused(chart: &Chart, of: Option<(usize, f64)>, lent: Memory, refusal: u64, place: u64) {
-    let mut memory = lent.clone();
-    match of {
-        None => {
-            let want = Grouped {
-                refusal,
-                place,
-                groups: 0,
-                pattern_groups: 0,
-            };
-            assert_eq!(rhythm(chart, &mut memory), want, "{chart}");
-        }
-        Some((group, window)) => {
-            let want = Recorded {
-                refusal,
-                place,
-                ..Recorded::default()
-            };
-            let got = record(chart, group, window, &mut memory);
-            assert_eq!(got, want, "group {group}, window {window:?} of {chart}");
-        }
-    }
-    assert_eq!(memory.bits(), lent.bits(), "{of:?} of {chart}");
 }
 
 #[test]
