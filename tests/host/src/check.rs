@@ -1,6 +1,7 @@
 //! One call of encode with known memory, and a look at everything that it may have written; and charts that every call refuses.
 
 use crate::chart::Chart;
+use crate::faults::some_bad_settings;
 use crate::lent::{exact_sizes, Lent, Sizes};
 use crate::plain::{self, Answers};
 use crate::{encode, Encoded};
@@ -55,8 +56,20 @@ pub fn refused(chart: &Chart, sizes: Sizes, refusal: u64, place: usize) {
 
 type Change = fn(&mut Chart);
 
-/// Charts of five objects that are refused, with the refusal's number and place.
-pub fn bad_charts() -> impl Iterator<Item = (u64, u64, Chart)> {
+/// Charts of five objects that are refused, with the refusal's number and place: under the default settings, and under bad
+/// ones, which are told behind 2 and before 4.
+pub fn bad_charts() -> Vec<(u64, u64, Chart)> {
+    let mut all: Vec<(u64, u64, Chart)> = badly_made().collect();
+    for settings in some_bad_settings() {
+        let under = |chart: &Chart| chart.under(settings);
+        all.push((16, 0, under(&Chart::of_size(5))));
+        let told = |number| if number < 4 { number } else { 16 };
+        all.extend(badly_made().map(|(number, _, chart)| (told(number), 0, under(&chart))));
+    }
+    all
+}
+
+fn badly_made() -> impl Iterator<Item = (u64, u64, Chart)> {
     let changes: [(u64, Change); 7] = [
         (2, |chart| chart.start.truncate(4)),
         (2, |chart| chart.delta.push(1.0)),

@@ -1,6 +1,7 @@
-//! Values that an object is refused for, and values just inside.
+//! Values that an object is refused for, settings that every call on a chart refuses, and what lies just inside.
 
 use crate::chart::Chart;
+use dresserduck::Settings;
 
 /// 2^24, the bound of starts, deltas and ratios.
 pub const BOUND: f64 = 16_777_216.0;
@@ -129,4 +130,74 @@ pub fn some_bad(number: u64) -> Vec<Value> {
     let all: Vec<Value> = bad_values().into_iter().filter(of_field).collect();
     let last = all[all.len() - 1];
     vec![all[0], all[1], last]
+}
+
+/// The default, but for one number that is a bound of its range.
+pub fn settings_at_bounds() -> Vec<Settings> {
+    let base = Settings::DEFAULT;
+    let margins = [0.0, -0.0, TINY, 50.0f64.next_down(), 50.0].map(|x| base.with_margin(x));
+    let limits = [2, 64].map(|limit| base.with_search_limit(limit));
+    let units = [0.0, -0.0, TINY, 1.0f64.next_down(), 1.0];
+    let thresholds = units.map(|x| base.with_threshold(x));
+    let tolerances = units.map(|x| base.with_tolerance(x));
+    [&margins[..], &limits, &thresholds, &tolerances].concat()
+}
+
+/// Outside the range from 0.0 to this.
+fn outside(most: f64) -> Vec<f64> {
+    let below = [-TINY, -f64::MIN_POSITIVE, -1.0, f64::MIN, f64::NEG_INFINITY];
+    let above = [most.next_up(), most + 1.0, f64::MAX, f64::INFINITY];
+    [&below[..], &above, &nans()].concat()
+}
+
+/// Outside the range from 2 to 64; the most of them are inside it to arithmetic of 8, 16 or 32 bits.
+const BAD_LIMITS: [u64; 14] = [
+    0,
+    1,
+    65,
+    66,
+    255,
+    256,
+    256 + 16,
+    65_535,
+    65_536,
+    65_536 + 16,
+    (1 << 32) + 16,
+    1 << 63,
+    (1 << 63) + 16,
+    u64::MAX,
+];
+
+/// The default, but for one number that is refused.
+pub fn bad_settings() -> Vec<Settings> {
+    let base = Settings::DEFAULT;
+    let limits = BAD_LIMITS.map(|limit| base.with_search_limit(limit));
+    let margins = outside(50.0).into_iter().map(|x| base.with_margin(x));
+    let thresholds = outside(1.0).into_iter().map(|x| base.with_threshold(x));
+    let tolerances = outside(1.0).into_iter().map(|x| base.with_tolerance(x));
+    let others = margins.chain(thresholds).chain(tolerances);
+    others.chain(limits).collect()
+}
+
+/// One of each number, and one whose numbers are all refused.
+pub fn some_bad_settings() -> [Settings; 5] {
+    let base = Settings::DEFAULT;
+    let all = Settings {
+        margin: f64::NAN,
+        search_limit: 0,
+        threshold: f64::INFINITY,
+        tolerance: -1.0,
+    };
+    [
+        base.with_margin(50.0f64.next_up()),
+        base.with_search_limit(65_536 + 16),
+        base.with_threshold(-TINY),
+        base.with_tolerance(f64::NAN),
+        all,
+    ]
+}
+
+/// The default, and these.
+pub fn with_bad_settings() -> impl Iterator<Item = Settings> {
+    std::iter::once(Settings::DEFAULT).chain(some_bad_settings())
 }

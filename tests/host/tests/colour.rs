@@ -1,9 +1,10 @@
-//! colour and stretch over the static library: the scope's example, a plain reimplementation, memory, and refusals 1 to 9 and 11.
+//! colour and stretch over the static library: the scope's example, a plain reimplementation, memory, and refusals 1 to 9, 11 and 16.
 
 use host_tests::chart::Chart;
 use host_tests::check::bad_charts;
 use host_tests::check_colour::{check_stretch, check_values, exact, refused, roomy, DONE};
 use host_tests::colour::{colour, stretch, Memory};
+use host_tests::faults::with_bad_settings;
 use host_tests::samples::{biased_chart, ratios, Xorshift};
 use host_tests::LARGEST_CHART;
 
@@ -146,9 +147,17 @@ fn stretches_that_are_none_are_refused_9() {
 fn earlier_refusals_come_before_9_and_11() {
     let (good, huge) = (Chart::of_size(5), Chart::of_size(LARGEST_CHART + 1));
     for bounds in [None, Some((1, 4)), Some((4, 1))] {
-        refused(&huge, bounds, exact(LARGEST_CHART + 1), 1, 0);
-        for sizes in [[4, 40, 5], [5, 39, 5], [5, 40, 4]] {
-            refused(&good, bounds, Memory::of_sizes(sizes), 3, 0);
+        for settings in with_bad_settings() {
+            refused(
+                &huge.under(settings),
+                bounds,
+                exact(LARGEST_CHART + 1),
+                1,
+                0,
+            );
+            for sizes in [[4, 40, 5], [5, 39, 5], [5, 40, 4]] {
+                refused(&good.under(settings), bounds, Memory::of_sizes(sizes), 3, 0);
+            }
         }
         for (number, place, mut chart) in bad_charts() {
             refused(&chart, bounds, exact(5), number, place);

@@ -3,6 +3,7 @@
 use std::ptr::{dangling, dangling_mut};
 
 use dresserduck::{calls, Settings};
+use host_tests::faults::some_bad_settings;
 
 /// Where a call's slices begin. The chart's lists of floats are one, as what is only read may be shared.
 struct Places {
@@ -33,33 +34,42 @@ impl Places {
 /// Refusal and place of a call, by where its slices are and their counts: of the kinds, and of each list of floats.
 macro_rules! asked {
     (
-        $export:ident($at:expr, $kind:expr, [$($list:expr),*] $(, $argument:expr)*)
+        $export:ident($at:expr, $kind:expr, [$($list:expr),*], $($argument:expr),*)
         => $(($slice:expr, $count:expr)),*
     ) => {{
         let (at, x) = ($at, $at.floats);
-        // SAFETY: a call touches no place that it does not need, and none at all when it is refused for its counts: the memory
+        // SAFETY: a call touches no place that it does not need, and none at all when it is refused for its counts or settings: the memory
         // is there for what it needs, or it is refused. One that did would be stopped by the processor or found out.
         let answer = unsafe {
-            calls::$export(at.kind, $kind, $(x, $list,)* Settings::DEFAULT, $($argument,)* $($slice, $count),*)
+            calls::$export(at.kind, $kind, $(x, $list,)* $($argument,)* $($slice, $count),*)
         };
         (answer.refusal, answer.place)
     }};
 }
 
-/// All six, with these counts of the chart's slices and of answer, work and scratch slices. For taps the count of the
-/// deltas is that of the lowest and that of the highest.
-fn all_six(at: &Places, inputs: [usize; 4], [n, work, scratch]: [usize; 3]) -> [(u64, u64); 6] {
+/// All six under the default settings, with these counts of the chart's slices and of answer, work and scratch slices. For taps the
+/// count of the deltas is that of the lowest and that of the highest.
+fn all_six(at: &Places, inputs: [usize; 4], lent: [usize; 3]) -> [(u64, u64); 6] {
+    all_six_under(Settings::DEFAULT, at, inputs, lent)
+}
+
+fn all_six_under(
+    settings: Settings,
+    at: &Places,
+    inputs: [usize; 4],
+    [n, work, scratch]: [usize; 3],
+) -> [(u64, u64); 6] {
     let [kind, start, delta, ratio] = inputs;
     let [a, b, c, d, e] = at.numbers;
     let ([i, p], v, w, s) = (at.bytes, at.value, at.work, at.scratch);
     [
-        asked!(dresserduck_encode(at, kind, [start, delta, ratio]) =>
+        asked!(dresserduck_encode(at, kind, [start, delta, ratio], settings) =>
             (a, n), (b, n), (c, n), (d, n), (e, n), (i, n), (w, work), (s, scratch)),
-        asked!(dresserduck_colour(at, kind, [start, delta, ratio]) => (v, n), (w, work), (s, scratch)),
-        asked!(dresserduck_stretch(at, kind, [start, delta, ratio], 0, 1) => (v, n), (w, work), (s, scratch)),
-        asked!(dresserduck_rhythm(at, kind, [start, delta, ratio]) => (a, n), (b, n), (w, work), (s, scratch)),
-        asked!(dresserduck_taps(at, kind, [start, delta, delta, ratio]) => (p, n), (a, n), (w, work), (s, scratch)),
-        asked!(dresserduck_record(at, kind, [start, delta, ratio], 0, 50.0) => (w, work), (s, scratch)),
+        asked!(dresserduck_colour(at, kind, [start, delta, ratio], settings) => (v, n), (w, work), (s, scratch)),
+        asked!(dresserduck_stretch(at, kind, [start, delta, ratio], settings, 0, 1) => (v, n), (w, work), (s, scratch)),
+        asked!(dresserduck_rhythm(at, kind, [start, delta, ratio], settings) => (a, n), (b, n), (w, work), (s, scratch)),
+        asked!(dresserduck_taps(at, kind, [start, delta, delta, ratio], settings) => (p, n), (a, n), (w, work), (s, scratch)),
+        asked!(dresserduck_record(at, kind, [start, delta, ratio], settings, 0, 50.0) => (w, work), (s, scratch)),
     ]
 }
 
@@ -94,6 +104,18 @@ fn work_slices_too_short_are_refused_by_their_counts() {
     for lent in [[3, 23, 3], [3, 24, 2], [3, 0, 3], [3, 24, 0]] {
         let refused = all_six(&Places::nowhere(), [3; 4], lent);
         assert_eq!(refused, [(3, 0); 6], "{lent:?}");
+    }
+}
+
+/// No memory is touched for it, neither the chart's nor what is lent; and without objects, too, it is told.
+#[test]
+fn settings_are_refused_by_themselves() {
+    for settings in some_bad_settings() {
+        for n in [0, 3, 16_384] {
+            let lent = [n, 8 * n, n];
+            let refused = all_six_under(settings, &Places::nowhere(), [n; 4], lent);
+            assert_eq!(refused, [(16, 0); 6], "{settings:?}, {n} objects");
+        }
     }
 }
 

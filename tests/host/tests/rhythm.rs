@@ -1,8 +1,9 @@
-//! rhythm and record over the static library: the scope's examples, a plain reimplementation, memory, and refusals 1 to 9.
+//! rhythm and record over the static library: the scope's examples, a plain reimplementation, memory, and refusals 1 to 9 and 16.
 
 use host_tests::chart::Chart;
 use host_tests::check::bad_charts;
 use host_tests::check_rhythm::{check_record, check_rhythm, exact, refused, roomy};
+use host_tests::faults::with_bad_settings;
 use host_tests::plain_rhythm::{Groups, NO_GROUP};
 use host_tests::rhythm::{record, rhythm, Memory};
 use host_tests::samples::{rhythmic_chart, Xorshift};
@@ -133,16 +134,26 @@ fn windows_out_of_range_are_refused_8_and_groups_that_are_none_9() {
 fn earlier_refusals_come_before_8_and_9() {
     let (good, huge) = (Chart::of_size(5), Chart::of_size(LARGEST_CHART + 1));
     let nan = f64::NAN;
-    for of in [None, Some((0, 50.0)), Some((0, nan)), Some((9, nan))] {
-        refused(&huge, of, exact(LARGEST_CHART + 1), 1, 0);
-        for sizes in [[5, 5, 39, 5], [5, 5, 40, 4]] {
-            refused(&good, of, Memory::of_sizes(sizes), 3, 0);
+    for of in [
+        None,
+        Some((0, 50.0)),
+        Some((0, nan)),
+        Some((9, 50.0)),
+        Some((9, nan)),
+    ] {
+        for settings in with_bad_settings() {
+            refused(&huge.under(settings), of, exact(LARGEST_CHART + 1), 1, 0);
+            for sizes in [[5, 5, 39, 5], [5, 5, 40, 4]] {
+                refused(&good.under(settings), of, Memory::of_sizes(sizes), 3, 0);
+            }
         }
         for (number, place, chart) in bad_charts() {
             refused(&chart, of, exact(5), number, place);
         }
     }
-    for sizes in [[4, 5, 40, 5], [5, 4, 40, 5]] {
-        refused(&good, None, Memory::of_sizes(sizes), 3, 0);
+    for settings in with_bad_settings() {
+        for sizes in [[4, 5, 40, 5], [5, 4, 40, 5]] {
+            refused(&good.under(settings), None, Memory::of_sizes(sizes), 3, 0);
+        }
     }
 }

@@ -1,11 +1,14 @@
-//! Which refusal goes first: of the whole chart 1 to 3, and then the first object that has one of 4 to 7.
+//! Which refusal goes first: of the whole chart 1 to 3, then 16, and then the first object that has one of 4 to 7.
 
 use host_tests::chart::Chart;
 use host_tests::check::{accepted, refused};
-use host_tests::faults::some_bad;
+use host_tests::faults::{some_bad, some_bad_settings};
 use host_tests::lent::{exact_sizes, Sizes};
 use host_tests::order::{each_alone, every_pair, first_of_many, of_two_objects, Input};
 use host_tests::LARGEST_CHART;
+
+/// Refusals of an object, in their order.
+const OF_OBJECTS: [u64; 4] = [4, 5, 6, 7];
 
 /// The object that is spoiled, not 0, so that a wrong place shows.
 const OBJECT: usize = 3;
@@ -17,7 +20,7 @@ struct Encode {
 }
 
 impl Input for Encode {
-    const ORDER: &'static [u64] = &[1, 2, 3, 4, 5, 6, 7];
+    const ORDER: &'static [u64] = &[1, 2, 3, 16, 4, 5, 6, 7];
 
     fn new(too_many: bool) -> Self {
         let n = if too_many { LARGEST_CHART + 1 } else { 9 };
@@ -32,6 +35,7 @@ impl Input for Encode {
             1 => 1,
             2 => 6,
             3 => 8,
+            16 => some_bad_settings().len(),
             _ => some_bad(refusal).len(),
         }
     }
@@ -53,12 +57,14 @@ impl Input for Encode {
                 list.resize(length, 1.0);
             }
             3 => self.sizes[way] -= 1,
+            16 => chart.settings = some_bad_settings()[way],
             _ => some_bad(refusal)[way].put(chart, OBJECT),
         }
     }
 
     fn refused(&self, refusal: u64) {
-        let place = if refusal < 4 { 0 } else { OBJECT };
+        let of_object = OF_OBJECTS.contains(&refusal);
+        let place = if of_object { OBJECT } else { 0 };
         refused(&self.chart, self.sizes, refusal, place);
     }
 }
@@ -72,7 +78,7 @@ fn each_refusal_alone() {
 /// Every pair can apply together, as the object refusals read different fields of one object.
 #[test]
 fn every_pair_in_order() {
-    assert_eq!(every_pair::<Encode>(), 21, "pairs of seven");
+    assert_eq!(every_pair::<Encode>(), 28, "pairs of eight");
 }
 
 #[test]
@@ -83,7 +89,7 @@ fn the_first_of_many() {
 /// Faults in two objects: the earlier object's is named, whatever its number.
 #[test]
 fn the_earlier_object_wins() {
-    for [(first, early), (second, late)] in of_two_objects(&[4, 5, 6, 7]) {
+    for [(first, early), (second, late)] in of_two_objects(&OF_OBJECTS) {
         let mut chart = Chart::of_size(9);
         some_bad(second)[1].put(&mut chart, late);
         some_bad(first)[0].put(&mut chart, early);
@@ -96,11 +102,13 @@ fn the_earlier_object_wins() {
 fn faults_in_every_later_object() {
     let n = 9;
     for early in 0..n {
-        for refusal in 4..=7 {
+        for refusal in OF_OBJECTS {
             let mut chart = Chart::of_size(n);
             some_bad(refusal)[0].put(&mut chart, early);
             for late in early + 1..n {
-                (4..=7).for_each(|number| some_bad(number)[0].put(&mut chart, late));
+                OF_OBJECTS
+                    .iter()
+                    .for_each(|&number| some_bad(number)[0].put(&mut chart, late));
             }
             refused(&chart, exact_sizes(n), refusal, early);
         }

@@ -1,6 +1,6 @@
-//! Which refusal goes first: 1, 2, 3, and then the first object that has one of 4, 5, 6, 15 and 7, in this order.
+//! Which refusal goes first: 1, 2, 3, 16, and then the first object that has one of 4, 5, 6, 15 and 7, in this order.
 
-use host_tests::faults::some_bad;
+use host_tests::faults::{some_bad, some_bad_settings};
 use host_tests::order::{each_alone, every_pair, first_of_many, of_two_objects, Input};
 use host_tests::taps::{accepted, exact_sizes, refused, refused_with, Sizes, TapChart};
 use host_tests::LARGEST_CHART;
@@ -18,7 +18,7 @@ struct Taps {
 }
 
 impl Input for Taps {
-    const ORDER: &'static [u64] = &[1, 2, 3, 4, 5, 6, 15, 7];
+    const ORDER: &'static [u64] = &[1, 2, 3, 16, 4, 5, 6, 15, 7];
 
     fn new(too_many: bool) -> Self {
         let n = if too_many { LARGEST_CHART + 1 } else { 9 };
@@ -33,6 +33,7 @@ impl Input for Taps {
             1 => 1,
             2 => 8,
             3 => 4,
+            16 => some_bad_settings().len(),
             6 => BAD_ENDS.len() * WHICH_ENDS.len(),
             15 => TURNED.len(),
             _ => some_bad(refusal).len(),
@@ -50,6 +51,7 @@ impl Input for Taps {
                 list.resize(length, 1.0);
             }
             3 => self.sizes[way] -= 1,
+            16 => low.settings = some_bad_settings()[way],
             _ => spoil_object(&mut self.chart, OBJECT, refusal, way),
         }
     }
@@ -96,7 +98,7 @@ fn each_refusal_alone() {
 
 #[test]
 fn every_pair_in_order() {
-    assert_eq!(every_pair::<Taps>(), 28, "pairs of eight");
+    assert_eq!(every_pair::<Taps>(), 36, "pairs of nine");
 }
 
 #[test]
