@@ -5,7 +5,7 @@ use std::collections::BTreeMap;
 use std::fs;
 use std::path::Path;
 
-use dresserduck::{PairClass, Refusal};
+use dresserduck::{PairClass, Refusal, Settings};
 
 /// A call's arguments or a record's fields, in C, by its name. A call's answer stands first.
 type Declared = BTreeMap<String, Vec<String>>;
@@ -75,6 +75,7 @@ fn c_type(name: &str) -> &str {
         "i64" => "int64_t",
         "usize" => "size_t",
         "f64" => "double",
+        "Settings" => "dresserduck_settings",
         _ => panic!("{name:?} has no type in C"),
     }
 }
@@ -129,16 +130,22 @@ fn in_source(source: &str) -> (Declared, Declared) {
     (records.collect(), calls.collect())
 }
 
+/// The exports and their answers, and the settings that they take.
+fn exporting() -> String {
+    let settings = include_str!("../../../crates/grouping_chart/src/settings.rt");
+    texts_in("crates/dresserduck/src") + settings
+}
+
 #[test]
 fn the_header_declares_what_is_exported() {
     let (records, calls) = in_header(&texts_in("include"));
-    let (exported_records, exported_calls) = in_source(&texts_in("crates/dresserduck/src"));
+    let (exported_records, exported_calls) = in_source(&exporting());
     assert_eq!(records, exported_records);
     assert_eq!(calls, exported_calls);
-    assert_eq!((records.len(), calls.len()), (7, 7), "{:?}", calls.keys());
+    assert_eq!((records.len(), calls.len()), (8, 7), "{:?}", calls.keys());
     let fields: usize = records.values().map(Vec::len).sum();
     let arguments: usize = calls.values().map(|call| call.len() - 1).sum();
-    assert_eq!((fields, arguments), (31, 115), "fields and arguments");
+    assert_eq!((fields, arguments), (35, 121), "fields and arguments");
 }
 
 /// The names in the header's enums without what all begin with, and their numbers.
@@ -185,7 +192,28 @@ fn the_headers_numbers_are_those_of_the_rust_crate() {
         ("BAD_RATE", Refusal::BadRate.number()),
         ("NO_NOTE", Refusal::NoNote.number()),
         ("LOWEST_ABOVE_HIGHEST", turned.number()),
+        ("BAD_SETTINGS", Refusal::BadSettings.number()),
     ];
     let want = want.map(|(name, number)| (name.to_string(), number));
     assert_eq!(numbers(&texts_in("include")), BTreeMap::from(want));
+}
+
+/// In the order of the fields, which the header has as the Rust crate does.
+#[test]
+fn the_headers_default_settings_are_those_of_the_rust_crate() {
+    let header = texts_in("include");
+    let defaults = all_between(&header, "#define DRESSERDUCK_DEFAULT_SETTINGS {", "}");
+    let [default] = defaults[..] else {
+        panic!("{defaults:?} is not one default");
+    };
+    let Settings {
+        margin,
+        search_limit,
+        threshold,
+        tolerance,
+    } = Settings::DEFAULT;
+    let want = [margin, search_limit as f64, threshold, tolerance];
+    let number = |text: &str| text.trim().parse::<f64>().expect("a number");
+    let got: Vec<f64> = default.split(',').map(number).collect();
+    assert_eq!(got, want);
 }
