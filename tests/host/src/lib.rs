@@ -23,6 +23,8 @@ pub mod plain_taps;
 pub mod plain_tenths;
 pub mod rhythm;
 pub mod samples;
+pub mod sets;
+pub mod six;
 pub mod taps;
 #[path = "../../xorshift.rs"]
 mod xorshift;

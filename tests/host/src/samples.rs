@@ -65,6 +65,16 @@ impl Writer<'_> {
     }
 }
 
+/// Streaks of the lengths 1 to `period`, twice over, colours in turn. From 3 on no pattern is coupled: each streak is a hit pattern of
+/// its own, and its like stands `period` hit patterns before.
+pub fn rounds(period: usize) -> Vec<u8> {
+    let lengths = (1..=period).chain(1..=period);
+    let streaks = lengths
+        .enumerate()
+        .map(|(i, length)| vec![(i % 2) as u8; length]);
+    streaks.collect::<Vec<_>>().concat()
+}
+
 /// A chart of n objects with many coupled runs, long streaks and NonHits at seams.
 pub fn biased_chart(random: &mut Xorshift, n: usize) -> Chart {
     let palette: &[&[usize]] = &[&[1, 2], &[1, 2, 3], &[1, 3, 4, 7], &[2, 5], &[1, 2, 12]];
@@ -175,13 +185,17 @@ fn room(random: &mut Xorshift, style: usize, low: f64) -> f64 {
     }
 }
 
-/// The same with ranges: how wide they are tells how often the groups are open. Those of NonHits are anything.
+/// The same with ranges.
 pub fn tap_chart(random: &mut Xorshift, n: usize) -> TapChart {
     let low = rhythmic_chart(random, n);
-    let mut chart = TapChart::exact(&low);
+    ranges_above(random, &low)
+}
+
+/// Ranges that begin at the chart's deltas: how wide they are tells how often the groups are open. Those of NonHits are anything.
+pub fn ranges_above(random: &mut Xorshift, low: &Chart) -> TapChart {
+    let mut chart = TapChart::exact(low);
     let style = random.below(5);
-    for object in 0..n {
-        let least = low.delta[object];
+    for (object, &least) in low.delta.iter().enumerate() {
         let room = room(random, style, least);
         chart.highest[object] = (least + room).min(BOUND);
         if low.kind[object] == 2 {

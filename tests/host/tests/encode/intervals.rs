@@ -2,22 +2,14 @@
 
 use host_tests::chart::Chart;
 use host_tests::lent::{exact_sizes, Lent};
+use host_tests::samples::rounds;
 use host_tests::{encode, Encoded};
 
-/// Streaks of the lengths 1 to `period`, twice over, colours in turn. From 3 on no pattern is coupled.
-fn cycle(period: usize) -> Chart {
-    let lengths = (1..=period).chain(1..=period);
-    let streaks = lengths
-        .enumerate()
-        .map(|(i, length)| vec![(i % 2) as u8; length]);
-    Chart::of_kinds(streaks.collect::<Vec<_>>().concat())
-}
-
-/// Each streak is a hit pattern of its own, and its like stands `period` hit patterns before, which 16 and above do not reach.
+/// The like of each hit pattern stands `period` hit patterns before, which 16 and above do not reach.
 #[test]
 fn intervals_of_cycles() {
     for period in 3..=24_u64 {
-        let chart = cycle(period as usize);
+        let chart = Chart::of_kinds(rounds(period as usize));
         let mut lent = Lent::new(exact_sizes(chart.size()), chart.size());
         let got = encode(&chart, &mut lent);
         let want = Encoded {

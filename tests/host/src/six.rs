@@ -1,0 +1,96 @@
+//! All six calls on one chart: what each answers, which is what its plain version does, or that each refuses.
+
+use crate::chart::Chart;
+use crate::lent::exact_sizes;
+use crate::plain::Answers;
+use crate::plain_rhythm::Groups;
+use crate::rhythm::Recorded;
+use crate::taps::{self, TapChart};
+use crate::{check, check_colour, check_rhythm};
+
+/// A chart, for taps with a range about each delta, and what stretch and record are asked.
+pub struct Asked {
+    pub chart: TapChart,
+    pub bounds: (usize, usize),
+    pub window: f64,
+}
+
+/// The calls, as their answers stand in `Told`.
+pub const CALLS: [&str; 6] = ["encode", "colour", "stretch", "rhythm", "taps", "record"];
+
+/// What the calls answered, floats by their bits.
+#[derive(Debug, PartialEq)]
+pub struct Told {
+    pub encoded: Answers,
+    values: Vec<u64>,
+    mean: Option<u64>,
+    groups: [Vec<u16>; 2],
+    pairs: Vec<u8>,
+    sure_groups: Option<Vec<u16>>,
+    records: Vec<Recorded>,
+}
+
+impl Told {
+    /// Which calls answered something else.
+    pub fn unlike(&self, other: &Told) -> [bool; 6] {
+        let taps = |told: &Told| (told.pairs.clone(), told.sure_groups.clone());
+        [
+            self.encoded != other.encoded,
+            self.values != other.values,
+            self.mean != other.mean,
+            self.groups != other.groups,
+            taps(self) != taps(other),
+            self.records != other.records,
+        ]
+    }
+}
+
+/// Eight groups at most, throughout the chart.
+#[track_caller]
+fn records(chart: &Chart, groups: &Groups, window: f64) -> Vec<Recorded> {
+    let count = groups.objects.len();
+    let some = (0..count).step_by(count / 8 + 1);
+    some.map(|group| check_rhythm::check_record(chart, groups, group, window))
+        .collect()
+}
+
+/// Every call accepts, and answers with every bit and lent place as its plain version does; stretch refuses where there is no note,
+/// and isn't asked where there is no object.
+#[track_caller]
+pub fn accepted(asked: &Asked) -> Told {
+    let chart = &asked.chart.low;
+    let encoded = check::accepted(chart);
+    let values = check_colour::check_values(chart);
+    let (a, b) = asked.bounds;
+    let mean = match a < b {
+        true => check_colour::check_stretch(chart, &values, a, b),
+        false => None,
+    };
+    let groups = Groups::of(chart);
+    check_rhythm::check_rhythm(chart, &groups);
+    let sure = taps::accepted(&asked.chart);
+    Told {
+        encoded,
+        values: values.iter().map(|x| x.to_bits()).collect(),
+        mean: mean.map(f64::to_bits),
+        groups: groups.numbers(),
+        pairs: sure.pair,
+        sure_groups: sure.groups.map(|groups| groups.of_object),
+        records: records(chart, &groups, asked.window),
+    }
+}
+
+/// Every call refuses with this number and the place 0, and all that it is lent is as it was; also where there is no such stretch, no
+/// such group and no such window.
+#[track_caller]
+pub fn refused(chart: &TapChart, refusal: u64) {
+    let (low, n) = (&chart.low, chart.size());
+    check::refused(low, exact_sizes(n), refusal, 0);
+    for bounds in [None, Some((0, n)), Some((1, 0))] {
+        check_colour::refused(low, bounds, check_colour::roomy(n), refusal, 0);
+    }
+    for of in [None, Some((0, 50.0)), Some((n, f64::NAN))] {
+        check_rhythm::refused(low, of, check_rhythm::roomy(n), refusal, 0);
+    }
+    taps::refused(chart, refusal, 0);
+}
