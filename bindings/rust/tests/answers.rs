@@ -1,6 +1,8 @@
 //! Every field of every answer, on charts that give no two fields the same.
 
-use dresserduck::{Chart, GroupRecord, Workspace};
+use dresserduck::{Chart, GroupRecord, Settings, Workspace};
+
+const BASE: Settings = Settings::DEFAULT;
 
 fn digits(text: &str) -> Vec<u16> {
     let digit = |letter: char| letter.to_digit(16).expect("a digit") as u16;
@@ -14,7 +16,7 @@ const COLOURS: [u8; 16] = [0, 1, 1, 0, 1, 1, 0, 1, 0, 1, 1, 0, 1, 0, 1, 1];
 fn an_encoding_has_each_number_in_its_field() {
     let (times, ratio) = ([125.0; 16], [1.0; 16]);
     let chart = Chart::new(&COLOURS, &times, &times, &ratio);
-    let encoding = Workspace::new().encode(&chart).unwrap();
+    let encoding = Workspace::new().encode(&chart, BASE).unwrap();
     assert_eq!(encoding.hit_patterns, 2);
     assert_eq!(encoding.streak, digits("0112334567789abb"));
     assert_eq!(encoding.streak_place, digits("0000000120001200"));
@@ -32,19 +34,21 @@ fn colour_looks_at_the_ratios_alone_and_a_stretch_at_its_objects() {
     let ratio = [1.0, 0.5, 1.0, 0.5];
     let chart = Chart::new(&kind, &start, &delta, &ratio);
     let mut workspace = Workspace::new();
-    let values = workspace.colour(&chart).unwrap();
-    let exchanged = workspace.colour(&Chart::new(&kind, &delta, &start, &ratio));
+    let values = workspace.colour(&chart, BASE).unwrap();
+    let exchanged = workspace.colour(&Chart::new(&kind, &delta, &start, &ratio), BASE);
     assert_eq!(exchanged.as_ref(), Ok(&values));
-    let other = workspace.colour(&Chart::new(&kind, &start, &delta, &[1.0; 4]));
+    let other = workspace.colour(&Chart::new(&kind, &start, &delta, &[1.0; 4]), BASE);
     assert_ne!(other.unwrap()[3], values[3]);
-    let stretch = workspace.stretch(&chart, 1..3).unwrap();
+    let stretch = workspace.stretch(&chart, BASE, 1..3).unwrap();
     assert_eq!(stretch.mean, (values[1] + values[2]) / 2.0);
     assert_eq!(stretch.tenths, (stretch.mean * 10.0).round() as i64);
     // with a NonHit in it, which has a value too
     let chart = Chart::new(&[0, 1, 2, 0], &start, &delta, &ratio);
-    let values = workspace.colour(&chart).unwrap();
+    let values = workspace.colour(&chart, BASE).unwrap();
     assert_ne!(values[2], 0.0);
-    let mean = workspace.stretch(&chart, 1..4).map(|stretch| stretch.mean);
+    let mean = workspace
+        .stretch(&chart, BASE, 1..4)
+        .map(|stretch| stretch.mean);
     assert_eq!(mean, Ok((values[1] + values[3]) / 2.0));
 }
 
@@ -63,7 +67,7 @@ fn grouped() -> Chart<'static> {
 
 #[test]
 fn a_rhythm_has_groups_and_pattern_groups() {
-    let rhythm = Workspace::new().rhythm(&grouped()).unwrap();
+    let rhythm = Workspace::new().rhythm(&grouped(), BASE).unwrap();
     assert_eq!((rhythm.groups, rhythm.pattern_groups), (4, 3));
     let objects = [0, 2, 3, 4, 6, 7, 9, 10, 11];
     let (a, b, c, d) = (Some(0), Some(1), Some(2), Some(3));
@@ -86,7 +90,7 @@ fn a_record_has_each_number_in_its_field() {
         pattern_group: 1,
         pattern_ratio: 500.0 / 350.0,
     };
-    assert_eq!(workspace.record(&grouped(), 2, 1000.0), Ok(third));
+    assert_eq!(workspace.record(&grouped(), BASE, 2, 1000.0), Ok(third));
     let last = GroupRecord {
         first_note: 10,
         note_count: 1,
@@ -97,7 +101,7 @@ fn a_record_has_each_number_in_its_field() {
         pattern_group: 2,
         pattern_ratio: 800.0 / 500.0,
     };
-    assert_eq!(workspace.record(&grouped(), 3, 1000.0), Ok(last));
-    let first = workspace.record(&grouped(), 0, 1000.0).unwrap();
+    assert_eq!(workspace.record(&grouped(), BASE, 3, 1000.0), Ok(last));
+    let first = workspace.record(&grouped(), BASE, 0, 1000.0).unwrap();
     assert_eq!(first.interval, f64::INFINITY);
 }

@@ -1,7 +1,7 @@
 //! A chart that is built of raw objects: every list of it, every refusal, and memory that is used again.
 
 use dresserduck::{
-    calls, BuiltChart, RawChart, Refusal, Workspace, LARGEST_CHART, LARGEST_RAW_CHART,
+    calls, BuiltChart, RawChart, Refusal, Settings, Workspace, LARGEST_CHART, LARGEST_RAW_CHART,
 };
 
 /// Alternating colours, 100 milliseconds apart.
@@ -59,7 +59,8 @@ fn sizes_lengths_and_rates_are_refused() {
     let largest = Lists::of(LARGEST_RAW_CHART);
     let built = largest.raw(1.0).build().unwrap();
     assert_eq!(built.kind.len(), LARGEST_CHART);
-    assert!(Workspace::new().rhythm(&built.chart()).is_ok());
+    let rhythm = Workspace::new().rhythm(&built.chart(), Settings::DEFAULT);
+    assert!(rhythm.is_ok());
     let too_many = Lists::of(LARGEST_RAW_CHART + 1);
     assert_eq!(too_many.refusal(9.0), Some(Refusal::TooManyObjects));
     for m in [0, 2, 7] {

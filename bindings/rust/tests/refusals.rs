@@ -3,7 +3,9 @@
 use std::error::Error;
 use std::ops::Range;
 
-use dresserduck::{Chart, Refusal, TapChart, Workspace, LARGEST_CHART};
+use dresserduck::{Chart, Refusal, Settings, TapChart, Workspace, LARGEST_CHART};
+
+const BASE: Settings = Settings::DEFAULT;
 
 struct Lists {
     kind: Vec<u8>,
@@ -39,29 +41,29 @@ fn sure<'a>(chart: &Chart<'a>) -> TapChart<'a> {
 }
 
 /// What each of the six calls on a chart says.
-fn refusals(chart: &Chart) -> [Option<Refusal>; 6] {
+fn refusals(chart: &Chart, settings: Settings) -> [Option<Refusal>; 6] {
     let mut workspace = Workspace::new();
     [
-        workspace.encode(chart).err(),
-        workspace.colour(chart).err(),
-        workspace.stretch(chart, 0..chart.len()).err(),
-        workspace.rhythm(chart).err(),
-        workspace.taps(&sure(chart)).err(),
-        workspace.record(chart, 0, 50.0).err(),
+        workspace.encode(chart, settings).err(),
+        workspace.colour(chart, settings).err(),
+        workspace.stretch(chart, settings, 0..chart.len()).err(),
+        workspace.rhythm(chart, settings).err(),
+        workspace.taps(&sure(chart), settings).err(),
+        workspace.record(chart, settings, 0, 50.0).err(),
     ]
 }
 
 #[track_caller]
 fn all_refused(lists: &Lists, refusal: Refusal) {
-    assert_eq!(refusals(&lists.chart()), [Some(refusal); 6]);
+    assert_eq!(refusals(&lists.chart(), BASE), [Some(refusal); 6]);
 }
 
 #[test]
 fn charts_are_refused_by_every_call() {
     all_refused(&Lists::of(LARGEST_CHART + 1), Refusal::TooManyObjects);
-    assert_eq!(refusals(&Lists::of(LARGEST_CHART).chart()), [None; 6]);
+    assert_eq!(refusals(&Lists::of(LARGEST_CHART).chart(), BASE), [None; 6]);
     let mut lists = Lists::of(7);
-    assert_eq!(refusals(&lists.chart()), [None; 6]);
+    assert_eq!(refusals(&lists.chart(), BASE), [None; 6]);
     lists.ratio[5] = f64::NAN;
     all_refused(&lists, Refusal::BadRatio { object: 5 });
     lists.delta[5] = f64::INFINITY;
@@ -70,6 +72,35 @@ fn charts_are_refused_by_every_call() {
     all_refused(&lists, Refusal::BadStart { object: 5 });
     lists.kind[5] = 3;
     all_refused(&lists, Refusal::BadKind { object: 5 });
+}
+
+/// Before the objects are looked at, and behind the lists' lengths.
+#[test]
+fn numbers_out_of_range_are_refused_by_every_call() {
+    let (mut lists, huge) = (Lists::of(7), Lists::of(LARGEST_CHART + 1));
+    lists.kind[5] = 3;
+    for settings in [
+        BASE.with_margin(50.0f64.next_up()),
+        BASE.with_margin(f64::NAN),
+        BASE.with_search_limit(1),
+        BASE.with_search_limit(65_536 + 16),
+        BASE.with_threshold(-1.0),
+        BASE.with_tolerance(1.0f64.next_up()),
+    ] {
+        let all = [Some(Refusal::BadSettings); 6];
+        assert_eq!(refusals(&lists.chart(), settings), all, "{settings:?}");
+        assert_eq!(
+            refusals(&Lists::of(0).chart(), settings),
+            all,
+            "{settings:?}"
+        );
+        let all = [Some(Refusal::TooManyObjects); 6];
+        assert_eq!(refusals(&huge.chart(), settings), all, "{settings:?}");
+    }
+    lists.kind[5] = 0;
+    let widest = BASE.with_margin(50.0).with_search_limit(64);
+    let widest = widest.with_threshold(1.0).with_tolerance(1.0);
+    assert_eq!(refusals(&lists.chart(), widest), [None; 6]);
 }
 
 #[test]
@@ -93,20 +124,23 @@ fn settings_are_refused_by_the_call_that_has_them() {
     let (chart, mut workspace) = (lists.chart(), Workspace::new());
     let backwards = Range { start: 5, end: 2 };
     for objects in [0..8, 3..3, backwards, 7..8, 0..usize::MAX] {
-        let got = workspace.stretch(&chart, objects.clone());
+        let got = workspace.stretch(&chart, BASE, objects.clone());
         assert_eq!(got, Err(Refusal::OutsideChart), "{objects:?}");
     }
     // object 4 is the one NonHit
-    assert_eq!(workspace.stretch(&chart, 4..5), Err(Refusal::NoNote));
-    assert_eq!(workspace.stretch(&chart, 4..8), Err(Refusal::OutsideChart));
-    assert!(workspace.stretch(&chart, 4..6).is_ok());
+    assert_eq!(workspace.stretch(&chart, BASE, 4..5), Err(Refusal::NoNote));
+    assert_eq!(
+        workspace.stretch(&chart, BASE, 4..8),
+        Err(Refusal::OutsideChart)
+    );
+    assert!(workspace.stretch(&chart, BASE, 4..6).is_ok());
     for window in [0.0, 1.0f64.next_down(), 1000.0f64.next_up(), f64::NAN] {
-        let got = workspace.record(&chart, 0, window);
+        let got = workspace.record(&chart, BASE, 0, window);
         assert_eq!(got, Err(Refusal::BadWindow), "{window:?}");
     }
-    let groups = workspace.rhythm(&chart).unwrap().groups;
-    assert!(workspace.record(&chart, groups - 1, 1.0).is_ok());
-    let past = workspace.record(&chart, groups, 1000.0);
+    let groups = workspace.rhythm(&chart, BASE).unwrap().groups;
+    assert!(workspace.record(&chart, BASE, groups - 1, 1.0).is_ok());
+    let past = workspace.record(&chart, BASE, groups, 1000.0);
     assert_eq!(past, Err(Refusal::OutsideChart));
 }
 
@@ -125,8 +159,9 @@ fn refusals_read_as_sentences_and_have_their_numbers() {
         Refusal::BadRate,
         Refusal::NoNote,
         Refusal::LowestAboveHighest { object: 4 },
+        Refusal::BadSettings,
     ];
-    for (number, refusal) in (1..=11).chain([15]).zip(all) {
+    for (number, refusal) in (1..=11).chain([15, 16]).zip(all) {
         assert_eq!(refusal.number(), number);
         let of_object = (4..=7).contains(&number) || number == 15;
         assert_eq!(refusal.object().is_some(), of_object);
@@ -136,18 +171,25 @@ fn refusals_read_as_sentences_and_have_their_numbers() {
         assert!(begins, "{text:?}");
         assert!(text.ends_with('.'), "{text:?}");
     }
+    let text = Refusal::BadSettings.to_string();
+    for name in ["margin", "search limit", "threshold", "tolerance"] {
+        assert!(text.contains(name), "{text:?}");
+    }
 }
 
 #[test]
 fn a_chart_without_objects_is_accepted() {
     let chart = Chart::new(&[], &[], &[], &[]);
     let mut workspace = Workspace::new();
-    assert_eq!(workspace.encode(&chart).unwrap().hit_patterns, 0);
-    assert_eq!(workspace.colour(&chart), Ok(vec![]));
-    assert_eq!(workspace.rhythm(&chart).unwrap().groups, 0);
-    assert_eq!(workspace.taps(&sure(&chart)).unwrap().groups, Some(0));
-    assert_eq!(workspace.stretch(&chart, 0..0), Err(Refusal::OutsideChart));
-    let record = workspace.record(&chart, 0, 50.0);
+    assert_eq!(workspace.encode(&chart, BASE).unwrap().hit_patterns, 0);
+    assert_eq!(workspace.colour(&chart, BASE), Ok(vec![]));
+    assert_eq!(workspace.rhythm(&chart, BASE).unwrap().groups, 0);
+    assert_eq!(workspace.taps(&sure(&chart), BASE).unwrap().groups, Some(0));
+    assert_eq!(
+        workspace.stretch(&chart, BASE, 0..0),
+        Err(Refusal::OutsideChart)
+    );
+    let record = workspace.record(&chart, BASE, 0, 50.0);
     assert_eq!(record, Err(Refusal::OutsideChart));
 }
 
@@ -159,12 +201,24 @@ fn a_workspace_is_as_good_as_new() {
         let lists = Lists::of(n);
         let chart = lists.chart();
         let mut fresh = Workspace::new();
-        assert_eq!(workspace.encode(&chart), fresh.encode(&chart), "{n}");
-        assert_eq!(workspace.colour(&chart), fresh.colour(&chart), "{n}");
-        assert_eq!(workspace.rhythm(&chart), fresh.rhythm(&chart), "{n}");
-        let of = |workspace: &mut Workspace| workspace.taps(&sure(&chart));
+        assert_eq!(
+            workspace.encode(&chart, BASE),
+            fresh.encode(&chart, BASE),
+            "{n}"
+        );
+        assert_eq!(
+            workspace.colour(&chart, BASE),
+            fresh.colour(&chart, BASE),
+            "{n}"
+        );
+        assert_eq!(
+            workspace.rhythm(&chart, BASE),
+            fresh.rhythm(&chart, BASE),
+            "{n}"
+        );
+        let of = |workspace: &mut Workspace| workspace.taps(&sure(&chart), BASE);
         assert_eq!(of(&mut workspace), of(&mut fresh), "{n}");
-        let of = |workspace: &mut Workspace| workspace.record(&chart, 0, 50.0);
+        let of = |workspace: &mut Workspace| workspace.record(&chart, BASE, 0, 50.0);
         assert_eq!(of(&mut workspace), of(&mut fresh), "{n}");
     }
 }

@@ -1,6 +1,6 @@
 //! The call taps: each answer in its field, groups that are open, its own refusals, and memory that is used again.
 
-use dresserduck::{PairClass, Refusal, TapChart, Taps, Workspace};
+use dresserduck::{PairClass, Refusal, Settings, TapChart, Taps, Workspace};
 
 /// Per object its kind, and the lowest and the highest delta.
 struct Lists {
@@ -31,7 +31,7 @@ impl Lists {
     }
 
     fn taps(&self) -> Result<Taps, Refusal> {
-        Workspace::new().taps(&self.chart())
+        Workspace::new().taps(&self.chart(), Settings::DEFAULT)
     }
 }
 
@@ -129,7 +129,7 @@ fn taps_are_used_again() {
     let refused = Lists::of(&[(0, 9.0, 0.0); 100]);
     let (mut workspace, mut taps) = (Workspace::new(), Taps::default());
     for lists in [&sure, &open, &Lists::of(&[]), &refused, &open, &sure] {
-        let got = workspace.taps_into(&lists.chart(), &mut taps);
+        let got = workspace.taps_into(&lists.chart(), Settings::DEFAULT, &mut taps);
         match lists.taps() {
             Ok(fresh) => assert_eq!((got, &taps), (Ok(()), &fresh)),
             Err(refusal) => assert_eq!(got, Err(refusal)),
