@@ -54,6 +54,7 @@ impl Original {
             start: floats(|object| object.start_time),
             delta: floats(|object| object.delta_time),
             ratio: floats(|object| object.rhythm_data.ratio),
+            ..Chart::default()
         }
     }
 

@@ -3,12 +3,14 @@
 use std::hint::black_box;
 use std::time::Instant;
 
-use dresserduck::{BuiltChart, Chart, Encoding, RawChart, Refusal, Rhythm, Workspace};
+use dresserduck::{BuiltChart, Chart, Encoding, RawChart, Refusal, Rhythm, Settings, Workspace};
 
 const SIZES: [usize; 3] = [100, 1_000, 16_384];
 const CALLS: [&str; 4] = ["encode", "colour", "rhythm", "record"];
 const WINDOW: f64 = 50.0;
 const RATE: f64 = 1.5;
+// the original's
+const BASE: Settings = Settings::DEFAULT;
 
 struct Lists {
     kind: Vec<u8>,
@@ -142,11 +144,11 @@ struct Room {
 type Call = fn(&mut Room, &Chart, usize) -> Result<(), Refusal>;
 
 const LIBRARY: [Call; 4] = [
-    |room, chart, _| room.workspace.encode_into(chart, &mut room.encoding),
-    |room, chart, _| room.workspace.colour_into(chart, &mut room.values),
-    |room, chart, _| room.workspace.rhythm_into(chart, &mut room.rhythm),
+    |room, chart, _| room.workspace.encode_into(chart, BASE, &mut room.encoding),
+    |room, chart, _| room.workspace.colour_into(chart, BASE, &mut room.values),
+    |room, chart, _| room.workspace.rhythm_into(chart, BASE, &mut room.rhythm),
     |room, chart, last| {
-        black_box(room.workspace.record(chart, last, WINDOW)?);
+        black_box(room.workspace.record(chart, BASE, last, WINDOW)?);
         Ok(())
     },
 ];
@@ -237,8 +239,9 @@ fn built_ratios(set: &[Lists]) -> [f64; 2] {
                     .build_into(&mut built)
                     .expect("good raw objects");
                 if coloured {
-                    let values = room.workspace.colour_into(&built.chart(), &mut room.values);
-                    values.expect("a good chart");
+                    let chart = built.chart();
+                    let done = room.workspace.colour_into(&chart, BASE, &mut room.values);
+                    done.expect("a good chart");
                 }
                 black_box(&mut built);
             }
