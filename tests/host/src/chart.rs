@@ -120,11 +120,11 @@ fn settings_text(settings: Settings) -> String {
     } = settings;
     let [margin, threshold, tolerance] = [margin, threshold, tolerance].map(with_bits);
     format!(
-        "under margin {margin}, search limit {search_limit}, threshold {threshold}, tolerance {tolerance}: "
+        ", asked under margin {margin}, search limit {search_limit}, threshold {threshold}, tolerance {tolerance}"
     )
 }
 
-/// The settings where they are not the default, the lengths, the kinds as letters, and the first few objects whose start,
+/// The lengths, the settings where they are not the default, the kinds as letters, and the first few objects whose start,
 /// delta or ratio is not the builder's.
 impl fmt::Display for Chart {
     fn fmt(&self, out: &mut fmt::Formatter) -> fmt::Result {
@@ -133,9 +133,9 @@ impl fmt::Display for Chart {
         let letters: String = self.kind.iter().map(|&kind| letter_of(kind)).collect();
         write!(
             out,
-            "{}chart of {} kinds and {lengths:?}: {letters}",
-            settings_text(self.settings),
-            self.size()
+            "chart of {} kinds and {lengths:?}{}: {letters}",
+            self.size(),
+            settings_text(self.settings)
         )?;
         let odd = (0..self.size()).filter(|&object| !self.is_common(object));
         for object in odd.take(20) {

@@ -6,35 +6,30 @@ use crate::samples::{biased_chart, ranges_above, rounds, Xorshift};
 use crate::six::Asked;
 use dresserduck::Settings;
 
-/// The bounds, the default and what lies beside it, and some more.
-pub fn drawn_settings(random: &mut Xorshift) -> Settings {
-    let five = Settings::DEFAULT.margin;
-    let margins = [
-        0.0,
-        -0.0,
-        TINY,
-        five.next_down(),
-        five,
-        five.next_up(),
-        8.5,
-        50.0,
-    ];
-    Settings {
-        margin: random.pick(&margins),
-        search_limit: random.pick(&[2, 3, 15, 16, 17, 63, 64]),
-        threshold: random.pick(&[0.0, -0.0, 0.05, 0.1, 0.5, 1.0]),
-        tolerance: random.pick(&[0.0, -0.0, 0.01, 0.2, 1.0]),
-    }
-}
+const FIVE: f64 = Settings::DEFAULT.margin;
 
-/// The same set, one number of which is the default's: margin, search limit, threshold, tolerance.
-pub fn with_default(settings: Settings, number: usize) -> Settings {
-    let base = Settings::DEFAULT;
-    match number {
-        0 => settings.with_margin(base.margin),
-        1 => settings.with_search_limit(base.search_limit),
-        2 => settings.with_threshold(base.threshold),
-        _ => settings.with_tolerance(base.tolerance),
+/// What is drawn: the bounds, the default and what lies beside it, and some more.
+pub const MARGINS: [f64; 8] = [
+    0.0,
+    -0.0,
+    TINY,
+    FIVE.next_down(),
+    FIVE,
+    FIVE.next_up(),
+    8.5,
+    50.0,
+];
+pub const LIMITS: [u64; 7] = [2, 3, 15, 16, 17, 63, 64];
+pub const THRESHOLDS: [f64; 6] = [0.0, -0.0, 0.05, 0.1, 0.5, 1.0];
+pub const TOLERANCES: [f64; 5] = [0.0, -0.0, 0.01, 0.2, 1.0];
+
+/// One of each.
+pub fn drawn_settings(random: &mut Xorshift) -> Settings {
+    Settings {
+        margin: random.pick(&MARGINS),
+        search_limit: random.pick(&LIMITS),
+        threshold: random.pick(&THRESHOLDS),
+        tolerance: random.pick(&TOLERANCES),
     }
 }
 

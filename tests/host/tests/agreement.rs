@@ -12,7 +12,7 @@ use dresserduck::Settings;
 /// How many pairs are asked under the default, and under each other set.
 const PAIRS: [usize; 2] = [4_000, 1_000];
 
-/// Other search limits, and tolerances that tell other ratios alike.
+/// The default, and sets with other search limits, and with tolerances under which other ratios are alike.
 fn sets() -> [Settings; 6] {
     let with = |search_limit, tolerance| {
         let limited = Settings::DEFAULT.with_search_limit(search_limit);
