@@ -1,7 +1,7 @@
 //! Sets of the four settings, and charts on which each number of a set decides something.
 
 use crate::chart::Chart;
-use crate::faults::TINY;
+use crate::faults::{BOUND, TINY};
 use crate::samples::{biased_chart, ranges_above, rounds, Xorshift};
 use crate::six::Asked;
 use dresserduck::Settings;
@@ -75,25 +75,26 @@ fn runs(random: &mut Xorshift, settings: Settings, n: usize) -> Vec<f64> {
     deltas
 }
 
-/// Each the one before and a step, from 100 or from about zero; or runs.
+/// Each the one before and a step, from 100, from far away or from either zero; or runs.
 fn deltas(random: &mut Xorshift, settings: Settings, n: usize) -> Vec<f64> {
     let style = random.below(4);
     if style > 1 {
         return runs(random, settings, n);
     }
     let steps = steps(settings.margin);
-    let mut last = [100.0, 0.0][style];
+    let origins = [[100.0, 100.0, 16_777_100.0], [0.0, 0.0, -0.0]][style];
+    let mut last = origins[0];
     let mut next = |_| {
         last = match random.below(8) {
-            0 => [100.0, 0.0][style],
+            0 => random.pick(&origins),
             _ => last + random.pick(&steps),
         };
-        last
+        last.clamp(-BOUND, BOUND)
     };
     (0..n).map(&mut next).collect()
 }
 
-/// Starts that rise by the deltas, or by steps.
+/// Starts that rise by the deltas, or by steps; from zero again where that is too far.
 fn starts(random: &mut Xorshift, margin: f64, deltas: &[f64]) -> Vec<f64> {
     let (style, steps) = (random.below(3), steps(margin));
     let mut now = 0.0;
@@ -102,6 +103,9 @@ fn starts(random: &mut Xorshift, margin: f64, deltas: &[f64]) -> Vec<f64> {
             0 => random.pick(&steps),
             _ => *delta,
         };
+        if now.abs() > BOUND {
+            now = 0.0;
+        }
         now
     };
     deltas.iter().map(&mut next).collect()
