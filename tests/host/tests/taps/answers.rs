@@ -2,10 +2,12 @@
 //! whatever the deltas are.
 
 use crate::grouped;
+use dresserduck::Settings;
 use host_tests::chart::Chart;
 use host_tests::plain_rhythm::Groups;
 use host_tests::plain_taps::{class_of_deltas, Told, NO_PAIR, OPEN};
 use host_tests::samples::{rhythmic_chart, scatter, tap_chart, Xorshift};
+use host_tests::sets::{drawn_chart, MARGINS};
 use host_tests::taps::{accepted, accepted_with, exact_sizes, TapChart};
 use host_tests::LARGEST_CHART;
 
@@ -54,6 +56,19 @@ fn check_choice(chart: &TapChart, told: &Told, choice: &Chart) {
     }
 }
 
+/// The plain version's answer, and four choices.
+fn check_chart(random: &mut Xorshift, chart: &TapChart, counts: &mut Counts) {
+    let told = accepted(chart);
+    counts.add(&told);
+    let mut groups = Vec::new();
+    for _ in 0..4 {
+        let choice = chart.choice(random);
+        check_choice(chart, &told, &choice);
+        groups.push(Groups::of(&choice).objects);
+    }
+    counts.differ += usize::from(groups.iter().any(|other| *other != groups[0]));
+}
+
 #[test]
 fn answers_are_the_plain_ones_and_those_of_every_choice() {
     let mut random = Xorshift::new(0x7A95);
@@ -61,15 +76,7 @@ fn answers_are_the_plain_ones_and_those_of_every_choice() {
     for _ in 0..4_000 {
         let n = random.below(61);
         let chart = tap_chart(&mut random, n);
-        let told = accepted(&chart);
-        counts.add(&told);
-        let mut groups = Vec::new();
-        for _ in 0..4 {
-            let choice = chart.choice(&mut random);
-            check_choice(&chart, &told, &choice);
-            groups.push(Groups::of(&choice).objects);
-        }
-        counts.differ += usize::from(groups.iter().any(|other| *other != groups[0]));
+        check_chart(&mut random, &chart, &mut counts);
     }
     println!("{counts:?}");
     let enough = counts.classes.iter().all(|&count| count > 3_000)
@@ -78,6 +85,23 @@ fn answers_are_the_plain_ones_and_those_of_every_choice() {
         && counts.open > 1_000
         && counts.differ > 500;
     assert!(enough, "{counts:?}");
+}
+
+/// Rhythm is asked under the same margin.
+#[test]
+fn so_they_are_under_other_margins() {
+    let mut random = Xorshift::new(0x7A96);
+    for margin in MARGINS {
+        let settings = Settings::DEFAULT.with_margin(margin);
+        let mut counts = Counts::default();
+        for _ in 0..400 {
+            let chart = drawn_chart(&mut random, settings).chart;
+            check_chart(&mut random, &chart, &mut counts);
+        }
+        println!("{margin:e}: {counts:?}");
+        let enough = counts.known > 100 && counts.open > 40 && counts.differ > 20;
+        assert!(enough, "{margin:e}: {counts:?}");
+    }
 }
 
 /// Up to the largest chart.
