@@ -33,13 +33,12 @@ pub struct Told {
 impl Told {
     /// Which calls answered something else.
     pub fn unlike(&self, other: &Told) -> [bool; 6] {
-        let taps = |told: &Told| (told.pairs.clone(), told.sure_groups.clone());
         [
             self.encoded != other.encoded,
             self.values != other.values,
             self.mean != other.mean,
             self.groups != other.groups,
-            taps(self) != taps(other),
+            (&self.pairs, &self.sure_groups) != (&other.pairs, &other.sure_groups),
             self.records != other.records,
         ]
     }
@@ -55,7 +54,7 @@ fn records(chart: &Chart, groups: &Groups, window: f64) -> Vec<Recorded> {
 }
 
 /// Every call accepts, and answers with every bit and lent place as its plain version does; stretch refuses where there is no note,
-/// and isn't asked where there is no object.
+/// and isn't asked where the bounds hold no object.
 #[track_caller]
 pub fn accepted(asked: &Asked) -> Told {
     let chart = &asked.chart.low;
