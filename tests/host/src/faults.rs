@@ -150,7 +150,7 @@ fn outside(most: f64) -> Vec<f64> {
     [&below[..], &above, &nans()].concat()
 }
 
-/// Outside the range from 2 to 64; most of them are inside it to arithmetic of 8, 16 or 32 bits.
+/// Outside the range from 2 to 64; some are inside it to arithmetic of 8, 16 or 32 bits.
 const BAD_LIMITS: [u64; 14] = [
     0,
     1,
