@@ -158,8 +158,8 @@ pub examples_right : (map coloured examples ≡ map (λ (e : Example). e.outcome
     × (map stretched stretches ≡ map (λ (e : StretchExample). e.outcome) stretches)
 unfolding examples stretches coloured stretched chart lent shown answered colour_outcome stretch_outcome refused_then stretch_refusal has_note chart_tenths
     tenths_of
-    chart_mean average_of stretch_values of_notes sum_from part of_int any_short short_refusal settings_refusal settings_good verdict equally_long first_refused object_order
-    delta_refusal time_good ratio_good within
+    chart_mean average_of stretch_values of_notes sum_from part of_int any_short short_refusal settings_refusal settings_good
+    verdict equally_long first_refused object_order delta_refusal time_good ratio_good within
     filled colour_values colour_at standing_at is_first over tabulate scan end_state gathered opened group_count group_numbers place_by_mark group_places
     sizes_from
     group_sizes firsts_from group_firsts is_note notes note_idx note_before previous_note continues opens_streak streak_marks streak_of streak_lengths

@@ -34,8 +34,8 @@ use Rattle.lent.proofs.WrittenLaws.{Ends, length-written, drop-written}
 use Rattle.call_rhythm.proofs.RegionLaws.{length-group-numbers}
 
 -- an accepted call has room for the tables
-pub accepted-tables : {s : Settings} {c : Chart} {answers : List ℕ} (work : List ℕ) (scratch : List Float) → Accommodated s c answers (length work) (length scratch)
-    → TablesRoom c.kinds c.starts c.deltas work scratch
+pub accepted-tables : {s : Settings} {c : Chart} {answers : List ℕ} (work : List ℕ) (scratch : List Float)
+    → Accommodated s c answers (length work) (length scratch) → TablesRoom c.kinds c.starts c.deltas work scratch
 accepted-tables work scratch r =
     let good = r.chart in
     record { few = good.few; started = good.lengths.start; whole = good.lengths.delta; regions = r.regions; floats = r.floats }

@@ -19,7 +19,8 @@ use Rattle.call_taps.proofs.VerdictLaws.{tap_passed}
 
 -- the verdict, from what `judge` answered on the tests of the answer slices
 pub judged_told : (s : Settings) (t : TapChart) (m : Memory) {v u : Verdict}
-    → v ≡ tap_verdict t (and_then (short_refusal (joined (tap_size t) false (answer_lengths m)) (tap_size t) (length m.work) (length m.scratch)) (settings_refusal s))
+    → v ≡ tap_verdict t
+    (and_then (short_refusal (joined (tap_size t) false (answer_lengths m)) (tap_size t) (length m.work) (length m.scratch)) (settings_refusal s))
     → v ≡ u → judged s t m ≡ u
 judged_told s t m e f = rw (← short_joined (tap_size t) (answer_lengths m)) (sym e ∙ f)
 

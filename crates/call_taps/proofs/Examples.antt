@@ -137,7 +137,8 @@ tapped e =
 -- every chart comes out as it says
 examples_right : map tapped examples ≡ map (λ (e : Example). e.outcome) examples
 unfolding examples tapped lent milliseconds whole taps_outcome answered filled tap_verdict all_equally_long ranges range_refusal first_refused object_order
-    time_good ratio_good within any_short short_refusal settings_refusal settings_good over tabulate scan end_state opened group_count group_numbers is_note notes note_idx notes_from
+    time_good ratio_good within any_short short_refusal settings_refusal settings_good over tabulate scan end_state opened group_count group_numbers
+    is_note notes note_idx notes_from
     note_objects per_note range_of class_of tap_marks is_open class_at pairs_of tap_groups_of tap_groups_in class_marks marks_after
     looked_at looked_after among sure_class
     is_rise is_near abs_of add sub le lt of_int of_bits round

@@ -48,7 +48,8 @@ use Rattle.examples.specs.Starred.{Example, encoding, starred}
 pub starred_right : map (λ (e : Example). answer e.question) starred ≡ map (λ (e : Example). e.outcome) starred
 unfolding starred encoding answer whole bits_of plain_chart encode_memory colour_memory rhythm_memory encode_answer colour_answer rhythm_answer encode_shown
     colour_shown
-    rhythm_shown millis answered encode.encode_outcome encode.encoded_kinds encode.filled calls.colour_outcome any_short short_refusal settings_refusal settings_good calls.filled
+    rhythm_shown millis answered encode.encode_outcome encode.encoded_kinds encode.filled calls.colour_outcome any_short short_refusal calls.filled
+    settings_refusal settings_good
     rhythm.rhythm_outcome rhythm.filled group_of pattern_group_of per_note note_group groups_in pattern_groups_in rhythm_marks group_objects
     firsts_of starts_of intervals_of group_intervals pattern_number parted notes_from note_objects of_notes verdict equally_long first_refused object_order
     delta_refusal

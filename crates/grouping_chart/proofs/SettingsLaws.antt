@@ -1,15 +1,16 @@
 -- What is known of a set that is not refused; and the base's four numbers: 5.0, 16, and the f64 nearest to 1 / 10 and to 1 / 100, which are not.
 use mathlib.Core.Path.{◌≡◌, refl}
-use mathlib.Core.Bool.{false}
-use Prim.Native.Nat.{ℕ, ◌≤◌}
+use mathlib.Core.Bool.{true, false}
+use Prim.Native.Nat.{◌≤◌}
 use borrow.Author.Tests.{leb-true}
-use denote.Floats.{passes}
+use denote.Floats.{passes, is_true}
 use lib.Dec.{T}
 use lib.IntN.{pos}
 use lib.Ieee.{fin, binary64, of_bits, round, le}
 use Rattle.std.proofs.lemmas.Bool.{and_parts}
 use Rattle.numeric.specs.Constants.{zero64, one64}
 use Rattle.numeric.specs.Range.{within}
+use Rattle.numeric.proofs.range.Laws.{ends_within}
 use Rattle.grouping_chart.specs.Settings.{Settings, base_settings, fifty64, settings_good, settings_refusal, Permitted}
 use Rattle.grouping_chart.proofs.AcceptedLaws.{test_passed}
 
@@ -48,5 +49,9 @@ unfolding of_bits round
 base_is = refl
 
 pub base_permitted : Permitted base_settings
-unfolding settings_refusal settings_good within le of_bits
-base_permitted = refl
+unfolding settings_refusal settings_good le of_bits
+base_permitted =
+    let margin : within zero64 fifty64 base_settings.margin ≡ true = is_true _ (ends_within _ _ _ tt tt) in
+    let threshold : within zero64 one64 base_settings.threshold ≡ true = is_true _ (ends_within _ _ _ tt tt) in
+    let tolerance : within zero64 one64 base_settings.tolerance ≡ true = is_true _ (ends_within _ _ _ tt tt) in
+    rw (margin, threshold, tolerance) refl

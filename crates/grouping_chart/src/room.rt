@@ -1,5 +1,5 @@
-// The verdict on every call: refusals 1 to 7, of which 3, a slice that is too short, is beside the chart, and 16, of the
-// settings, straight behind it.
+// The verdict on every call: refusals 1 to 7, of which 3, a slice that is too short, is beside the chart, and 16, of
+// its settings, which is tested straight behind 3.
 ghost use Rattle.std.specs.Prelude.{◌≡◌, length};
 ghost use Rattle.grouping_chart.specs.Lent.{seen};
 ghost use Rattle.grouping_chart.specs.Refusal.{and_then, verdict};

@@ -61,7 +61,8 @@ module _ (s : Settings) (c c' : Chart) {a g b h : ℕ} (r : Agree s.search_limit
     reach' = λ i i' l k e y. absurd (cut_closed c' r.cut' i' (omega (arith, r.objects)) (omega arith) y);
   })
 
-  settled-agree : (i i' : ℕ) → Counterparts (size c) (size c') i i' → Settled s.search_limit (hit_patterns c) a i ↔ Settled s.search_limit (hit_patterns c') b i'
+  settled-agree : (i i' : ℕ) → Counterparts (size c) (size c') i i'
+      → Settled s.search_limit (hit_patterns c) a i ↔ Settled s.search_limit (hit_patterns c') b i'
   settled-agree i i' e = (there, back)
     where
       there : Settled s.search_limit (hit_patterns c) a i → Settled s.search_limit (hit_patterns c') b i'
