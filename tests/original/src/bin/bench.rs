@@ -19,6 +19,12 @@ struct Lists {
     ratio: Vec<f64>,
 }
 
+impl Lists {
+    fn chart(&self) -> Chart<'_> {
+        Chart::new(&self.kind, &self.start, &self.delta, &self.ratio)
+    }
+}
+
 /// Of each object its kind and delta, by its number.
 fn lists(n: usize, mut object: impl FnMut(usize) -> (u8, f64)) -> Lists {
     let (kind, delta): (Vec<u8>, Vec<f64>) = (0..n).map(&mut object).unzip();
@@ -46,25 +52,35 @@ fn random(n: usize) -> Vec<Lists> {
     (0..SIZES[2] / n).map(|_| lists(n, &mut object)).collect()
 }
 
-/// Streaks of 1 to 20, over and over: no hit pattern is like one of the 15 before it.
-fn no_repetition(n: usize) -> Lists {
-    let streak = |number: usize| std::iter::repeat_n((number % 2) as u8, number % 20 + 1);
+/// Streaks of 1 to so many, over and over, each a hit pattern: of 20 none is like one of the 15 before it.
+fn streaks_up_to(longest: usize, n: usize) -> Lists {
+    let streak = move |number| std::iter::repeat_n((number % 2) as u8, number % longest + 1);
     let mut kinds = (0..).flat_map(streak);
     lists(n, |_| (kinds.next().unwrap_or(0), 100.0))
 }
 
-fn charts(n: usize) -> [(&'static str, Vec<Lists>); 4] {
+/// Charts by their names.
+type Sets = Vec<(&'static str, Vec<Lists>)>;
+
+fn charts(n: usize) -> Sets {
     let falling = lists(n, |i| (0, (n - i) as f64 * 0.25));
     let alternating = lists(n, |i| ((i % 2) as u8, 100.0));
-    [
+    vec![
         ("random", random(n)),
         ("one group of distinct falling deltas", vec![falling]),
         ("all objects one pattern", vec![alternating]),
         (
             "every hit pattern searching 15 back",
-            vec![no_repetition(n)],
+            vec![streaks_up_to(20, n)],
         ),
     ]
+}
+
+/// The same, and streaks of 1 to 3, which make the most hit patterns.
+fn charts_and_most_hits(n: usize) -> Sets {
+    let mut charts = charts(n);
+    charts.push(("streaks of 1 to 3", vec![streaks_up_to(3, n)]));
+    charts
 }
 
 /// One run's time in nanoseconds; it repeats the work so that it takes a while.
@@ -154,8 +170,7 @@ const LIBRARY: [Call; 4] = [
 ];
 
 fn library_works<'a>(set: &'a [Lists], originals: &'a [Original]) -> [Work<'a>; 4] {
-    let chart = |l: &'a Lists| Chart::new(&l.kind, &l.start, &l.delta, &l.ratio);
-    let charts: Vec<Chart> = set.iter().map(chart).collect();
+    let charts: Vec<Chart> = set.iter().map(Lists::chart).collect();
     LIBRARY.map(|call| {
         let (charts, mut room) = (charts.clone(), Room::default());
         let all = move || {
@@ -187,6 +202,30 @@ fn growth(small: &[Lists], large: &[Lists]) -> [f64; 4] {
     [0, 1, 2, 3].map(|k| {
         let [less, more] = medians(&mut one[k], &mut other[k]);
         more / less * charts
+    })
+}
+
+type LimitedCall = fn(&mut Room, &Chart, Settings) -> Result<(), Refusal>;
+
+/// Encode and colour: how often the library's time under the default search limit is in that under the largest.
+fn limit_ratios(set: &[Lists]) -> [f64; 2] {
+    let charts: Vec<Chart> = set.iter().map(Lists::chart).collect();
+    let under = |call: LimitedCall, settings: Settings| {
+        let (charts, mut room) = (&charts, Room::default());
+        move || {
+            for chart in charts {
+                call(&mut room, black_box(chart), settings).expect("a good chart");
+            }
+        }
+    };
+    let calls: [LimitedCall; 2] = [
+        |room, chart, set| room.workspace.encode_into(chart, set, &mut room.encoding),
+        |room, chart, set| room.workspace.colour_into(chart, set, &mut room.values),
+    ];
+    calls.map(|call| {
+        let largest = BASE.with_search_limit(64);
+        let [less, more] = medians(&mut under(call, BASE), &mut under(call, largest));
+        more / less
     })
 }
 
@@ -255,25 +294,42 @@ fn row<const COLUMNS: usize>(numbers: [f64; COLUMNS]) -> String {
     numbers.map(|x| format!("{x:.1}")).join(" | ")
 }
 
-fn main() {
-    let calls = CALLS.join(" | ");
-    println!("How many times as fast as the original:\n");
-    println!("| chart | objects | {calls} |\n|---|---|---|---|---|---|");
-    for n in SIZES {
-        for (name, set) in charts(n) {
-            println!("| {name} | {n} | {} |", row(ratios(&set)));
-        }
+/// Prints what is measured of charts at each size.
+fn print_by_size<const COLUMNS: usize>(
+    title: &str,
+    columns: [&str; COLUMNS],
+    charts: impl Fn(usize) -> Sets,
+    measured: impl Fn(&[Lists]) -> [f64; COLUMNS],
+) {
+    println!("{title}:\n\n| chart | objects | {} |", columns.join(" | "));
+    println!("|---|---|{}", "---|".repeat(COLUMNS));
+    let all = |n| charts(n).into_iter().map(move |chart| (n, chart));
+    for (n, (name, set)) in SIZES.into_iter().flat_map(all) {
+        println!("| {name} | {n} | {} |", row(measured(&set)));
     }
-    println!("\nOf raw objects, how many times as fast as the original:\n");
-    println!("| chart | objects | build | build and colour |\n|---|---|---|---|");
-    for n in SIZES {
-        for (name, set) in charts(n) {
-            println!("| {name} | {n} | {} |", row(built_ratios(&set)));
-        }
-    }
-    println!("\nThe library's time at 16,384 objects over that at 1,000:\n");
-    println!("| chart | {calls} |\n|---|---|---|---|---|");
+    println!();
+}
+
+fn print_growth() {
+    println!("The library's time at 16,384 objects over that at 1,000:\n");
+    println!("| chart | {} |\n|---|---|---|---|---|", CALLS.join(" | "));
     for ((name, small), (_, large)) in charts(SIZES[1]).iter().zip(charts(SIZES[2])) {
         println!("| {name} | {} |", row(growth(small, &large)));
     }
+    println!();
+}
+
+fn main() {
+    let title = "How many times as fast as the original";
+    print_by_size(title, CALLS, charts, ratios);
+    let title = "Of raw objects, how many times as fast as the original";
+    print_by_size(title, ["build", "build and colour"], charts, built_ratios);
+    print_growth();
+    let title = "The library's time under a search limit of 64 over that under 16";
+    print_by_size(
+        title,
+        ["encode", "colour"],
+        charts_and_most_hits,
+        limit_ratios,
+    );
 }
