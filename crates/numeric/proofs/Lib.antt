@@ -7,6 +7,7 @@ pub mod Bounded
 pub mod ConstantLaws
 pub mod Minus
 pub mod MinusZero
+pub mod ZeroSign
 mod NanLaws
 mod RoundLaws
 mod Sign

@@ -35,10 +35,10 @@ abbrev pub dist : ℕ → ℕ → ℕ
 dist u v = u - v + (v - u)
 
 -- ---- ±a < ±b, and ±a ≤ ±b
-abbrev leq : Bool → ℕ → Bool → ℕ → Bool
+abbrev pub leq : Bool → ℕ → Bool → ℕ → Bool
 leq s a t b = below s a t b || level s a t b
 
-below_is : (s : Bool) (a : ℕ) (t : Bool) (b : ℕ) → below s a t b ≡ ltb (plus s a + minus t b) (plus t b + minus s a)
+pub below_is : (s : Bool) (a : ℕ) (t : Bool) (b : ℕ) → below s a t b ≡ ltb (plus s a + minus t b) (plus t b + minus s a)
 below_is false a false b = rw (add-zero a, add-zero b)
 below_is true a true b = rw (zero-add a, zero-add b)
 below_is true a false b = rw (add_comm a b)
@@ -62,7 +62,7 @@ eqb_sym a b = same_test (eqb a b) (eqb b a) (λ x. eq→eqb (sym (eqb→eq a b x
 up_is : (a b : ℕ) → (ltb a b || (eqb a b && true)) ≡ leb a b
 up_is a b = same_test (ltb a b || (eqb a b && true)) (leb a b) (λ x. le→leb a b (at_most a b x)) (λ x. of_at_most a b (leb→le a b x))
 
-leq_is : (s : Bool) (a : ℕ) (t : Bool) (b : ℕ) → leq s a t b ≡ leb (plus s a + minus t b) (plus t b + minus s a)
+pub leq_is : (s : Bool) (a : ℕ) (t : Bool) (b : ℕ) → leq s a t b ≡ leb (plus s a + minus t b) (plus t b + minus s a)
 leq_is false a false b = rw (add-zero a, add-zero b) (up_is a b)
 leq_is true a true b = rw (eqb_sym a b, zero-add a, zero-add b) (up_is b a)
 leq_is true a false b = same_test (leq true a false b) (leb 0 (b + a)) (λ x. le→leb 0 (b + a) zero-le) (λ x. minus_plus a b)
