@@ -7,6 +7,7 @@ pub mod NotesLaws
 pub mod SeenLaws
 pub mod RangeLaws
 pub mod SettingsLaws
+pub mod UnsignedLaws
 pub mod CutLaws
 pub mod RefusalLaws
 pub mod AllLaws

@@ -2,7 +2,7 @@
 use mathlib.Core.Path.{◌≡◌, refl}
 use mathlib.Core.Bool.{true, false}
 use Prim.Native.Nat.{◌≤◌}
-use borrow.Author.Tests.{leb-true}
+use borrow.Author.Tests.{leb-true, le-leb}
 use denote.Floats.{passes, is_true}
 use lib.Dec.{T}
 use lib.IntN.{pos}
@@ -36,6 +36,12 @@ in_ranges {s} p =
       threshold = passes _ scores.0;
       tolerance = passes _ scores.1;
     }
+
+-- and a set whose numbers do is not refused
+pub ranges_permitted : (s : Settings) → InRanges s → Permitted s
+unfolding settings_refusal settings_good
+ranges_permitted s r =
+    rw (is_true _ r.margin, le-leb 2 s.search_limit r.least, le-leb s.search_limit 64 r.most, is_true _ r.threshold, is_true _ r.tolerance) refl
 
 -- ---- the base's
 

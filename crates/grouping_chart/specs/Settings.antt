@@ -5,6 +5,7 @@ use Rattle.std.specs.Prelude.{Bool, false, ◌&&◌, cond, ◌≡◌, leb, pos, 
 use Rattle.std.specs.Float.{fin, binary64}
 use Rattle.std.specs.Float.Ieee.{of_bits}
 use Rattle.numeric.specs.Constants.{zero64, one64}
+use Rattle.numeric.specs.Near.{abs_of}
 use Rattle.numeric.specs.Range.{within}
 use Rattle.grouping_chart.specs.Refusal.{Check, passed}
 use Rattle.grouping_chart.specs.declared.refusal.Reason.TheVariants.{BadSettings}
@@ -42,3 +43,13 @@ settings_refusal s = cond (settings_good s) passed (Err BadSettings)
 -- a set that is not refused
 abbrev pub Permitted : Settings → Type 0
 Permitted s = settings_refusal s ≡ passed
+
+-- the same set with 0.0 for each −0.0: of numbers that are not negative, as those of a set that is not refused, the sign
+-- bit dropped
+abbrev pub unsigned : Settings → Settings
+unsigned s = record {
+  margin = abs_of s.margin;
+  search_limit = s.search_limit;
+  threshold = abs_of s.threshold;
+  tolerance = abs_of s.tolerance;
+}
