@@ -2,5 +2,6 @@
 pub mod DistinctLaws
 pub mod AscendingLaws
 pub mod SortedLaws
+pub mod UnsignedLaws
 mod SetLaws
 mod Examples
