@@ -2,4 +2,5 @@
 pub mod BoundLaws
 pub mod PenaltyLaws
 pub mod PenaltyCases
+pub mod UnsignedLaws
 mod Examples

@@ -3,3 +3,4 @@ pub mod StandingLaws
 pub mod BoundLaws
 pub mod AlikeLaws
 pub mod TablesLaws
+pub mod UnsignedLaws

@@ -3,6 +3,7 @@ pub mod MadeLaws
 pub mod GroupsLaws
 pub mod FirstLaws
 pub mod ReachedLaws
+pub mod UnsignedLaws
 mod PatternsLaws
 mod OwnLaws
 mod OwnExamples
