@@ -5,6 +5,7 @@ pub mod BoundLaws
 pub mod ThirdBranch
 pub mod AlikeLaws
 pub mod AnswerLaws
+pub mod UnsignedLaws
 mod FilledLaws
 mod TurnLaws
 mod StretchLaws

@@ -3,6 +3,7 @@ pub mod TablesLaws
 pub mod CallLaws
 pub mod MadeLaws
 pub mod PerNoteLaws
+pub mod UnsignedLaws
 mod SpreadLaws
 mod RegionLaws
 mod AnswerLaws

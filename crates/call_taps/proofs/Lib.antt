@@ -2,6 +2,7 @@
 pub mod VerdictLaws
 pub mod CallLaws
 pub mod ChoiceLaws
+pub mod UnsignedLaws
 mod GroupsLaws
 mod FilledLaws
 mod Examples

@@ -1,5 +1,6 @@
 -- The laws of this crate. Those that are public are for the crates above, or are results of their own; the others serve the proofs of this crate alone.
 pub mod PenaltyLaws
+pub mod UnsignedLaws
 mod PairLaws
 mod WalkLaws
 mod Examples
