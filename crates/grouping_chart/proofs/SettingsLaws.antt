@@ -38,9 +38,9 @@ in_ranges {s} p =
     }
 
 -- and a set whose numbers do is not refused
-pub ranges_permitted : (s : Settings) → InRanges s → Permitted s
+pub ranges_permitted : {s : Settings} → InRanges s → Permitted s
 unfolding settings_refusal settings_good
-ranges_permitted s r =
+ranges_permitted {s} r =
     rw (is_true _ r.margin, le-leb 2 s.search_limit r.least, le-leb s.search_limit 64 r.most, is_true _ r.threshold, is_true _ r.tolerance) refl
 
 -- ---- the base's

@@ -31,7 +31,7 @@ module _ {s : Settings} (r : InRanges s) where
   }
 
   refusal_unsigned : settings_refusal s ≡ settings_refusal (unsigned s)
-  refusal_unsigned = ranges_permitted s r ∙ sym (ranges_permitted (unsigned s) ranges_unsigned)
+  refusal_unsigned = ranges_permitted r ∙ sym (ranges_permitted ranges_unsigned)
 
   -- what is refused beside a chart, and of a call on it
   pub beside_unsigned : refusal_beside s ≡ refusal_beside (unsigned s)
@@ -41,4 +41,4 @@ module _ {s : Settings} (r : InRanges s) where
   judged_unsigned = λ i c answers work scratch. verdict c (beside_unsigned i (size c) answers (length work) (length scratch))
 
 pub unsigned_permitted : (s : Settings) → Permitted s → Permitted (unsigned s)
-unsigned_permitted s p = ranges_permitted (unsigned s) (ranges_unsigned (in_ranges p))
+unsigned_permitted s p = ranges_permitted (ranges_unsigned (in_ranges p))

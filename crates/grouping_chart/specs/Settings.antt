@@ -44,8 +44,7 @@ settings_refusal s = cond (settings_good s) passed (Err BadSettings)
 abbrev pub Permitted : Settings → Type 0
 Permitted s = settings_refusal s ≡ passed
 
--- the same set with 0.0 for each −0.0: of numbers that are not negative, as those of a set that is not refused, the sign
--- bit dropped
+-- the same set with 0.0 for each −0.0: a permitted set has no negative number, and of each the sign bit is dropped
 abbrev pub unsigned : Settings → Settings
 unsigned s = record {
   margin = abs_of s.margin;
