@@ -1,7 +1,8 @@
--- What is known of a set that is not refused; and the base's four numbers: 5.0, 16, and the f64 nearest to 1 / 10 and to 1 / 100, which are not.
+-- A set is not refused exactly where each number lies in its range; and the base's four, 5.0, 16, and the f64 nearest to 1 / 10 and to 1 / 100, do.
 use mathlib.Core.Path.{◌≡◌, refl}
-use mathlib.Core.Bool.{true, false}
+use mathlib.Core.Bool.{false}
 use Prim.Native.Nat.{◌≤◌}
+use native.Mathlib.Omega.{arith}
 use borrow.Author.Tests.{leb-true, le-leb}
 use denote.Floats.{passes, is_true}
 use lib.Dec.{T}
@@ -55,9 +56,11 @@ unfolding of_bits round
 base_is = refl
 
 pub base_permitted : Permitted base_settings
-unfolding settings_refusal settings_good le of_bits
-base_permitted =
-    let margin : within zero64 fifty64 base_settings.margin ≡ true = is_true _ (ends_within _ _ _ tt tt) in
-    let threshold : within zero64 one64 base_settings.threshold ≡ true = is_true _ (ends_within _ _ _ tt tt) in
-    let tolerance : within zero64 one64 base_settings.tolerance ≡ true = is_true _ (ends_within _ _ _ tt tt) in
-    rw (margin, threshold, tolerance) refl
+unfolding le of_bits
+base_permitted = ranges_permitted (record {
+  margin = ends_within _ _ _ tt tt;
+  least = omega arith;
+  most = omega arith;
+  threshold = ends_within _ _ _ tt tt;
+  tolerance = ends_within _ _ _ tt tt;
+})

@@ -55,5 +55,8 @@ pub fn judge(
     ensures { result ≡ verdict (seen chart.entry)
         (and_then (short_refusal short (length chart.entry.kind.now) work scratch) (settings_refusal s)) }
 {
-    refusal::check(chart, refusal_beside(s, short, chart.kind.len(), work, scratch))
+    refusal::check(
+        chart,
+        refusal_beside(s, short, chart.kind.len(), work, scratch),
+    )
 }

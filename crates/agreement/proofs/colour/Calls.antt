@@ -7,8 +7,7 @@ use Prim.Native.Nat.{ℕ}
 use native.Mathlib.Omega.{arith}
 use Rattle.std.specs.Prelude.{Ok}
 use Rattle.grouping_chart.specs.Chart.{Chart, size}
-use Rattle.grouping_chart.specs.Refusal.{Check, passed, accepted, verdict}
-use Rattle.grouping_chart.specs.declared.refusal.Reason.{Reason}
+use Rattle.grouping_chart.specs.Refusal.{Check, accepted, verdict}
 use Rattle.grouping_chart.specs.Settings.{Settings}
 use Rattle.grouping_chart.proofs.AcceptedLaws.{accepted_good}
 use Rattle.call_encode.specs.Call as encode
