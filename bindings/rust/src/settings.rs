@@ -1,6 +1,6 @@
 //! The four numbers that every call on a chart takes.
 
-/// How a call on a chart groups and scores, for the player at hand: one whose hands shake needs a wider margin.
+/// How a call on a chart groups and scores, for the player at hand: for one whose hands shake the default margin is narrow.
 ///
 /// Two charts are compared fairly only under the same settings. Nothing is tested here: a call tells
 /// ([`BadSettings`](crate::Refusal::BadSettings)) that a number lies outside its range or is a NaN; a −0.0 is a 0.0.

@@ -1,4 +1,4 @@
-// The four numbers that are handed to every call on a chart, and which sets of them are refused.
+// The four numbers that each call on a chart takes, and which sets of them are refused.
 ghost use Rattle.std.specs.Prelude.{◌≡◌};
 ghost use Rattle.grouping_chart.specs.Settings.{base_settings, settings_good, settings_refusal};
 
