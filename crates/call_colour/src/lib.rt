@@ -31,11 +31,7 @@ fn fill_chart(chart: Chart, s: Settings, value: &mut [f64], work: &mut [u16], sc
         (memory value.old work.old scratch.old) }
 {
     let n = chart.kind.len();
-    // by `as`: a set's limit is a u64 by its type, of which fewer bits would ask more, and that it fits is known, so
-    // that TryFrom's Err can't come
-    let limit = SearchLimit {
-        value: s.search_limit as u16,
-    };
+    let limit = SearchLimit::of(s.search_limit);
     let k = grouping_preprocessor::encode_levels(chart.kind, work, limit);
     let table = LogisticTable::new();
     evaluator_values::fill_values(&table, chart, work, k, s.tolerance, value);

@@ -109,11 +109,7 @@ pub fn encode(
         | (hit.len() < n)
         | (interval.len() < n);
     judge(chart, s, short, work.len(), scratch.len())?;
-    // by `as`: a set's limit is a u64 by its type, of which fewer bits would ask more, and that it fits is known, so
-    // that TryFrom's Err can't come
-    let limit = SearchLimit {
-        value: s.search_limit as u16,
-    };
+    let limit = SearchLimit::of(s.search_limit);
     let hits = encode_kinds(
         chart.kind,
         limit,

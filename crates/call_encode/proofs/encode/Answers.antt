@@ -19,16 +19,13 @@ pub returns-in_err-judge : goal.returns-in_err-judge
 unfolding encode_outcome
 returns-in_err-judge c = answered-refused _ _ _ (judged-told _ _ _ _ _ c.judge.ensures c.in_err-judge.was) (search rules)
 
-pub overflow_cast-limit : goal.overflow_cast-limit
-overflow_cast-limit c = let small = limit_small _ _ _ (taken (goal.at.overflow_cast-limit c).In_ok-judge) in omega (arith, small)
-
-pub invariant_of-limit : goal.invariant_of-limit
-invariant_of-limit c =
-    let small = limit_small _ _ _ (taken (goal.at.invariant_of-limit c).In_ok-judge) in
+pub of-limit-requires : goal.of-limit-requires
+of-limit-requires c =
+    let small = limit_small _ _ _ (taken (goal.at.of-limit-requires c).In_ok-judge) in
     record { some = omega (arith, small); fits = omega (arith, small) }
 
 pub encode_kinds-hits-requires : goal.encode_kinds-hits-requires
-encode_kinds-hits-requires c = kinds_room _ _ _ (taken (goal.at.encode_kinds-hits-requires c).In_ok-judge)
+encode_kinds-hits-requires c = rw c.of-limit.ensures (kinds_room _ _ _ (taken (goal.at.encode_kinds-hits-requires c).In_ok-judge))
 
 pub front-requires : goal.front-requires
 front-requires c = scratch_room _ _ _ (taken (goal.at.front-requires c).In_ok-judge)
@@ -36,4 +33,5 @@ front-requires c = scratch_room _ _ _ (taken (goal.at.front-requires c).In_ok-ju
 pub returns : goal.returns
 returns c =
     let made = c.encode_kinds-hits.ensures in
-    done-outcome _ _ _ (taken (goal.at.returns c).In_ok-judge) made.count (filled_is _ _ _ made.filled c.front.ensures)
+    let filled = rw c.of-limit.ensures at made.filled in
+    done-outcome _ _ _ (taken (goal.at.returns c).In_ok-judge) made.count (filled_is _ _ _ filled c.front.ensures)
