@@ -16,6 +16,7 @@ use Rattle.dresserduck.specs.declared.Stretched.{Stretched}
 use Rattle.dresserduck.specs.declared.Grouped.{Grouped}
 use Rattle.dresserduck.specs.declared.Recorded.{Recorded}
 use Rattle.dresserduck.specs.declared.taps.Tapped.{Tapped}
+use Rattle.dresserduck.specs.declared.turns.Turned.{Turned}
 
 unfoldable pub built_of : Result ℕ Refusal → Built
 built_of (Ok objects) = record { refusal = 0; place = 0; objects = objects }
@@ -86,6 +87,10 @@ unfoldable pub tapped_of : Result (Option ℕ) Refusal → Tapped
 tapped_of (Ok (Some groups)) = record { refusal = 0; place = 0; «open» = 0; groups = groups }
 tapped_of (Ok None) = record { refusal = 0; place = 0; «open» = 1; groups = 0 }
 tapped_of (Err first) = record { refusal = reason_number first.reason; place = first.place.0; «open» = 0; groups = 0 }
+
+unfoldable pub turned_of : Result (Unit {0}) Refusal → Turned
+turned_of (Ok done) = record { refusal = 0; place = 0 }
+turned_of (Err first) = record { refusal = reason_number first.reason; place = first.place.0 }
 
 -- a call's outcome, its answer turned into such a record
 unfoldable pub for_host : {Answer Record Memory : Type 0} → (Answer → Record) → Outcome Answer Memory

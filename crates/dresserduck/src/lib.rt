@@ -24,6 +24,7 @@ use grouping_chart::settings::Settings;
 use numeric::canonical::bits;
 
 pub mod taps;
+pub mod turns;
 
 // dresserduck_built in the header.
 #[repr(C)]

@@ -49,12 +49,14 @@ fn standing_at(tables: Tables, idx: ObjectIndex) -> Standing
     let interval = usize::from(tables.interval[at.hit]);
     let pattern_place = usize::from(tables.pattern_place[at.pattern]);
     let streak_place = usize::from(tables.streak_place[at.streak]);
+    let first = usize::from(tables.first[at.streak]);
+    let streak = first == i;
     if i == 0 {
         return Standing {
             interval,
             pattern_place,
             streak_place,
-            streak: true,
+            streak,
             pattern: true,
             hit: true,
         };
@@ -64,7 +66,7 @@ fn standing_at(tables: Tables, idx: ObjectIndex) -> Standing
         interval,
         pattern_place,
         streak_place,
-        streak: at.streak != before.streak,
+        streak,
         pattern: at.pattern != before.pattern,
         hit: at.hit != before.hit,
     }

@@ -1,4 +1,4 @@
--- `previous_note` by a walk with two numbers, how many notes were passed and the kind of the last: the form in which later crates compute it.
+-- `previous_kind` by a walk with two numbers, how many notes were passed and the kind of the last: the form in which later crates compute it.
 use mathlib.Core.Path.{◌≡◌, refl, sym, ap, ◌∙◌}
 use mathlib.Core.List.{List, [], ◌∷◌, ◌++◌}
 use mathlib.Core.Bool.{Bool, true, false, cond}
@@ -8,7 +8,8 @@ use native.Mathlib.Omega.{arith}
 use lib.Dec.{eqb, eqb-suc-zero}
 use lib.ListN.{length, take, drop, get_or, take-append-drop, get_or-append}
 use lib.Seq.{take-suc}
-use Rattle.grouping_chart.specs.Object.{is_note, notes, note_idx, Previous, none, kind, note_before, previous_note}
+use Rattle.std.specs.Prelude.{Option, Some, None, option_map}
+use Rattle.grouping_chart.specs.Object.{is_note, notes, note_idx, note_before, previous_note, previous_kind}
 
 -- how many notes so far, and the kind of the last (any value if there is none)
 pub record Seen : Type 0 where
@@ -25,8 +26,8 @@ unfoldable pub seen_after : Seen → List ℕ → Seen
 seen_after s [] = s
 seen_after s (k ∷ ks) = seen_after (seen_next s k) ks
 
-unfoldable pub previous_seen : Seen → ℕ → Previous
-previous_seen s k = cond (is_note k) (cond (eqb s.notes 0) none (kind s.last)) none
+unfoldable pub previous_seen : Seen → ℕ → Option ℕ
+previous_seen s k = cond (is_note k) (cond (eqb s.notes 0) None (Some s.last)) None
 
 -- ---- one step of the walk, in the words of the contracts of `note_after` and `note_index`
 
@@ -121,24 +122,24 @@ pub note_idx_seen : (ks : List ℕ) (i : ℕ) → note_idx ks i ≡ cond (is_not
 unfolding note_idx
 note_idx_seen ks i = rw (seen_count (take i ks))
 
--- the note before the one that follows the notes of xs
+-- the kind of the note before the one that follows the notes of xs
 before_next : (xs ys : List ℕ) (s : Seen) (j : ℕ) → length xs ≡ j → s.notes ≡ j → s.last ≡ last_or 0 xs
-    → note_before (xs ++ ys) j ≡ cond (eqb s.notes 0) none (kind s.last)
+    → option_map (λ j. get_or (xs ++ ys) j 0) (note_before j) ≡ cond (eqb s.notes 0) None (Some s.last)
 unfolding note_before
 before_next xs ys s zero e n l = rw n
 before_next xs ys s (suc j) e n l =
-    rw (n, l, eqb-suc-zero j) (ap kind (get_or-append xs ys 0 j (omega arith) ∙ last_or_at 0 xs j e))
+    rw (n, l, eqb-suc-zero j) (ap (λ k. Some k) (get_or-append xs ys 0 j (omega arith) ∙ last_or_at 0 xs j e))
 
--- previous_note of object i is what the walk over the objects before it gives
-pub previous_note_seen : (ks : List ℕ) (i : ℕ) → previous_note ks i ≡ previous_seen (seen_after seen₀ (take i ks)) (get_or ks i 0)
+-- previous_kind of object i is what the walk over the objects before it gives
+pub previous_kind_seen : (ks : List ℕ) (i : ℕ) → previous_kind ks i ≡ previous_seen (seen_after seen₀ (take i ks)) (get_or ks i 0)
 unfolding previous_note note_idx previous_seen note_before
-previous_note_seen ks i = by (is_note (get_or ks i 0))
+previous_kind_seen ks i = by (is_note (get_or ks i 0))
   where
     whole : notes ks ≡ notes (take i ks) ++ notes (drop i ks)
     whole = ap notes (sym (take-append-drop i ks)) ∙ notes-append (take i ks) (drop i ks)
 
-    by : (b : Bool) → note_before (notes ks) (cond b (length (notes (take i ks))) 0)
-        ≡ cond b (cond (eqb (seen_after seen₀ (take i ks)).notes 0) none (kind (seen_after seen₀ (take i ks)).last)) none
+    by : (b : Bool) → option_map (λ j. get_or (notes ks) j 0) (note_before (cond b (length (notes (take i ks))) 0))
+        ≡ cond b (cond (eqb (seen_after seen₀ (take i ks)).notes 0) None (Some (seen_after seen₀ (take i ks)).last)) None
     by true =
         rw whole
         (before_next (notes (take i ks)) (notes (drop i ks)) (seen_after seen₀ (take i ks)) _ refl (seen_count (take i ks)) (seen_last seen₀ (take i ks)))

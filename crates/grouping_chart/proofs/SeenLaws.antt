@@ -7,7 +7,8 @@ use Prim.Native.Nat.{ℕ, ◌+◌}
 use native.Mathlib.Omega.{arith}
 use lib.Dec.{eqb}
 use borrow.Author.Tests.{ne_eqb}
-use Rattle.grouping_chart.specs.Object.{is_note, none, kind}
+use Rattle.std.specs.Prelude.{Some, None}
+use Rattle.grouping_chart.specs.Object.{is_note}
 use Rattle.grouping_chart.proofs.ObjectLaws.{Seen, seen_next, seen_after, previous_seen}
 
 -- ---- the walk, step by step
@@ -20,7 +21,7 @@ pub seen_after_first : (s : Seen) (k : ℕ) (ks : List ℕ) → seen_after s (k 
 unfolding seen_after
 seen_after_first s k ks = refl
 
-pub previous_seen_by : (s : Seen) (k : ℕ) → previous_seen s k ≡ cond (is_note k) (cond (eqb s.notes 0) none (kind s.last)) none
+pub previous_seen_by : (s : Seen) (k : ℕ) → previous_seen s k ≡ cond (is_note k) (cond (eqb s.notes 0) None (Some s.last)) None
 unfolding previous_seen
 previous_seen_by s k = refl
 

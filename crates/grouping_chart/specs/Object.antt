@@ -1,7 +1,9 @@
 -- How objects are numbered (scope: object.rs): idx says how many objects stand before one, note_idx how many notes,
--- save that a NonHit's is always 0. The previous note of an object is found by its note_idx, so that a NonHit and the
--- first note have none. A list of kinds has a number for each object: 0 Center, 1 Rim, 2 NonHit.
-use Rattle.std.specs.Prelude.{ℕ, zero, suc, Bool, cond, List, [], ◌∷◌, ltb, length, take, get_or}
+-- save that a NonHit's is always 0. The notes before and after an object are found by its note_idx, so that a NonHit and
+-- the first note have none before, and a NonHit has note 1 after, wherever it stands. A list of kinds has a number for
+-- each object: 0 Center, 1 Rim, 2 NonHit.
+use Rattle.std.specs.Prelude.{ℕ, zero, suc, ◌+◌, Bool, cond, List, [], ◌∷◌, ltb, length, take, get_or}
+use Rattle.std.specs.Prelude.{Option, Some, None, option_map}
 use Rattle.grouping_chart.specs.declared.object.Kind.{Kind}
 use Rattle.grouping_chart.specs.declared.object.Kind.TheVariants.{Center, Rim, NonHit}
 
@@ -24,16 +26,22 @@ notes (k ∷ ks) = cond (is_note k) (k ∷ notes ks) (notes ks)
 unfoldable pub note_idx : List ℕ → ℕ → ℕ
 note_idx ks i = cond (is_note (get_or ks i 0)) (length (notes (take i ks))) 0
 
--- a note that may be missing
-pub data Previous : Type 0 where
-  none : Previous
-  kind : ℕ → Previous
+-- the number of the note before the one numbered j: note 0 has none
+unfoldable pub note_before : ℕ → Option ℕ
+note_before zero = None
+note_before (suc j) = Some j
 
--- the note before the one numbered j
-unfoldable pub note_before : List ℕ → ℕ → Previous
-note_before ns zero = none
-note_before ns (suc j) = kind (get_or ns j 0)
+-- the number of the note after the one numbered j, of n notes: the last has none
+unfoldable pub note_after : ℕ → ℕ → Option ℕ
+note_after n j = cond (ltb (j + 1) n) (Some (j + 1)) None
 
--- the previous note of object i: the source's previous_note(o, 0)
-unfoldable pub previous_note : List ℕ → ℕ → Previous
-previous_note ks i = note_before (notes ks) (note_idx ks i)
+-- the numbers of the previous and of the next note of object i: the source's previous_note(o, 0) and next_note(o, 0)
+unfoldable pub previous_note : List ℕ → ℕ → Option ℕ
+previous_note ks i = note_before (note_idx ks i)
+
+unfoldable pub next_note : List ℕ → ℕ → Option ℕ
+next_note ks i = note_after (length (notes ks)) (note_idx ks i)
+
+-- the kind of the previous note of object i
+abbrev pub previous_kind : List ℕ → ℕ → Option ℕ
+previous_kind ks i = option_map (λ j. get_or (notes ks) j 0) (previous_note ks i)

@@ -1,6 +1,7 @@
 -- The laws of this crate. Those that are public are for the crates above, or are results of their own; the others serve the proofs of this crate alone.
 pub mod LengthLaws
 pub mod StreakListLaws
+pub mod EndLaws
 pub mod StreakCutLaws
 pub mod PatternCutLaws
 mod StreakLaws

@@ -13,8 +13,8 @@ use Rattle.lent.specs.Scan.{scan, end_state, tabulate}
 use Rattle.lent.proofs.ScanLaws.{length-scan, scan-alike}
 use Rattle.lent.proofs.WalkLaws.{after_none, after_first, get_or-scan}
 use Rattle.lent.proofs.FillLaws.{length-tabulate, get_or-tabulate}
-use Rattle.grouping_chart.specs.Object.{is_note, Previous, none, kind}
-use Rattle.grouping_chart.proofs.ObjectLaws.{Seen, seen₀, seen_next, seen_after, previous_seen, previous_note_seen}
+use Rattle.grouping_chart.specs.Object.{is_note}
+use Rattle.grouping_chart.proofs.ObjectLaws.{Seen, seen₀, seen_next, seen_after, previous_seen, previous_kind_seen}
 use Rattle.grouping_chart.proofs.SeenLaws.{seen_after_none, seen_after_first, previous_seen_by}
 use Rattle.std.specs.Prelude.{Option, Some, None}
 use borrow.Author.Tests.{ne_eqb}
@@ -35,7 +35,7 @@ get_or_seen s ks i h = rw (get_or-scan seen_next opens_seen s ks i 0 0 h, after_
 
 opens_seen_lem : (kinds : List ℕ) (i : ℕ) → opens_streak kinds i ≡ opens_seen (seen_after seen₀ (take i kinds)) (get_or kinds i 0)
 unfolding opens_streak opens_seen
-opens_seen_lem kinds i = rw (previous_note_seen kinds i)
+opens_seen_lem kinds i = rw (previous_kind_seen kinds i)
 
 -- the marks are what a walk over the kinds emits
 pub streak_marks_scan : (kinds : List ℕ) → streak_marks kinds ≡ scan seen_next opens_seen seen₀ kinds
@@ -58,10 +58,10 @@ opens-kept : (s : Seen) (last : Option ℕ) (k : ℕ) → Kept s last → opens_
 unfolding opens_seen opens_after continues
 opens-kept s last k x =
     ap (λ l. opens_after l k) x.last_is ∙ by (eqb s.notes 0) (is_note k) x.note refl
-    ∙ ap (λ (p : Previous). cond (continues p k) 0 1) (sym (previous_seen_by s k))
+    ∙ ap (λ (p : Option ℕ). cond (continues p k) 0 1) (sym (previous_seen_by s k))
   where
     by : (none_yet note : Bool) → (none_yet ≡ false → is_note s.last ≡ true) → is_note k ≡ note
-        → opens_after (cond none_yet None (Some s.last)) k ≡ cond (continues (cond note (cond none_yet none (kind s.last)) none) k) 0 1
+        → opens_after (cond none_yet None (Some s.last)) k ≡ cond (continues (cond note (cond none_yet None (Some s.last)) None) k) 0 1
     by true true n e = refl
     by true false n e = refl
     by false true n e = refl

@@ -5,4 +5,6 @@ pub mod CutLaws
 pub mod NumberLaws
 pub mod SplitLaws
 pub mod AlikeLaws
+pub mod ItemLaws
 mod PassLaws
+mod StoreLaws

@@ -1,8 +1,8 @@
 -- Groups of neighbouring items, by marks: a number for each item, 1 where it opens a group and 0 where it continues it.
 -- Streaks, alternating patterns, hit patterns and rhythm groups are all given so.
 -- The first item opens a group whatever its mark.
-use Rattle.std.specs.Prelude.{ℕ, ◌+◌, ◌-◌, cond, List, [], ◌∷◌, eqb}
-use Rattle.lent.specs.Scan.{scan, end_state}
+use Rattle.std.specs.Prelude.{ℕ, ◌+◌, ◌-◌, cond, List, [], ◌∷◌, eqb, length}
+use Rattle.lent.specs.Scan.{scan, end_state, tabulate}
 
 -- how many groups were opened, an item with mark m included, where c were opened before it
 unfoldable pub opened : ℕ → ℕ → ℕ
@@ -51,3 +51,27 @@ unfolding firsts_from
 group_firsts [] xs = []
 group_firsts (m ∷ ms) [] = []
 group_firsts (m ∷ ms) (x ∷ xs) = x ∷ firsts_from ms xs
+
+-- what stands at the last item of the open group, which is x so far, and of each group behind it
+unfoldable pub lasts_from : ℕ → List ℕ → List ℕ → List ℕ
+lasts_from x [] ys = x ∷ []
+lasts_from x (m ∷ ms) [] = x ∷ []
+lasts_from x (m ∷ ms) (y ∷ ys) = cond (eqb m 0) (lasts_from y ms ys) (x ∷ lasts_from y ms ys)
+
+-- what stands at each group's last item
+unfoldable pub group_lasts : List ℕ → List ℕ → List ℕ
+unfolding lasts_from
+group_lasts [] xs = []
+group_lasts (m ∷ ms) [] = []
+group_lasts (m ∷ ms) (x ∷ xs) = lasts_from x ms xs
+
+-- the items by their numbers, which count from 0
+abbrev pub items : List ℕ → List ℕ
+items marks = tabulate (λ (i : ℕ). i) (length marks)
+
+-- each group's first item and its last
+unfoldable pub first_items : List ℕ → List ℕ
+first_items marks = group_firsts marks (items marks)
+
+unfoldable pub last_items : List ℕ → List ℕ
+last_items marks = group_lasts marks (items marks)

@@ -1,4 +1,5 @@
-// The encoder: from the kinds to the tables from which each object's six numbers are looked up.
+// The encoder: from the kinds to the tables from which each object's six numbers are looked up, and each streak's first
+// and last object.
 #![tactic(auto)]
 
 ghost use Rattle.std.specs.Prelude.{◌≡◌, ◌≤◌, [], ◌∷◌, length};
@@ -12,6 +13,7 @@ ghost use Rattle.grouping_preprocessor.specs.passes.Steps.{Regions, Encodes, AsL
 use grouping_colour::{alternating_mono_pattern, mono_streak};
 use grouping_hits::limit::SearchLimit;
 use grouping_marks::alike::Features;
+use grouping_marks::ends::{first_items, last_items};
 use grouping_marks::{group_firsts, group_numbers, group_places, group_sizes};
 use lent::fill;
 
@@ -164,7 +166,8 @@ fn find_hits(
     hits
 }
 
-// Finds all levels. Their tables are in the work slice, in eight regions of n places.
+// Finds all levels. Their tables are in the work slice, in eight regions of n places. Each streak's ends are found last,
+// by each object's streak: the marks of hit patterns and their sizes give place to them, and no region is free earlier.
 pub fn encode_levels(kind: &[u8], w: &mut [u16], limit: SearchLimit) -> Levels
     requires { Regions (length kind.now) w.old }
     ensures { Encodes limit.value kind.now w.old w.new result }
@@ -195,6 +198,8 @@ pub fn encode_levels(kind: &[u8], w: &mut [u16], limit: SearchLimit) -> Levels
         &mut found[..patterns],
         limit,
     );
+    last_items(streak, &mut hits_open[..streaks]);
+    first_items(&hits_open[..streaks], &mut counts[..streaks]);
     Levels {
         streaks,
         patterns,

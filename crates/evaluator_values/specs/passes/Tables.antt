@@ -1,9 +1,8 @@
 -- What the evaluator asks of the encoder's tables, and what it reads there.
-use Rattle.std.specs.Prelude.{◌≡◌, ℕ, ◌-◌, ◌<◌, List, length, get_or, Float}
+use Rattle.std.specs.Prelude.{◌≡◌, ℕ, ◌-◌, ◌<◌, List, eqb, length, get_or, Float}
 use Rattle.std.specs.Float.{nan, binary64}
 use Rattle.std.specs.Float.Ieee.{mul}
-use Rattle.grouping_preprocessor.specs.passes.Steps.{Regions}
-use Rattle.grouping_preprocessor.specs.passes.Steps as steps
+use Rattle.grouping_preprocessor.specs.passes.Steps.{Tabled}
 use Rattle.grouping_preprocessor.specs.passes.LookUps.{streaks, streak_places, patterns, pattern_places}
 use Rattle.grouping_preprocessor.specs.passes.LookUps.{hits, intervals, Linked}
 use Rattle.grouping_preprocessor.specs.declared.Levels.{Levels}
@@ -13,11 +12,6 @@ use Rattle.evaluator_colour.specs.Formulas.{object_sum}
 use Rattle.evaluator_colour.specs.RatioPenalty.{ratio_penalty}
 use Rattle.evaluator_values.specs.Colour.{is_first}
 use Rattle.evaluator_values.specs.declared.Numbers.{Numbers}
-
--- the encoder's tables lie in w
-pub record Tabled (kinds w : List ℕ) (k : Levels) : Type 0 where
-  pub regions : Regions (length kinds) w
-  pub tables : steps.Tables k.limit kinds w w k
 
 -- an object of the tables
 pub record ObjectIn (t : Tables) (i : ℕ) : Type 0 where
@@ -36,7 +30,7 @@ looked_up t i = record {
   interval = get_or (intervals t) i 0;
   pattern_place = get_or (pattern_places t) i 0;
   streak_place = get_or (streak_places t) i 0;
-  streak = is_first (streaks t) i;
+  streak = eqb (get_or t.first.now (get_or (streaks t) i 0) 0) i;
   pattern = is_first (patterns t) i;
   hit = is_first (hits t) i;
 }

@@ -5,7 +5,7 @@ use Rattle.lent.specs.Over.{part, written}
 use Rattle.grouping_marks.specs.Marks.{group_count, group_numbers, group_places}
 use Rattle.grouping_chart.specs.Chart.{largest}
 use Rattle.grouping_hits.specs.RepeatingHitPatterns.{hit_marks, second_lengths}
-use Rattle.grouping_colour.specs.MonoStreak.{streak_marks, streak_of}
+use Rattle.grouping_colour.specs.MonoStreak.{streak_marks, streak_of, streak_firsts, streak_lasts}
 use Rattle.grouping_colour.specs.AlternatingMonoPattern.{coupled}
 use Rattle.grouping_preprocessor.specs.Preprocessor.{patterns_open, hits_open, hit_count, hit_intervals}
 use Rattle.grouping_preprocessor.specs.passes.Writes.{encoder_writes, intervals_by}
@@ -34,7 +34,7 @@ hits_by lengths counts types = hit_marks (coupled lengths counts types)
 abbrev pub intervals_found : ℕ → List ℕ → List ℕ → List ℕ
 intervals_found limit lengths marks = intervals_by limit lengths (second_lengths lengths marks) marks
 
--- the tables from which each object's six numbers are looked up
+-- the tables from which each object's six numbers are looked up, and each streak's first and last object
 pub record Tables (limit : ℕ) (kinds w₀ w : List ℕ) (k : Levels) : Type 0 where
   pub count_s : k.streaks ≡ group_count (streak_marks kinds)
   pub count_p : k.patterns ≡ group_count (patterns_open kinds)
@@ -49,9 +49,16 @@ pub record Tables (limit : ℕ) (kinds w₀ w : List ℕ) (k : Levels) : Type 0 
   pub hit : part (length kinds) k.patterns w ≡ group_numbers (hits_open kinds)
   pub pattern-place : part (2 * length kinds) k.patterns w ≡ group_places (hits_open kinds)
   pub interval : part (7 * length kinds) k.hits w ≡ hit_intervals limit kinds
+  pub first : part (5 * length kinds) k.streaks w ≡ streak_firsts kinds
+  pub last : part (6 * length kinds) k.streaks w ≡ streak_lasts kinds
   pub outside : Outside (length kinds) w₀ w
 
 -- what the encoder leaves
 pub record Encodes (limit : ℕ) (kinds w₀ w : List ℕ) (k : Levels) : Type 0 where
   pub memory : w ≡ written (encoder_writes limit kinds) w₀
   pub tables : Tables limit kinds w₀ w k
+
+-- the encoder's tables lie in w
+pub record Tabled (kinds w : List ℕ) (k : Levels) : Type 0 where
+  pub regions : Regions (length kinds) w
+  pub tables : Tables k.limit kinds w w k

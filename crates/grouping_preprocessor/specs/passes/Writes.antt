@@ -3,11 +3,13 @@
 -- what it held. Later passes read
 --   region 0 object: streak      region 3 streak: pattern      region 4 streak: place in its pattern
 --   region 1 pattern: hit pattern      region 2 pattern: place in its hit pattern      region 7 hit pattern: interval
+--   region 5 streak: first object      region 6 streak: last object
 use Rattle.std.specs.Prelude.{ℕ, ◌*◌, List, [], ◌∷◌, ◌++◌, length}
 use Rattle.lent.specs.Over.{Write, write}
 use Rattle.grouping_marks.specs.Marks.{group_numbers, group_places, group_sizes, group_firsts}
 use Rattle.grouping_hits.specs.RepeatingHitPatterns.{hit_marks, second_lengths, intervals}
-use Rattle.grouping_colour.specs.MonoStreak.{streak_marks, streak_of, streak_lengths, streak_types}
+use Rattle.grouping_colour.specs.MonoStreak.{streak_marks, streak_of, streak_lengths, streak_types, streak_firsts}
+use Rattle.grouping_colour.specs.MonoStreak.{streak_lasts}
 use Rattle.grouping_colour.specs.AlternatingMonoPattern.{pattern_marks}
 use Rattle.grouping_preprocessor.specs.Preprocessor.{first_lengths, coupled_patterns}
 
@@ -63,10 +65,17 @@ coupled_writes limit n lengths flags =
     let marks = hit_marks flags in
     hit_mark_writes n lengths flags ++ hit_writes limit n lengths (second_lengths lengths marks) marks
 
+-- each streak's last object and its first
+unfoldable pub end_writes : List ℕ → List (Write ℕ)
+end_writes kinds =
+    let n = length kinds in
+    write (6 * n) (streak_lasts kinds) ∷ write (5 * n) (streak_firsts kinds) ∷ []
+
 -- all of it, in order
 unfoldable pub encoder_writes : ℕ → List ℕ → List (Write ℕ)
 encoder_writes limit kinds =
     let n = length kinds in
     streak_writes kinds
     ++ (pattern_writes n (streak_lengths kinds) (streak_types kinds)
-    ++ coupled_writes limit n (first_lengths kinds) (coupled_patterns kinds))
+    ++ (coupled_writes limit n (first_lengths kinds) (coupled_patterns kinds)
+    ++ end_writes kinds))
