@@ -8,12 +8,14 @@ use native.Mathlib.Omega.{arith}
 use lib.ListN.{length, drop, get_or, set, length-append, length-set, drop_of_length-le}
 use lib.Seq.{drop-cons, set_at}
 use Rattle.lent.specs.Over.{over}
+use Rattle.lent.proofs.PieceLaws.{over_whole}
 use Rattle.lent.proofs.WalkLaws.{scan_none}
 use Rattle.lent.specs.passes.Bounds.{AllBelow}
 use Rattle.grouping_marks.specs.Marks.{opened, number_by_mark, group_count, group_numbers, last_items}
-use Rattle.grouping_marks.proofs.MarksLaws.{length-numbers}
+use Rattle.grouping_marks.specs.passes.Numbered.{NumberedBy}
+use Rattle.grouping_marks.proofs.MarksLaws.{length-numbers, numbers-below}
 use Rattle.grouping_marks.proofs.NumberLaws.{number_last}
-use Rattle.grouping_marks.proofs.ItemLaws.{numbers_left, numbers_same, numbers_new, numbers_start, lasts_left, lasts_none, lasts_same, lasts_new, last_items_none, last_items_start, length-last_items}
+use Rattle.grouping_marks.proofs.ItemLaws.{numbers_left, numbers_same, numbers_new, numbers_start, lasts_left, lasts_none, lasts_same, lasts_new, last_items_none, last_items_start, length-last_items, last-below}
 
 -- ---- a list that is written over the front, and one place more
 
@@ -112,3 +114,17 @@ storing_end {numbers} {w₀} {w} {i} x h b marks e =
     fits (m ∷ ms) b =
         let last : get_or (group_numbers (m ∷ ms)) (length ms) 0 + 1 ≡ group_count (m ∷ ms) = number_last (m ∷ ms) (length ms) refl in
         omega (arith, last, length-last_items (m ∷ ms), b (length ms) (omega (arith, length-numbers (m ∷ ms))))
+
+-- ---- where there is a place for each group, and no more
+
+module _ {marks numbers : List ℕ} {k : ℕ} (b : NumberedBy marks numbers k) where
+  pub numbers_inside : AllBelow numbers k
+  numbers_inside i h = rw (b.are, ← b.many) (numbers-below marks i (omega (arith, ap length b.are, length-numbers marks)))
+
+  pub lasts_whole : (lasts₀ : List ℕ) {lasts : List ℕ} → length lasts₀ ≡ k → lasts ≡ over (last_items marks) lasts₀ → lasts ≡ last_items marks
+  lasts_whole lasts₀ l e = e ∙ over_whole (last_items marks) lasts₀ (length-last_items marks ∙ b.many ∙ sym l)
+
+  pub lasts_small : {lasts : List ℕ} → length numbers ≤ 65535 → lasts ≡ last_items marks → AllBelow lasts 65535
+  lasts_small f e j h =
+      let inside : j < group_count marks = omega (arith, ap length e, length-last_items marks) in
+      rw e (omega (arith, last-below marks j inside, ap length b.are, length-numbers marks))

@@ -2,3 +2,4 @@
 pub mod Marks
 pub mod Parted
 pub mod Alike
+pub mod passes

@@ -3,11 +3,12 @@ ghost use Rattle.std.specs.Prelude.{◌≡◌, ℕ, ◌+◌, ◌-◌, ◌≤◌,
 ghost use Rattle.lent.specs.Over.{over};
 ghost use Rattle.lent.specs.passes.Bounds.{AllBelow};
 ghost use Rattle.grouping_marks.specs.Marks.{group_numbers, first_items, last_items};
+ghost use Rattle.grouping_marks.specs.passes.Numbered.{NumberedBy, Numbered};
 
 use lent::fill;
 
 // Each group's last item, over the front of `lasts`. Every item is stored at its group's place, and the last one stays.
-pub fn last_items(numbers: &[u16], lasts: &mut [u16])
+fn last_items(numbers: &[u16], lasts: &mut [u16])
     requires few { length numbers.now ≤ 65536 }
     requires inside { AllBelow numbers.now (length lasts.old) }
     ensures { (marks : List ℕ) → numbers.now ≡ group_numbers marks → lasts.new ≡ over (last_items marks) lasts.old }
@@ -30,10 +31,24 @@ fn first_item(lasts: &[u16], group: usize) -> u16
 }
 
 // Each group's first item, over the front of `firsts`, by the groups' last items.
-pub fn first_items(lasts: &[u16], firsts: &mut [u16])
+fn first_items(lasts: &[u16], firsts: &mut [u16])
     requires items { AllBelow lasts.now 65535 }
     requires room { length lasts.now ≤ length firsts.old }
     ensures { (marks : List ℕ) → lasts.now ≡ last_items marks → firsts.new ≡ over (first_items marks) firsts.old }
 {
     fill::by_place(lasts.len(), firsts, |group| first_item(lasts, group));
+}
+
+// Both, where `lasts` has a place for each group and no more.
+pub fn group_ends(numbers: &[u16], lasts: &mut [u16], firsts: &mut [u16])
+    requires few { length numbers.now ≤ 65535 }
+    requires numbered { Numbered numbers.now (length lasts.old) }
+    requires room { length lasts.old ≤ length firsts.old }
+    ensures lasts { (marks : List ℕ) → NumberedBy marks numbers.now (length lasts.old)
+        → lasts.new ≡ last_items marks }
+    ensures firsts { (marks : List ℕ) → NumberedBy marks numbers.now (length lasts.old)
+        → firsts.new ≡ over (first_items marks) firsts.old }
+{
+    last_items(numbers, lasts);
+    first_items(lasts, firsts);
 }

@@ -3,22 +3,32 @@ use mathlib.Core.Path.{◌≡◌, sym, ap, ◌∙◌}
 use mathlib.Core.List.{List, ◌++◌}
 use Prim.Native.Nat.{ℕ, ◌≤◌}
 use native.Mathlib.Omega.{arith}
-use lib.ListN.{length, take, drop}
+use lib.ListN.{length, take, drop, length-append, length-take, length-drop}
+use lib.Seq.{length-take-le}
 use Rattle.lent.specs.Over.{over}
 use Rattle.lent.proofs.OverLaws.{front, length-over}
 use Rattle.lent.proofs.PieceLaws.{over_pieces, over-back}
 use Rattle.grouping_marks.specs.Marks.{group_count, group_numbers, group_places, group_sizes, group_firsts}
 use Rattle.grouping_marks.proofs.MarksLaws.{count_le, length-numbers, length-places}
-use Rattle.grouping_colour.specs.MonoStreak.{streak_marks, streak_of, streak_lengths, streak_types}
+use Rattle.grouping_colour.specs.MonoStreak.{streak_marks, streak_of, streak_lengths, streak_types, streak_firsts, streak_lasts}
 use Rattle.grouping_colour.specs.AlternatingMonoPattern.{pattern_marks}
 use Rattle.grouping_colour.proofs.LengthLaws.{length-streak_marks}
 use Rattle.grouping_colour.proofs.StreakListLaws.{length-streak_lengths}
+use Rattle.grouping_colour.proofs.EndLaws.{length-streak_firsts, length-streak_lasts}
 use Rattle.grouping_preprocessor.specs.Preprocessor.{patterns_open, first_lengths, streak_counts, pattern_types, coupled_patterns, hits_open}
 use Rattle.grouping_preprocessor.specs.Preprocessor.{hit_count, hit_sizes, hit_firsts, hit_seconds, hit_intervals}
 use Rattle.grouping_preprocessor.specs.passes.Steps.{Encodes, hits_by, intervals_found}
 use Rattle.grouping_preprocessor.proofs.BoundLaws.{length-patterns_open, length-hits_open, length-hit_intervals}
 use Rattle.grouping_preprocessor.proofs.RegionLaws.{length-types, length-first_lengths, length-streak_counts, length-pattern_types}
 use Rattle.grouping_preprocessor.proofs.RegionLaws.{length-hit_sizes, before, Laid, all_levels}
+
+-- a region's first s places, where its first p were lent and put back
+pub length-lent : (s p : ℕ) (old lent : List ℕ) → s ≤ length old → p ≤ length old → length lent ≡ length (take p old) → length (take s (lent ++ drop p old)) ≡ s
+length-lent s p old lent h k e =
+    length-take-le s (lent ++ drop p old) (omega (arith, length-append lent (drop p old), length-take-le p old k, length-drop p old))
+
+pub back-long : (p : ℕ) (old lent : List ℕ) → length lent ≡ length (take p old) → length (lent ++ drop p old) ≡ length old
+back-long p old lent e = omega (arith, length-append lent (drop p old), length-take p old, length-drop p old)
 
 -- ---- what the passes promise, over the regions as they were lent and as they left them
 
@@ -49,7 +59,12 @@ pub record Hits (limit : ℕ) (lengths₀ lengths counts₀ counts types₀ type
   pub marks_are : marks ≡ hits_by lengths₀ counts₀ types₀
   pub found_is : found ≡ over (intervals_found limit lengths₀ (hits_by lengths₀ counts₀ types₀)) found₀
 
--- ---- the regions after all passes, where the patterns' passes were lent the first s places of each region, and the hit patterns' the first p
+pub record Ends (kinds lasts₀ lasts firsts₀ firsts : List ℕ) : Type 0 where
+  pub lasts_are : lasts ≡ over (streak_lasts kinds) lasts₀
+  pub firsts_are : firsts ≡ over (streak_firsts kinds) firsts₀
+
+-- ---- the regions after all passes, where the patterns' passes were lent the first s places of each region, the hit patterns' the first p, and those of the
+-- streaks' ends the first s again
 
 module _ (kinds : List ℕ) (s p : ℕ) {marks streak types₀ types lengths₀ lengths : List ℕ} (S : Streaks kinds marks streak types₀ types lengths₀ lengths s)
     (rl : length lengths₀ ≡ length kinds) (rt : length types₀ ≡ length kinds) where
@@ -181,23 +196,51 @@ module _ (kinds : List ℕ) (s p : ℕ) {marks streak types₀ types lengths₀ 
           over-back p (hit_intervals limit kinds) (marks₁ ++ drop s marks) found (omega (arith, length-hit_intervals kinds limit, h-is, h_few)) p_marks
           (H.found_is ∙ (λ i. over (intervals_found limit (firsts-lent i) (hitting i)) (take p (marks₁ ++ drop s marks))))
 
-      -- all eight regions, put together again
-      pub encoded : (streak₀ numbers₀ places₀ hits₀ marks₀ rest w₀ : List ℕ)
-          → Laid limit kinds streak₀ lengths₀ types₀ numbers₀ places₀ counts₀ hits₀ marks₀ rest (length kinds) w₀
-          (before limit kinds streak₀ lengths₀ types₀ numbers₀ places₀ counts₀ hits₀ marks₀ rest)
-          → Encodes limit kinds w₀
-          (streak
-          ++ ((lengths₃ ++ drop p (lengths₁ ++ drop s lengths))
-          ++ ((types₃ ++ drop p (types₁ ++ drop s types))
-          ++ ((numbers ++ drop s numbers₀)
-          ++ ((places ++ drop s places₀)
-          ++ ((counts₃ ++ drop p (counts ++ drop s counts₀)) ++ ((hits ++ drop p hits₀) ++ ((found ++ drop p (marks₁ ++ drop s marks)) ++ rest))))))))
-          (record { streaks = s; patterns = p; hits = h; limit = limit })
-      encoded streak₀ numbers₀ places₀ hits₀ marks₀ rest w₀ k =
-          let l = lengths₄ ∙ ap (over (group_numbers (hits_open kinds))) (lengths₂ ∙ ap (over (first_lengths kinds)) S.lengths_are) in
-          let t = types₄ ∙ ap (over (group_places (hits_open kinds))) (types₂ ∙ ap (over (pattern_types kinds)) S.types_are) in
-          let c = counts₄ ∙ ap (over (hit_sizes kinds)) counts₂ in
-          let m = found₄ ∙ ap (over (hit_intervals limit kinds)) (marks₂ ∙ ap (over (patterns_open kinds)) S.marks_are) in
-          all_levels limit kinds streak₀ lengths₀ types₀ numbers₀ places₀ counts₀ hits₀ marks₀ rest k
-          (λ i. S.streak_is i ++ (l i ++ (t i ++ (numbers₂ numbers₀ i ++ (places₂ places₀ i ++ (c i ++ (hits₄ hits₀ i ++ (m i ++ rest))))))))
-          s p h S.count p-is h-is
+      -- the marks' and the sizes' regions are as long as they were
+      hits-long : (old : List ℕ) → length old ≡ length kinds → length (hits ++ drop p old) ≡ length kinds
+      hits-long old l =
+          let fits : length (hits_open kinds) ≤ length old = omega (arith, p_hitting, p_few, S.few) in
+          ap length (hits₄ old) ∙ length-over (hits_open kinds) old fits ∙ l
+
+      counts-long : length (counts₃ ++ drop p (counts ++ drop s counts₀)) ≡ length kinds
+      counts-long =
+          let fits : length (streak_counts kinds) ≤ length counts₀ = omega (arith, length-streak_counts kinds, p-is, p_few, S.few) in
+          let before = ap length counts₂ ∙ length-over (streak_counts kinds) counts₀ fits ∙ rc in
+          let fits₂ : length (hit_sizes kinds) ≤ length (counts ++ drop s counts₀) = omega (arith, length-hit_sizes kinds, h-is, h_few, p_counts) in
+          ap length counts₄ ∙ length-over (hit_sizes kinds) (counts ++ drop s counts₀) fits₂ ∙ before
+
+      module _ (hits₀ : List ℕ) {lasts firsts : List ℕ}
+          (E : Ends kinds (take s (hits ++ drop p hits₀)) lasts (take s (counts₃ ++ drop p (counts ++ drop s counts₀))) firsts) where
+        lasts₅ : length hits₀ ≡ length kinds → lasts ++ drop s (hits ++ drop p hits₀) ≡ over (streak_lasts kinds) (hits ++ drop p hits₀)
+        lasts₅ l =
+            over-back s (streak_lasts kinds) (hits ++ drop p hits₀) lasts (omega (arith, length-streak_lasts kinds, S.count))
+            (omega (arith, hits-long hits₀ l, S.few)) E.lasts_are
+
+        firsts₅ : firsts ++ drop s (counts₃ ++ drop p (counts ++ drop s counts₀))
+            ≡ over (streak_firsts kinds) (counts₃ ++ drop p (counts ++ drop s counts₀))
+        firsts₅ =
+            over-back s (streak_firsts kinds) (counts₃ ++ drop p (counts ++ drop s counts₀)) firsts (omega (arith, length-streak_firsts kinds, S.count))
+            (omega (arith, counts-long, S.few)) E.firsts_are
+
+        -- all eight regions, put together again
+        pub encoded : (streak₀ numbers₀ places₀ marks₀ rest w₀ : List ℕ)
+            → Laid limit kinds streak₀ lengths₀ types₀ numbers₀ places₀ counts₀ hits₀ marks₀ rest (length kinds) w₀
+            (before limit kinds streak₀ lengths₀ types₀ numbers₀ places₀ counts₀ hits₀ marks₀ rest)
+            → Encodes limit kinds w₀
+            (streak
+            ++ ((lengths₃ ++ drop p (lengths₁ ++ drop s lengths))
+            ++ ((types₃ ++ drop p (types₁ ++ drop s types))
+            ++ ((numbers ++ drop s numbers₀)
+            ++ ((places ++ drop s places₀)
+            ++ ((firsts ++ drop s (counts₃ ++ drop p (counts ++ drop s counts₀)))
+            ++ ((lasts ++ drop s (hits ++ drop p hits₀)) ++ ((found ++ drop p (marks₁ ++ drop s marks)) ++ rest))))))))
+            (record { streaks = s; patterns = p; hits = h; limit = limit })
+        encoded streak₀ numbers₀ places₀ marks₀ rest w₀ k =
+            let l = lengths₄ ∙ ap (over (group_numbers (hits_open kinds))) (lengths₂ ∙ ap (over (first_lengths kinds)) S.lengths_are) in
+            let t = types₄ ∙ ap (over (group_places (hits_open kinds))) (types₂ ∙ ap (over (pattern_types kinds)) S.types_are) in
+            let c = firsts₅ ∙ ap (over (streak_firsts kinds)) (counts₄ ∙ ap (over (hit_sizes kinds)) counts₂) in
+            let o = lasts₅ k.each.1.1.1.1.1.1.0 ∙ ap (over (streak_lasts kinds)) (hits₄ hits₀) in
+            let m = found₄ ∙ ap (over (hit_intervals limit kinds)) (marks₂ ∙ ap (over (patterns_open kinds)) S.marks_are) in
+            all_levels limit kinds streak₀ lengths₀ types₀ numbers₀ places₀ counts₀ hits₀ marks₀ rest k
+            (λ i. S.streak_is i ++ (l i ++ (t i ++ (numbers₂ numbers₀ i ++ (places₂ places₀ i ++ (c i ++ (o i ++ (m i ++ rest))))))))
+            s p h S.count p-is h-is

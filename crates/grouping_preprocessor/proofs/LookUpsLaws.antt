@@ -1,18 +1,21 @@
 -- What the tables say of each object is the definitions' list, and no look-up leaves its table.
 use mathlib.Core.Path.{◌≡◌, ap, ◌∙◌}
 use mathlib.Core.List.{List}
-use Prim.Native.Nat.{ℕ, ◌<◌}
+use Prim.Native.Nat.{ℕ, ◌*◌, ◌<◌}
 use native.Mathlib.Omega.{arith}
-use lib.ListN.{length, get_or}
+use lib.ListN.{length, take, get_or}
 use Rattle.lent.specs.Scan.{gathered}
 use Rattle.lent.specs.passes.Bounds.{AllBelow}
+use Rattle.lent.proofs.PieceLaws.{part-take}
 use Rattle.grouping_marks.proofs.MarksLaws.{length-numbers, length-places}
 use Rattle.grouping_colour.proofs.StreakListLaws.{length-streak_of, streak-below}
+use Rattle.grouping_colour.proofs.EndLaws.{length-streak_firsts}
 use Rattle.grouping_preprocessor.specs.Preprocessor.{patterns_open, hits_open, streak_place_of, alternating_of, pattern_place_of, hit_of, interval_of}
 use Rattle.grouping_preprocessor.specs.passes.Steps as steps
-use Rattle.grouping_preprocessor.specs.passes.LookUps.{Cut, streak_places, patterns, pattern_places, hits, intervals, Linked, TablesOf}
+use Rattle.grouping_preprocessor.specs.passes.LookUps.{Cut, streak_places, patterns, pattern_places, hits, intervals, Linked, TablesOf, StreaksCut, StreaksOf}
 use Rattle.grouping_preprocessor.specs.declared.Levels.{Levels}
 use Rattle.grouping_preprocessor.specs.declared.tables.Tables.{Tables}
+use Rattle.grouping_preprocessor.specs.declared.tables.Streaks.{Streaks}
 use Rattle.grouping_preprocessor.proofs.BoundLaws.{length-patterns_open, length-hits_open, length-hit_intervals, length-alternating_of, length-hit_of}
 use Rattle.grouping_preprocessor.proofs.BoundLaws.{alternating_of-below, hit_of-below}
 use Rattle.grouping_preprocessor.proofs.BoundLaws.{streak_place_of_looked, alternating_of_looked, pattern_place_of_looked, hit_of_looked, interval_of_looked}
@@ -28,7 +31,19 @@ tables_of e c = record {
   hit = c.hit ∙ e.hit;
   pattern_place = c.pattern_place ∙ e.pattern-place;
   interval = c.interval ∙ e.interval;
+  first = c.first ∙ e.first;
 }
+
+-- and of these the streaks' alone, which are cut from what lies before the last region
+pub streaks_of : {limit : ℕ} {kinds w₀ w : List ℕ} {k : Levels} {t : Streaks} → steps.Tables limit kinds w₀ w k
+    → StreaksCut (length kinds) k (take (7 * length kinds) w) t → StreaksOf kinds t
+streaks_of {kinds} {w = w} {k = k} e c =
+    let n = length kinds in
+    record {
+      streak = c.streak ∙ part-take 0 n (7 * n) w (omega arith) ∙ e.streak;
+      first = c.first ∙ part-take (5 * n) k.streaks (7 * n) w (omega (arith, e.few_s)) ∙ e.first;
+      last = c.last ∙ part-take (6 * n) k.streaks (7 * n) w (omega (arith, e.few_s)) ∙ e.last;
+    }
 
 -- ---- object by object
 
@@ -60,6 +75,7 @@ module _ {limit : ℕ} {kinds : List ℕ} {t : Tables} (e : TablesOf limit kinds
       let streaks' = ap length e.pattern ∙ length-numbers (patterns_open kinds) ∙ length-patterns_open kinds in
       let alternating = ap length e.pattern_place ∙ length-places (hits_open kinds) ∙ length-hits_open kinds in
       let alternating' = ap length e.hit ∙ length-numbers (hits_open kinds) ∙ length-hits_open kinds in
+      let firsts = ap length e.first ∙ length-streak_firsts kinds in
       let found = ap length e.interval ∙ length-hit_intervals kinds limit in
       record {
         streak_place = inside _ e.streak (length-streak_of kinds) streaks (streak-below kinds);
@@ -67,4 +83,5 @@ module _ {limit : ℕ} {kinds : List ℕ} {t : Tables} (e : TablesOf limit kinds
         pattern_place = inside _ patterns_are (length-alternating_of kinds) alternating (alternating_of-below kinds);
         hit = inside _ patterns_are (length-alternating_of kinds) alternating' (alternating_of-below kinds);
         interval = inside _ hits_are (length-hit_of kinds) found (hit_of-below kinds);
+        first = inside _ e.streak (length-streak_of kinds) firsts (streak-below kinds);
       }

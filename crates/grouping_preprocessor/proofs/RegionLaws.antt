@@ -17,12 +17,13 @@ use Rattle.grouping_marks.specs.Marks.{group_count, group_numbers, group_places}
 use Rattle.grouping_marks.proofs.MarksLaws.{count_le, length-numbers, length-places, length-sizes, length-firsts}
 use Rattle.grouping_hits.specs.RepeatingHitPatterns.{second_lengths}
 use Rattle.grouping_hits.proofs.LengthLaws.{length-second_lengths}
-use Rattle.grouping_colour.specs.MonoStreak.{streak_marks, streak_of, streak_lengths, streak_types}
+use Rattle.grouping_colour.specs.MonoStreak.{streak_marks, streak_of, streak_lengths, streak_types, streak_firsts, streak_lasts}
 use Rattle.grouping_colour.proofs.LengthLaws.{length-streak_marks, length-coupled}
 use Rattle.grouping_colour.proofs.StreakListLaws.{streak_types_made, length-streak_of, length-streak_lengths}
+use Rattle.grouping_colour.proofs.EndLaws.{length-streak_firsts, length-streak_lasts}
 use Rattle.grouping_preprocessor.specs.Preprocessor.{patterns_open, first_lengths, streak_counts, pattern_types, coupled_patterns, hits_open, hit_count}
 use Rattle.grouping_preprocessor.specs.Preprocessor.{hit_sizes, hit_firsts, hit_seconds, hit_intervals}
-use Rattle.grouping_preprocessor.specs.passes.Writes.{streak_writes, pattern_writes, hit_mark_writes, hit_writes, coupled_writes, encoder_writes}
+use Rattle.grouping_preprocessor.specs.passes.Writes.{streak_writes, pattern_writes, hit_mark_writes, hit_writes, coupled_writes, end_writes, encoder_writes}
 use Rattle.grouping_preprocessor.specs.passes.Steps.{Outside, Encodes}
 use Rattle.grouping_preprocessor.proofs.BoundLaws.{length-patterns_open, length-hits_open, length-hit_intervals}
 
@@ -89,8 +90,8 @@ module _ (limit : ℕ) (kinds streak₀ lengths₀ types₀ numbers₀ places₀
       ∷ over (group_places (hits_open kinds)) (over (pattern_types kinds) (over (streak_types kinds) types₀))
       ∷ over (group_numbers (patterns_open kinds)) numbers₀
       ∷ over (group_places (patterns_open kinds)) places₀
-      ∷ over (hit_sizes kinds) (over (streak_counts kinds) counts₀)
-      ∷ over (hits_open kinds) hits₀
+      ∷ over (streak_firsts kinds) (over (hit_sizes kinds) (over (streak_counts kinds) counts₀))
+      ∷ over (streak_lasts kinds) (over (hits_open kinds) hits₀)
       ∷ over (hit_intervals limit kinds) (over (patterns_open kinds) (streak_marks kinds))
       ∷ []
 
@@ -117,8 +118,8 @@ module _ (limit : ℕ) (kinds streak₀ lengths₀ types₀ numbers₀ places₀
       ∷ over (group_places (hits_open kinds)) (over (hit_seconds kinds) (over (seconds kinds) (over (pattern_types kinds) (over (streak_types kinds) types₀))))
       ∷ over (group_numbers (patterns_open kinds)) numbers₀
       ∷ over (group_places (patterns_open kinds)) places₀
-      ∷ over (hit_sizes kinds) (over (streak_counts kinds) counts₀)
-      ∷ over (hits_open kinds) (over (coupled_patterns kinds) hits₀)
+      ∷ over (streak_firsts kinds) (over (hit_sizes kinds) (over (streak_counts kinds) counts₀))
+      ∷ over (streak_lasts kinds) (over (hits_open kinds) (over (coupled_patterns kinds) hits₀))
       ∷ over (hit_intervals limit kinds) (over (patterns_open kinds) (over (streak_marks kinds) marks₀))
       ∷ []
 
@@ -155,7 +156,7 @@ module _ (limit : ℕ) (kinds streak₀ lengths₀ types₀ numbers₀ places₀
 
     -- every list is written over its region, in order
     laid : Laid (length kinds) (written (encoder_writes limit kinds) w₀) stored
-    unfolding encoder_writes streak_writes pattern_writes hit_mark_writes hit_writes coupled_writes seconds patterns_open first_lengths
+    unfolding encoder_writes streak_writes pattern_writes hit_mark_writes hit_writes coupled_writes end_writes seconds patterns_open first_lengths
         streak_counts pattern_types hits_open hit_sizes hit_firsts hit_seconds hit_intervals hit_count
     laid =
         let n : ℕ = length kinds in
@@ -177,7 +178,9 @@ module _ (limit : ℕ) (kinds streak₀ lengths₀ types₀ numbers₀ places₀
         let s-16 = step s-15 2 (2 * n) (hit_seconds kinds) refl refl (length-hit_seconds kinds) le_hits in
         let s-17 = step s-16 7 (7 * n) (hit_intervals limit kinds) refl refl (length-hit_intervals kinds limit) le_hits in
         let s-18 = step s-17 1 n (group_numbers (hits_open kinds)) (place-1 n) refl numbers_long le_patterns in
-        step s-18 2 (2 * n) (group_places (hits_open kinds)) refl refl places_long le_patterns
+        let s-19 = step s-18 2 (2 * n) (group_places (hits_open kinds)) refl refl places_long le_patterns in
+        let s-20 = step s-19 6 (6 * n) (streak_lasts kinds) refl refl (length-streak_lasts kinds) streaks_few in
+        step s-20 5 (5 * n) (streak_firsts kinds) refl refl (length-streak_firsts kinds) streaks_few
 
     streak_left : over (streak_of kinds) streak₀ ≡ streak_of kinds
     streak_left = over_whole (streak_of kinds) streak₀ (length-streak_of kinds ∙ sym k.each.0)
@@ -206,8 +209,8 @@ module _ (limit : ℕ) (kinds streak₀ lengths₀ types₀ numbers₀ places₀
         ∷ seconds_left (over (pattern_types kinds) (over (streak_types kinds) types₀)) i
         ∷ over (group_numbers (patterns_open kinds)) numbers₀
         ∷ over (group_places (patterns_open kinds)) places₀
-        ∷ over (hit_sizes kinds) (over (streak_counts kinds) counts₀)
-        ∷ flags_left i
+        ∷ over (streak_firsts kinds) (over (hit_sizes kinds) (over (streak_counts kinds) counts₀))
+        ∷ over (streak_lasts kinds) (flags_left i)
         ∷ over (hit_intervals limit kinds) (over (patterns_open kinds) (marks_left i))
         ∷ []
 
@@ -255,6 +258,8 @@ module _ (limit : ℕ) (kinds streak₀ lengths₀ types₀ numbers₀ places₀
               hit = read 1 n _ (place-1 n) refl refl (numbers_long ∙ sym cp) few_p;
               pattern-place = read 2 (2 * n) _ refl refl refl (places_long ∙ sym cp) few_p;
               interval = read 7 (7 * n) _ refl refl refl (length-hit_intervals kinds limit ∙ sym ch) few_h;
+              first = read 5 (5 * n) _ refl refl refl (length-streak_firsts kinds ∙ sym cs) few_s;
+              last = read 6 (6 * n) _ refl refl refl (length-streak_lasts kinds ∙ sym cs) few_s;
               outside = outside;
             };
           }

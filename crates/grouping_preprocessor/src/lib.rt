@@ -13,7 +13,7 @@ ghost use Rattle.grouping_preprocessor.specs.passes.Steps.{Regions, Encodes, AsL
 use grouping_colour::{alternating_mono_pattern, mono_streak};
 use grouping_hits::limit::SearchLimit;
 use grouping_marks::alike::Features;
-use grouping_marks::ends::{first_items, last_items};
+use grouping_marks::ends::group_ends;
 use grouping_marks::{group_firsts, group_numbers, group_places, group_sizes};
 use lent::fill;
 
@@ -198,8 +198,7 @@ pub fn encode_levels(kind: &[u8], w: &mut [u16], limit: SearchLimit) -> Levels
         &mut found[..patterns],
         limit,
     );
-    last_items(streak, &mut hits_open[..streaks]);
-    first_items(&hits_open[..streaks], &mut counts[..streaks]);
+    group_ends(streak, &mut hits_open[..streaks], &mut counts[..streaks]);
     Levels {
         streaks,
         patterns,

@@ -1,10 +1,11 @@
 -- `over`, `put` and `part` by the pieces of a list, as code takes a slice apart and puts it together again.
-use mathlib.Core.Path.{◌≡◌, refl, ◌∙◌}
+use mathlib.Core.Path.{◌≡◌, refl, ap, ◌∙◌}
 use mathlib.Core.List.{List, [], ◌++◌, append-nil, append_assoc}
 use Prim.Native.Nat.{ℕ, ◌+◌, ◌-◌, ◌≤◌, ◌<◌}
 use native.Mathlib.Omega.{arith}
 use lib.ListN.{length, take, drop, get_or, length-append, length-take, drop_of_length-le, take-append-drop, get_or-append}
-use lib.Seq.{drop-drop, take_at, drop_at, drop-append-le}
+use lib.Seq.{drop-drop, take-take, take_at, drop_at, drop-append-le}
+use Rattle.std.proofs.lemmas.List.{drop-take}
 use Rattle.lent.specs.Over.{over, put, part}
 use Rattle.lent.proofs.OverLaws.{drop-over, over-agree}
 
@@ -79,3 +80,10 @@ module _ {A : Type 0} where
       let e : at + (end - at) ≡ end = omega arith in
       let d : drop end xs ≡ drop (end - at) (drop at xs) = rw (drop-drop (end - at) at xs, e) in
       rw d (take-append-drop (end - at) (drop at xs))
+
+  -- a part of the front
+  pub part-take : (a n k : ℕ) (w : List A) → a + n ≤ k → part a n (take k w) ≡ part a n w
+  unfolding part
+  part-take a n k w h =
+      let e : k ≡ a + (k - a) = omega arith in
+      ap (λ m. take n (drop a (take m w))) e ∙ ap (take n) (drop-take a (k - a) w) ∙ take-take n (k - a) (drop a w) (omega arith)

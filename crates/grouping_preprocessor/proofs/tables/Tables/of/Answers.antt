@@ -15,4 +15,5 @@ returns c =
       hit = lent-part n k.patterns w;
       pattern_place = lent-part (2 * n) k.patterns w;
       interval = lent-part (7 * n) k.hits w;
+      first = lent-part (5 * n) k.streaks w;
     }
