@@ -3,7 +3,7 @@
 
 ghost use Rattle.std.specs.Prelude.{◌≡◌, ◌*◌, ◌≤◌, ◌<◌, ◌+◌, length, get_or};
 ghost use Rattle.lent.specs.Over.{over, put};
-ghost use Rattle.grouping_chart.specs.Object.{notes, note_before, note_after};
+ghost use Rattle.grouping_chart.specs.Object.{notes};
 ghost use Rattle.grouping_chart.specs.Outcome.{outcome};
 ghost use Rattle.grouping_chart.specs.Lent.{seen};
 ghost use Rattle.call_turns.specs.Turns.{note_told, previous_changes, next_changes};
@@ -40,21 +40,12 @@ fn number_notes(kind: &[u8], numbers: &mut [u16]) -> u16
     next.0 as u16
 }
 
-// What is answered of the note before the one numbered j.
-#[tactic(auto, unfolding(crate::specs::Turns::note_told, grouping_chart::specs::Object::note_before))]
-fn told_before(j: u16) -> u16
-    ensures { result ≡ note_told (note_before j) }
+// What is answered of a note that may be missing.
+#[tactic(auto, unfolding(crate::specs::Turns::note_told))]
+fn note_told(note: Option<u16>) -> u16
+    ensures { result ≡ note_told note }
 {
-    if j == 0 { NO_NOTE } else { j - 1 }
-}
-
-// And of the note after it, of so many notes.
-#[tactic(auto, unfolding(crate::specs::Turns::note_told, grouping_chart::specs::Object::note_after))]
-fn told_after(j: u16, notes: u16) -> u16
-    requires { j < 65535 }
-    ensures { result ≡ note_told (note_after notes j) }
-{
-    if j + 1 < notes { j + 1 } else { NO_NOTE }
+    note.unwrap_or(NO_NOTE)
 }
 
 // The number of the object that is at this end of the streak of object i.
@@ -78,8 +69,12 @@ fn fill_turns(kind: &[u8], levels: Levels, work: &mut [u16], previous: &mut [u16
     let (tables, numbers) = work.split_at_mut(7 * n);
     let of = Streaks::of(tables, n, levels);
     let notes = number_notes(kind, numbers);
-    fill::by_place(n, previous, |i| told_before(number_at(numbers, of.first, of.streak, i)));
-    fill::by_place(n, next, |i| told_after(number_at(numbers, of.last, of.streak, i), notes));
+    fill::by_place(n, previous, |i| {
+        note_told(object::note_before(number_at(numbers, of.first, of.streak, i)))
+    });
+    fill::by_place(n, next, |i| {
+        note_told(object::note_following(notes, number_at(numbers, of.last, of.streak, i)))
+    });
 }
 
 pub fn turns(

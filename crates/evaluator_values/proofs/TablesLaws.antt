@@ -1,12 +1,17 @@
 -- The encoder's tables, looked up for one object: each number is in range, and what stands there is the definition's.
 use mathlib.Core.Path.{◌≡◌, refl, sym, ap, ◌∙◌}
 use mathlib.Core.List.{List}
-use Prim.Native.Nat.{ℕ, ◌-◌, ◌<◌}
+use mathlib.Core.Bool.{true, cond, not}
+use Prim.Native.Nat.{ℕ, zero, suc, ◌-◌, ◌<◌}
 use native.Mathlib.Omega.{arith}
+use borrow.Author.Tests.{eq-eqb}
+use lib.Dec.{eqb, eqb-suc-zero}
 use lib.ListN.{length, get_or}
 use lib.Ieee.{Float, nan, binary64, mul}
 use Rattle.lent.proofs.FillLaws.{length-gathered, get_or-gathered}
+use Rattle.grouping_colour.specs.MonoStreak.{streak_of, streak_firsts}
 use Rattle.grouping_colour.proofs.StreakListLaws.{length-streak_of}
+use Rattle.grouping_colour.proofs.EndLaws.{streak_first_where, streak_first_start}
 use Rattle.grouping_preprocessor.specs.passes.LookUps.{streaks, streak_places, patterns, pattern_places, hits, intervals, TablesOf}
 use Rattle.grouping_preprocessor.specs.declared.tables.Tables.{Tables}
 use Rattle.grouping_preprocessor.proofs.LookUpsLaws.{streak_places_are, patterns_are, pattern_places_are, hits_are, intervals_are, linked}
@@ -56,6 +61,12 @@ module _ {t : Tables} {i : ℕ} (o : ObjectIn t i) where
     pub pattern-place_is : get_or t.pattern_place.now r.pattern 0 ≡ get_or (pattern_places t) i 0
     pattern-place_is = rw a.patterns (sym (get_or-gathered t.pattern_place.now (patterns t) i in_patterns))
 
+    pub first_in : r.streak < length t.first.now
+    first_in = rw a.streaks (o.linked.first i o.within)
+
+    pub first_is : (first : ℕ) → first ≡ get_or t.first.now r.streak 0 → eqb first i ≡ eqb (get_or t.first.now (get_or (streaks t) i 0) 0) i
+    first_is first e = rw (e, a.streaks) refl
+
     pub streak-place_is : get_or t.streak_place.now r.streak 0 ≡ get_or (streak_places t) i 0
     streak-place_is = rw a.streaks (sym (get_or-gathered t.streak_place.now (streaks t) i o.within))
 
@@ -64,18 +75,30 @@ module _ {limit : ℕ} {kinds : List ℕ} {t : Tables} (e : TablesOf limit kinds
   pub object_in : (i : ℕ) → i < length kinds → ObjectIn t i
   object_in i h = record { linked = linked e; within = omega (arith, ap length e.streak, length-streak_of kinds) }
 
-  standing_is : (i : ℕ) → looked_up t i ≡ standing_at limit kinds i
+  -- the streak's first object is this one where the object before it, if there is one, is of another streak
+  streak-first_is : (i : ℕ) → i < length kinds → eqb (get_or t.first.now (get_or (streaks t) i 0) 0) i ≡ is_first (streak_of kinds) i
+  unfolding is_first
+  streak-first_is i h = rw (e.first, e.streak) (by i h)
+    where
+      by : (i : ℕ) → i < length kinds → eqb (get_or (streak_firsts kinds) (get_or (streak_of kinds) i 0) 0) i
+          ≡ cond (eqb i 0) true (not (eqb (get_or (streak_of kinds) i 0) (get_or (streak_of kinds) (i - 1) 0)))
+      by zero h = eq-eqb _ 0 (streak_first_start kinds h)
+      by (suc i) h =
+          let before : i ≡ suc i - 1 = omega arith in
+          rw (eqb-suc-zero i, ← before) (streak_first_where kinds i h)
+
+  standing_is : (i : ℕ) → i < length kinds → looked_up t i ≡ standing_at limit kinds i
   unfolding looked_up standing_at
-  standing_is i = same_standing (record {
+  standing_is i h = same_standing (record {
     interval = ap (λ l. get_or l i 0) (intervals_are e);
     pattern_place = ap (λ l. get_or l i 0) (pattern_places_are e);
     streak_place = ap (λ l. get_or l i 0) (streak_places_are e);
-    streak = ap (λ l. is_first l i) e.streak;
+    streak = streak-first_is i h;
     pattern = ap (λ l. is_first l i) (patterns_are e);
     hit = ap (λ l. is_first l i) (hits_are e);
   })
 
-  pub colour_is : (tolerance : Float) (ratios : List Float) (i : ℕ) → looked_colour tolerance ratios t i ≡ colour_at limit tolerance kinds ratios i
+  pub colour_is : (tolerance : Float) (ratios : List Float) (i : ℕ) → i < length kinds → looked_colour tolerance ratios t i ≡ colour_at limit tolerance kinds ratios i
   unfolding looked_colour colour_at
-  colour_is tolerance ratios i =
-      ap (λ s. mul binary64 (object_sum s) (ratio_penalty tolerance i (get_or ratios i nan) (get_or ratios (i - 2) nan))) (standing_is i)
+  colour_is tolerance ratios i h =
+      ap (λ s. mul binary64 (object_sum s) (ratio_penalty tolerance i (get_or ratios i nan) (get_or ratios (i - 2) nan))) (standing_is i h)

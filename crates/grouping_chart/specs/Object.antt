@@ -32,15 +32,15 @@ note_before zero = None
 note_before (suc j) = Some j
 
 -- the number of the note after the one numbered j, of n notes: the last has none
-unfoldable pub note_after : ℕ → ℕ → Option ℕ
-note_after n j = cond (ltb (j + 1) n) (Some (j + 1)) None
+unfoldable pub note_following : ℕ → ℕ → Option ℕ
+note_following n j = cond (ltb (j + 1) n) (Some (j + 1)) None
 
 -- the numbers of the previous and of the next note of object i: the source's previous_note(o, 0) and next_note(o, 0)
 unfoldable pub previous_note : List ℕ → ℕ → Option ℕ
 previous_note ks i = note_before (note_idx ks i)
 
 unfoldable pub next_note : List ℕ → ℕ → Option ℕ
-next_note ks i = note_after (length (notes ks)) (note_idx ks i)
+next_note ks i = note_following (length (notes ks)) (note_idx ks i)
 
 -- the kind of the previous note of object i
 abbrev pub previous_kind : List ℕ → ℕ → Option ℕ

@@ -1,6 +1,6 @@
 // The source's two numberings, of objects and of notes, and the kinds of objects.
 ghost use Rattle.std.specs.Prelude.{◌≡◌, cond, ◌+◌, ◌^◌, ◌<◌, MatchResult};
-ghost use Rattle.grouping_chart.specs.Object.{is_note, kind_number};
+ghost use Rattle.grouping_chart.specs.Object.{is_note, kind_number, note_before, note_following};
 
 // How many objects stand before one.
 #[derive(Clone, Copy, PartialEq, Eq, Debug)]
@@ -92,4 +92,22 @@ pub fn note_after(kind: u8, next: NoteIndex) -> NoteIndex
     } else {
         next
     }
+}
+
+// The number of the note before the one numbered j, as the source's previous_note finds it. Here and below a number has
+// the width of a lent slice's.
+#[tactic(auto, unfolding(crate::specs::Object::note_before))]
+pub fn note_before(j: u16) -> Option<u16>
+    ensures { result ≡ note_before j }
+{
+    j.checked_sub(1)
+}
+
+// And of the note after it, of n notes, as its next_note does.
+#[tactic(auto, unfolding(crate::specs::Object::note_following))]
+pub fn note_following(n: u16, j: u16) -> Option<u16>
+    requires { j < 65535 }
+    ensures { result ≡ note_following n j }
+{
+    if j + 1 < n { Some(j + 1) } else { None }
 }

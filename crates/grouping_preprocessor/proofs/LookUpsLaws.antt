@@ -1,5 +1,5 @@
 -- What the tables say of each object is the definitions' list, and no look-up leaves its table.
-use mathlib.Core.Path.{◌≡◌, ap, ◌∙◌}
+use mathlib.Core.Path.{◌≡◌, refl, sym, ap, ◌∙◌}
 use mathlib.Core.List.{List}
 use Prim.Native.Nat.{ℕ, ◌*◌, ◌<◌}
 use native.Mathlib.Omega.{arith}
@@ -10,7 +10,7 @@ use Rattle.lent.proofs.PieceLaws.{part-take}
 use Rattle.grouping_marks.proofs.MarksLaws.{length-numbers, length-places}
 use Rattle.grouping_colour.proofs.StreakListLaws.{length-streak_of, streak-below}
 use Rattle.grouping_colour.proofs.EndLaws.{length-streak_firsts}
-use Rattle.grouping_preprocessor.specs.Preprocessor.{patterns_open, hits_open, streak_place_of, alternating_of, pattern_place_of, hit_of, interval_of}
+use Rattle.grouping_preprocessor.specs.Preprocessor.{patterns_open, hits_open, streak_place_of, alternating_of, pattern_place_of, hit_of, interval_of, hit_intervals}
 use Rattle.grouping_preprocessor.specs.passes.Steps as steps
 use Rattle.grouping_preprocessor.specs.passes.LookUps.{Cut, streak_places, patterns, pattern_places, hits, intervals, Linked, TablesOf, StreaksCut, StreaksOf}
 use Rattle.grouping_preprocessor.specs.declared.Levels.{Levels}
@@ -20,7 +20,31 @@ use Rattle.grouping_preprocessor.proofs.BoundLaws.{length-patterns_open, length-
 use Rattle.grouping_preprocessor.proofs.BoundLaws.{alternating_of-below, hit_of-below}
 use Rattle.grouping_preprocessor.proofs.BoundLaws.{streak_place_of_looked, alternating_of_looked, pattern_place_of_looked, hit_of_looked, interval_of_looked}
 
--- ---- the tables that the encoder left, cut
+-- ---- the tables that the encoder left, as they lie there
+pub tabled : {limit : ℕ} {kinds w₀ w : List ℕ} {k : Levels} → steps.Regions (length kinds) w₀ → steps.Tables limit kinds w₀ w k → steps.Tabled kinds w k
+tabled {kinds} {k = k} r e = record {
+  regions = record { few = r.few; room = omega (arith, r.room, e.outside.same) };
+  tables = record {
+    count_s = e.count_s;
+    count_p = e.count_p;
+    count_h = e.count_h;
+    searched = refl;
+    few_s = e.few_s;
+    few_p = e.few_p;
+    few_h = e.few_h;
+    streak = e.streak;
+    pattern = e.pattern;
+    streak-place = e.streak-place;
+    hit = e.hit;
+    pattern-place = e.pattern-place;
+    interval = e.interval ∙ ap (λ l. hit_intervals l kinds) (sym e.searched);
+    first = e.first;
+    last = e.last;
+    outside = record { same = refl; beyond = refl };
+  };
+}
+
+-- ---- and cut
 
 pub tables_of : {limit : ℕ} {kinds w₀ w : List ℕ} {k : Levels} {t : Tables} → steps.Tables limit kinds w₀ w k
     → Cut (length kinds) k w t → TablesOf limit kinds t

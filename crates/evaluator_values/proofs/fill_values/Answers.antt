@@ -19,4 +19,4 @@ returns c =
     c.by_place.ensures (colour_at a.levels.limit a.tolerance a.chart.kind.now a.chart.ratio.now)
     (λ i given h p.
     let is : given ≡ looked_colour a.tolerance a.chart.ratio.now c.of-tables.result i = search rules in
-    is ∙ colour_is e a.tolerance a.chart.ratio.now i)
+    is ∙ colour_is e a.tolerance a.chart.ratio.now i h)
