@@ -156,6 +156,31 @@ dresserduck_encoded dresserduck_encode(
     uint16_t *work, size_t work_count,
     double *scratch, size_t scratch_count);
 
+/* The number that stands for a note that is not there. */
+enum { DRESSERDUCK_NO_TURN = 65535 };
+
+/* What dresserduck_turns answers; `refusal` and `place` as above. */
+typedef struct dresserduck_turned {
+    uint64_t refusal;
+    uint64_t place;
+} dresserduck_turned;
+
+/* Says where the colour turns. Fills per object two numbers of notes, which count Center and Rim alone, from 0. All objects of a
+ * streak have the same two:
+ *   previous  the note before the first object of its streak; DRESSERDUCK_NO_TURN where there is none, or where that object is a NonHit
+ *   next      the note after the last object of its streak; DRESSERDUCK_NO_TURN where there is none. Where that object is a NonHit, the
+ *             streak is this NonHit alone, and it is note 1, wherever the NonHit stands; DRESSERDUCK_NO_TURN with fewer than two notes */
+dresserduck_turned dresserduck_turns(
+    const uint8_t *kind, size_t kind_count,
+    const double *start, size_t start_count,
+    const double *delta, size_t delta_count,
+    const double *ratio, size_t ratio_count,
+    dresserduck_settings settings,
+    uint16_t *previous, size_t previous_count,
+    uint16_t *next, size_t next_count,
+    uint16_t *work, size_t work_count,
+    double *scratch, size_t scratch_count);
+
 /* What dresserduck_colour answers; `refusal` and `place` as above. */
 typedef struct dresserduck_coloured {
     uint64_t refusal;

@@ -22,7 +22,7 @@ use grouping_preprocessor::tables::Streaks;
 use lent::fill;
 
 // What is answered where there is no note: C lends u16, which has no None.
-const NO_NOTE: u16 = u16::MAX;
+const NO_TURN: u16 = u16::MAX;
 
 // Gives each object its note_idx; the result is how many notes there are. It is no `fill::by_place`, since it carries
 // the number of the next note.
@@ -45,7 +45,7 @@ fn number_notes(kind: &[u8], numbers: &mut [u16]) -> u16
 fn note_told(note: Option<u16>) -> u16
     ensures { result ≡ note_told note }
 {
-    note.unwrap_or(NO_NOTE)
+    note.unwrap_or(NO_TURN)
 }
 
 // The number of the object that is at this end of the streak of object i.
