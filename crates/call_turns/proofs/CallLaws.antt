@@ -7,7 +7,7 @@ use lib.ListN.{length, drop, replicate, length-replicate}
 use lib.Ieee.{Float, binary64, of_bits}
 use Rattle.std.specs.Prelude.{Ok}
 use Rattle.lent.specs.Over.{over, put}
-use Rattle.lent.proofs.OverLaws.{over-agree, drop-put, length-put}
+use Rattle.lent.proofs.OverLaws.{over-agree, drop-put}
 use Rattle.grouping_chart.specs.Chart.{Chart, size}
 use Rattle.grouping_chart.specs.Outcome.{outcome}
 use Rattle.grouping_chart.specs.Settings.{Settings}
@@ -51,5 +51,6 @@ pub filled_is : {limit : ℕ} {kinds w work cleared previous next : List ℕ} {k
 unfolding filled
 filled_is {kinds} {w} {work} m r t e p n z f =
     let past = ap (drop (8 * length kinds)) e ∙ drop-put (8 * length kinds) (7 * length kinds) (note_indices kinds) w (omega (arith, length-indices kinds)) in
-    let zeros = z ∙ over-agree (replicate (8 * length kinds) 0) work m.work (8 * length kinds) (length-replicate (8 * length kinds) 0) (past ∙ t.outside.beyond) in
+    let size = length-replicate (8 * length kinds) 0 in
+    let zeros = z ∙ over-agree (replicate (8 * length kinds) 0) work m.work (8 * length kinds) size (past ∙ t.outside.beyond) in
     λ i. memory (p i) (n i) (zeros i) (f i)

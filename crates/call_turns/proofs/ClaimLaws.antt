@@ -1,12 +1,9 @@
 -- What a reader may not expect of where the colour turns, proved: a streak that begins with a NonHit has no note before it, one that ends with a NonHit is
 -- that object alone and has note 1 after it, and all objects of a streak have the same two answers. And how far these go.
-use mathlib.Core.Path.{◌≡◌, refl, sym, ap, ◌∙◌}
-use mathlib.Core.Logic.{◌⊎◌, inl, inr}
-use mathlib.Core.Bool.{Bool, true, false, cond}
+use mathlib.Core.Path.{◌≡◌}
+use mathlib.Core.Bool.{false, cond}
 use mathlib.Core.List.{List}
-use Prim.Native.Nat.{ℕ, zero, suc, ◌+◌, ◌<◌}
-use native.Mathlib.Omega.{arith}
-use borrow.Author.Tests.{ltb-true}
+use Prim.Native.Nat.{ℕ, ◌<◌}
 use lib.Dec.{ltb}
 use lib.ListN.{length, get_or}
 use Rattle.std.specs.Prelude.{Some, None}

@@ -1,17 +1,16 @@
 -- From the encoder's tables and the notes' numbers to the answers: an object's number is looked up at its streak's ends.
 use mathlib.Core.Path.{◌≡◌, sym, ap, ◌∙◌}
 use mathlib.Core.List.{List}
-use Prim.Native.Nat.{ℕ, ◌*◌, ◌≤◌, ◌<◌}
+use Prim.Native.Nat.{ℕ, ◌≤◌, ◌<◌}
 use native.Mathlib.Omega.{arith}
-use lib.ListN.{length, take, drop, get_or}
+use lib.ListN.{length, get_or}
 use Rattle.lent.specs.Over.{over}
 use Rattle.lent.proofs.OverLaws.{length-over}
 use Rattle.lent.proofs.PieceLaws.{get_or-over}
 use Rattle.grouping_marks.specs.Marks.{group_count}
 use Rattle.grouping_chart.specs.Object.{notes, note_idx, note_before, note_following}
-use Rattle.grouping_chart.proofs.ObjectLaws.{notes-few}
 use Rattle.grouping_chart.proofs.NotesLaws.{previous_note_by, next_note_by}
-use Rattle.grouping_colour.specs.MonoStreak.{streak_marks, streak_of, streak_firsts, streak_lasts}
+use Rattle.grouping_colour.specs.MonoStreak.{streak_marks, streak_of}
 use Rattle.grouping_colour.proofs.StreakListLaws.{length-streak_of, streak-below}
 use Rattle.grouping_colour.proofs.EndLaws.{length-streak_firsts, length-streak_lasts, streak_first-below, streak_last-below}
 use Rattle.grouping_preprocessor.specs.passes.LookUps.{StreaksOf}

@@ -98,7 +98,8 @@ module _ {limit : ℕ} {kinds : List ℕ} {t : Tables} (e : TablesOf limit kinds
     hit = ap (λ l. is_first l i) (hits_are e);
   })
 
-  pub colour_is : (tolerance : Float) (ratios : List Float) (i : ℕ) → i < length kinds → looked_colour tolerance ratios t i ≡ colour_at limit tolerance kinds ratios i
+  pub colour_is : (tolerance : Float) (ratios : List Float) (i : ℕ)
+      → i < length kinds → looked_colour tolerance ratios t i ≡ colour_at limit tolerance kinds ratios i
   unfolding looked_colour colour_at
   colour_is tolerance ratios i h =
       ap (λ s. mul binary64 (object_sum s) (ratio_penalty tolerance i (get_or ratios i nan) (get_or ratios (i - 2) nan))) (standing_is i h)

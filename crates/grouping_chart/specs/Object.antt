@@ -1,7 +1,7 @@
 -- How objects are numbered (scope: object.rs): idx says how many objects stand before one, note_idx how many notes,
--- save that a NonHit's is always 0. The notes before and after an object are found by its note_idx, so that a NonHit and
--- the first note have none before, and a NonHit has note 1 after, wherever it stands. A list of kinds has a number for
--- each object: 0 Center, 1 Rim, 2 NonHit.
+-- save that a NonHit's is always 0. The notes before and after an object are found by its note_idx: so a NonHit and the
+-- first note have none before, and after a NonHit stands note 1, wherever it is. A list of kinds has a number for each
+-- object: 0 Center, 1 Rim, 2 NonHit.
 use Rattle.std.specs.Prelude.{ℕ, zero, suc, ◌+◌, Bool, cond, List, [], ◌∷◌, ltb, length, take, get_or}
 use Rattle.std.specs.Prelude.{Option, Some, None, option_map}
 use Rattle.grouping_chart.specs.declared.object.Kind.{Kind}

@@ -15,7 +15,8 @@ use Rattle.grouping_marks.specs.Marks.{opened, number_by_mark, group_count, grou
 use Rattle.grouping_marks.specs.passes.Numbered.{NumberedBy}
 use Rattle.grouping_marks.proofs.MarksLaws.{length-numbers, numbers-below}
 use Rattle.grouping_marks.proofs.NumberLaws.{number_last}
-use Rattle.grouping_marks.proofs.ItemLaws.{numbers_left, numbers_same, numbers_new, numbers_start, lasts_left, lasts_none, lasts_same, lasts_new, last_items_none, last_items_start, length-last_items, last-below}
+use Rattle.grouping_marks.proofs.ItemLaws.{numbers_left, numbers_same, numbers_new, numbers_start, lasts_left, lasts_none, lasts_same, lasts_new}
+use Rattle.grouping_marks.proofs.ItemLaws.{last_items_none, last_items_start, length-last_items, last-below}
 
 -- ---- a list that is written over the front, and one place more
 

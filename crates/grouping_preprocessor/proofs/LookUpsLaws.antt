@@ -10,7 +10,8 @@ use Rattle.lent.proofs.PieceLaws.{part-take}
 use Rattle.grouping_marks.proofs.MarksLaws.{length-numbers, length-places}
 use Rattle.grouping_colour.proofs.StreakListLaws.{length-streak_of, streak-below}
 use Rattle.grouping_colour.proofs.EndLaws.{length-streak_firsts}
-use Rattle.grouping_preprocessor.specs.Preprocessor.{patterns_open, hits_open, streak_place_of, alternating_of, pattern_place_of, hit_of, interval_of, hit_intervals}
+use Rattle.grouping_preprocessor.specs.Preprocessor.{patterns_open, hits_open, streak_place_of, alternating_of, pattern_place_of, hit_of, interval_of}
+use Rattle.grouping_preprocessor.specs.Preprocessor.{hit_intervals}
 use Rattle.grouping_preprocessor.specs.passes.Steps as steps
 use Rattle.grouping_preprocessor.specs.passes.LookUps.{Cut, streak_places, patterns, pattern_places, hits, intervals, Linked, TablesOf, StreaksCut, StreaksOf}
 use Rattle.grouping_preprocessor.specs.declared.Levels.{Levels}

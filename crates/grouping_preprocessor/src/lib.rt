@@ -166,8 +166,9 @@ fn find_hits(
     hits
 }
 
-// Finds all levels. Their tables are in the work slice, in eight regions of n places. Each streak's ends are found last,
-// by each object's streak: the marks of hit patterns and their sizes give place to them, and no region is free earlier.
+// Finds all levels. Their tables are in the work slice, in eight regions of n places. Each streak's ends are found
+// last, by each object's streak: the marks of hit patterns and their sizes give place to them, and no region is free
+// before.
 pub fn encode_levels(kind: &[u8], w: &mut [u16], limit: SearchLimit) -> Levels
     requires { Regions (length kind.now) w.old }
     ensures { Encodes limit.value kind.now w.old w.new result }

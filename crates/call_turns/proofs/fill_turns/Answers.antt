@@ -1,12 +1,14 @@
 -- Each object takes what is told of the notes at its streak's ends, whose numbers stand behind the streaks' tables.
-use Rattle.std.proofs.Common.{◌≡◌, ◌*◌, ◌≤◌, ◌∙◌, ap, sym, arith, rules, ℕ, length, get_or, ◌++◌}
+use Rattle.std.proofs.Common.{◌≡◌, ◌*◌, ◌≤◌, ◌∙◌, ap, sym, arith, rules, length, get_or, ◌++◌, take, drop}
 use lib.ListN.{length-drop}
-use Rattle.lent.specs.Over.{over, put}
+use Rattle.lent.specs.Over.{over}
+use Rattle.lent.proofs.PieceLaws.{over_pieces, put_pieces}
 use Rattle.grouping_chart.specs.Object.{note_before, note_following}
 use Rattle.grouping_preprocessor.specs.passes.LookUps.{StreaksOf}
 use Rattle.grouping_preprocessor.proofs.LookUpsLaws.{streaks_of}
 use Rattle.call_turns.specs.Turns.{note_told, previous_colour_change, next_colour_change, previous_changes, next_changes}
 use Rattle.call_turns.specs.passes.Rooms.{note_indices}
+use Rattle.call_turns.proofs.NumberLaws.{length-indices}
 use Rattle.call_turns.proofs.TurnLaws.{Numbers, numbers_there, firsts_room, lasts_room, last_small, previous_is, next_is}
 use Rattle.call_turns.proofs.fill_turns.Goals.{After-number_notes-notes}
 use Rattle.call_turns.proofs.fill_turns.Goals as goal
@@ -61,6 +63,12 @@ returns-clause-next c =
     is ∙ next_is (streaks x) (numbered x) i h _ c.number_notes-notes.ensures.count)
 
 pub returns-clause-work : goal.returns-clause-work
-unfolding put
 returns-clause-work c =
-    λ i. c.split_at_mut-tables.ensures.front i ++ (c.number_notes-notes.ensures.numbers ∙ ap (over (note_indices c.args.kind.now)) c.split_at_mut-tables.ensures.back) i
+    let n = length c.args.kind.now in
+    let w = c.args.work.now in
+    let indices = note_indices c.args.kind.now in
+    let long = length-indices c.args.kind.now in
+    let numbers = c.number_notes-notes.ensures.numbers ∙ ap (over indices) c.split_at_mut-tables.ensures.back in
+    (λ i. c.split_at_mut-tables.ensures.front i ++ numbers i)
+    ∙ ap (λ l. take (7 * n) w ++ l) (sym (over_pieces indices (drop (7 * n) w) n long))
+    ∙ put_pieces (7 * n) n indices w long

@@ -1,5 +1,5 @@
 -- A turn numbers one object and counts it where it is a note.
-use Rattle.std.proofs.Common.{arith, ◌∙◌}
+use Rattle.std.proofs.Common.{arith}
 use Rattle.call_turns.proofs.NumberLaws.{numbering_start, next_few, index_few, numbering_turn, numbering_end, counted_few}
 use Rattle.call_turns.proofs.number_notes.Goals as goal
 

@@ -1,11 +1,9 @@
 -- `turns` meets its contract: the verdict of the definition is the one that the tests gave, and each case leaves its outcome.
-use Rattle.std.proofs.Common.{◌≡◌, ap, ◌∙◌, arith, rules, length}
-use Rattle.lent.proofs.OverLaws.{length-put}
+use Rattle.std.proofs.Common.{◌≡◌, arith, rules}
 use Rattle.grouping_chart.specs.Lent.{seen}
 use Rattle.grouping_chart.specs.Refusal.{accepted}
 use Rattle.grouping_chart.proofs.OutcomeLaws.{judged-told, answered-refused}
 use Rattle.call_turns.specs.Call.{judged, memory, turns_outcome}
-use Rattle.call_turns.proofs.NumberLaws.{length-indices}
 use Rattle.call_turns.proofs.CallLaws.{limit_small, regions, scratch_room, turns_room, done, filled_is}
 use Rattle.call_turns.proofs.turns.Goals.{In_ok-judge}
 use Rattle.call_turns.proofs.turns.Goals as goal

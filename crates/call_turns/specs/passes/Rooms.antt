@@ -1,12 +1,10 @@
 -- What the passes of turns ask of their slices, and what they leave there.
-use Rattle.std.specs.Prelude.{ℕ, ◌*◌, ◌≤◌, ◌<◌, List, length, get_or}
+use Rattle.std.specs.Prelude.{ℕ, ◌≤◌, ◌<◌, List, length}
 use Rattle.lent.specs.Scan.{tabulate}
 use Rattle.lent.specs.passes.Bounds.{AllBelow}
 use Rattle.grouping_chart.specs.Object.{note_idx}
-use Rattle.grouping_chart.specs.Settings.{Settings}
-use Rattle.grouping_preprocessor.specs.passes.Steps.{Regions, Tabled}
+use Rattle.grouping_preprocessor.specs.passes.Steps.{Tabled}
 use Rattle.grouping_preprocessor.specs.declared.Levels.{Levels}
-use Rattle.call_turns.specs.Call.{Memory}
 
 -- the note_idx of each object
 unfoldable pub note_indices : List ℕ → List ℕ

@@ -5,7 +5,7 @@ use Rattle.lent.specs.Over.{over}
 use Rattle.lent.proofs.PieceLaws.{over_whole}
 use Rattle.grouping_marks.specs.Marks.{first_items, last_items}
 use Rattle.grouping_marks.specs.passes.Numbered.{NumberedBy}
-use Rattle.grouping_colour.specs.MonoStreak.{streak_marks, streak_firsts, streak_lasts}
+use Rattle.grouping_colour.specs.MonoStreak.{streak_marks, streak_lasts}
 use Rattle.grouping_colour.proofs.StreakListLaws.{streak_of_made, length-streak_of}
 use Rattle.grouping_colour.proofs.EndLaws.{streak_firsts_made, streak_lasts_made, length-streak_lasts}
 use Rattle.grouping_preprocessor.proofs.ComposeLaws.{length-lent, back-long, Ends, encoded}
