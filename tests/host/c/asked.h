@@ -1,5 +1,5 @@
-/* What the programs about the settings share: the six calls on a chart, each of which is asked about what stands in the variables here.
- * N, the most objects of a chart, is defined before this is included. */
+/* What the programs about the settings and about turns share: the seven calls on a chart, each of which is asked about what stands in the
+ * variables here. N, the most objects of a chart, is defined before this is included. */
 #include "lent.h"
 
 /* A chart of n objects, whose deltas are the lowest for taps, with its settings; stretch's ends; record's group and window; and how many
@@ -12,12 +12,17 @@ static size_t from, to, group;
 static double window;
 static size_t places, work_places;
 
-/* These kinds, d or k, in an even rhythm of known deltas, under the default settings. */
+static inline uint8_t kind_of(char letter)
+{
+    return letter == 'k' ? DRESSERDUCK_RIM : letter == 'n' ? DRESSERDUCK_NON_HIT : DRESSERDUCK_CENTER;
+}
+
+/* These kinds, d, k or n, in an even rhythm of known deltas, under the default settings. */
 static inline void ask_about(const char *letters)
 {
     n = strlen(letters);
     for (size_t i = 0; i < n; i++) {
-        kind[i] = letters[i] == 'k' ? DRESSERDUCK_RIM : DRESSERDUCK_CENTER;
+        kind[i] = kind_of(letters[i]);
         start[i] = 100.0 * (double)i;
         delta[i] = highest[i] = 100.0;
         ratio[i] = 1.0;
@@ -39,6 +44,12 @@ static inline dresserduck_encoded encode(void)
     lend();
     return dresserduck_encode(CHART, lent.numbers[0], places, lent.numbers[1], places, lent.numbers[2], places, lent.numbers[3], places,
         lent.numbers[4], places, lent.interval, places, WORK);
+}
+
+static inline dresserduck_turned turns(void)
+{
+    lend();
+    return dresserduck_turns(CHART, lent.numbers[0], places, lent.numbers[1], places, WORK);
 }
 
 static inline dresserduck_coloured colour(void)

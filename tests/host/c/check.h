@@ -1,10 +1,14 @@
-/* What the C programs share: the default settings, a colour value, facts that are checked, and the answer of `main`. */
+/* What the C programs share: settings, a colour value, facts that are checked, and the answer of `main`. */
 #include "dresserduck.h"
 
 #include <stdio.h>
 #include <string.h>
 
 static const dresserduck_settings default_settings = DRESSERDUCK_DEFAULT_SETTINGS;
+
+/* The default ones, the narrowest and the widest. */
+#define SETS 3
+static const dresserduck_settings sets[SETS] = {DRESSERDUCK_DEFAULT_SETTINGS, {0.0, 2, 0.0, 0.0}, {50.0, 64, 1.0, 1.0}};
 
 #define CHECK(fact) check((fact) ? 1 : 0, #fact, __FILE__, __LINE__)
 

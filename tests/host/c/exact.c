@@ -1,4 +1,4 @@
-/* All seven calls on heap memory of exactly the size that they need, for a tool that watches the heap's bounds. Those on a chart have
+/* All eight calls on heap memory of exactly the size that they need, for a tool that watches the heap's bounds. Those on a chart have
  * the default settings, the narrowest and the widest. Prints `ok`, or each line that fails. */
 #include "dresserduck.h"
 
@@ -76,6 +76,16 @@ static void encode_exactly(const struct chart *c, uint16_t *work, double *scratc
     free(interval);
 }
 
+static void turn_exactly(const struct chart *c, uint16_t *work, double *scratch)
+{
+    uint16_t *previous = (uint16_t *)block(c->n, sizeof *previous);
+    uint16_t *next = (uint16_t *)block(c->n, sizeof *next);
+    dresserduck_turned got = dresserduck_turns(CHART, previous, c->n, next, c->n, work, 8 * c->n, scratch, c->n);
+    CHECK(got.refusal == DRESSERDUCK_ACCEPTED);
+    free(previous);
+    free(next);
+}
+
 /* What is refused of the whole chart as a stretch. */
 static uint64_t whole_refusal(const struct chart *c)
 {
@@ -127,12 +137,13 @@ static void tap_exactly(const struct chart *c, double width, uint16_t *work, dou
     free(group);
 }
 
-/* The six calls on a chart, under its settings. */
+/* The seven calls on a chart, under its settings. */
 static void ask_exactly(const struct chart *c)
 {
     uint16_t *work = (uint16_t *)block(8 * c->n, sizeof *work);
     double *scratch = (double *)block(c->n, sizeof *scratch);
     encode_exactly(c, work, scratch);
+    turn_exactly(c, work, scratch);
     score_exactly(c, work, scratch);
     group_exactly(c, work, scratch);
     tap_exactly(c, 0.0, work, scratch);
@@ -143,9 +154,8 @@ static void ask_exactly(const struct chart *c)
 
 static void ask_under_each(struct chart *c)
 {
-    static const dresserduck_settings each[3] = {DRESSERDUCK_DEFAULT_SETTINGS, {0.0, 2, 0.0, 0.0}, {50.0, 64, 1.0, 1.0}};
-    for (size_t i = 0; i < 3; i++) {
-        c->settings = each[i];
+    for (size_t i = 0; i < SETS; i++) {
+        c->settings = sets[i];
         ask_exactly(c);
     }
 }

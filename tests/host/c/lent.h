@@ -7,7 +7,7 @@
 #define WORK_PLACES (8 * N + 1)
 
 static struct {
-    uint16_t numbers[5][PLACES]; /* encode's, in the order of the call; rhythm fills the first two, taps the first */
+    uint16_t numbers[5][PLACES]; /* encode's, in the order of the call; turns and rhythm fill the first two, taps the first */
     uint8_t interval[PLACES];
     uint8_t pair[PLACES];
     uint8_t built_kind[PLACES];

@@ -29,7 +29,7 @@ static void good_chart(void)
 #define CHART kind, n, start, n, delta, n, ratio, ratios, settings
 #define TAP_CHART kind, n, start, n, delta, n, delta, n, ratio, ratios, settings
 
-/* All six refuse it, taps with the delta for the lowest and the highest, with this many places to work in. */
+/* All seven refuse it, taps with the delta for the lowest and the highest, with this many places to work in. */
 static void expect(uint64_t refusal, uint64_t place, size_t n, size_t ratios, size_t places)
 {
 #define WORK lent.work, places, lent.scratch, n
@@ -37,6 +37,8 @@ static void expect(uint64_t refusal, uint64_t place, size_t n, size_t ratios, si
     dresserduck_encoded encoded = dresserduck_encode(CHART, numbers[0], n, numbers[1], n, numbers[2], n, numbers[3], n, numbers[4], n,
         lent.interval, n, WORK);
     CHECK(encoded.refusal == refusal && encoded.place == place && encoded.hit_patterns == 0);
+    dresserduck_turned turned = dresserduck_turns(CHART, numbers[0], n, numbers[1], n, WORK);
+    CHECK(turned.refusal == refusal && turned.place == place);
     dresserduck_coloured coloured = dresserduck_colour(CHART, lent.value, n, WORK);
     CHECK(coloured.refusal == refusal && coloured.place == place);
     dresserduck_stretched stretched = dresserduck_stretch(CHART, 0, 1, lent.value, n, WORK);

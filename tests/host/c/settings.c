@@ -1,4 +1,4 @@
-/* The settings from C and from C++, in the program's own struct and by each of the six calls on a chart: what is answered under the
+/* The settings from C and from C++, in the program's own struct and by each of the seven calls on a chart: what is answered under the
  * default ones, and what each number changes. Prints `ok`, or each line that fails. */
 #include "dresserduck.h"
 
@@ -68,6 +68,19 @@ static void search_limit_in_encode(void)
     ask_about("dkkdkkdkdkkdkdkk");
     settings.search_limit = 2;
     CHECK(encode().hit_patterns == 2 && FILLED(lent.interval, one_back));
+}
+
+/* The answers are the same under each set, though by its limit those of encode are others. */
+static void nothing_in_turns(void)
+{
+    static const uint16_t previous[6] = {DRESSERDUCK_NO_TURN, 0, 0, 2, 2, 4}, next[6] = {1, 3, 3, 5, 5, DRESSERDUCK_NO_TURN};
+    ask_about("dkkddk");
+    for (size_t i = 0; i < SETS; i++) {
+        settings = sets[i];
+        dresserduck_turned got = turns();
+        CHECK(got.refusal == DRESSERDUCK_ACCEPTED && got.place == 0 && cleared_for(n));
+        CHECK(FILLED(lent.numbers[0], previous) && FILLED(lent.numbers[1], next));
+    }
 }
 
 /* The last object has this value, behind which nothing is written. */
@@ -256,6 +269,7 @@ int main(void)
 {
     the_default();
     search_limit_in_encode();
+    nothing_in_turns();
     search_limit_in_values();
     tolerance_in_values();
     margin_in_groups();

@@ -1,4 +1,4 @@
-/* Refusal 16 from C and from C++, by each of the six calls on a chart: which numbers it is for and which not, -0.0, and its place in the
+/* Refusal 16 from C and from C++, by each of the seven calls on a chart: which numbers it is for and which not, -0.0, and its place in the
  * order of the refusals. Prints `ok`, or each line that fails. */
 #include "dresserduck.h"
 
@@ -24,14 +24,16 @@ static void keep(const void *answer, size_t bytes)
         keep(&got, sizeof got); \
     }
 KEEPING(encode, dresserduck_encoded)
+KEEPING(turns, dresserduck_turned)
 KEEPING(colour, dresserduck_coloured)
 KEEPING(stretch, dresserduck_stretched)
 KEEPING(rhythm, dresserduck_grouped)
 KEEPING(record, dresserduck_recorded)
 KEEPING(taps, dresserduck_tapped)
 
-enum { ENCODE, COLOUR, STRETCH, RHYTHM, RECORD, TAPS, CALLS };
-static void (*const calls[CALLS])(void) = {keep_encode, keep_colour, keep_stretch, keep_rhythm, keep_record, keep_taps};
+enum { ENCODE, TURNS, COLOUR, STRETCH, RHYTHM, RECORD, TAPS, CALLS };
+static void (*const calls[CALLS])(void) = {
+    keep_encode, keep_turns, keep_colour, keep_stretch, keep_rhythm, keep_record, keep_taps};
 
 /* By this call: every other field is 0, and nothing is written. */
 static void expect_of(size_t call, uint64_t refusal)
