@@ -1,11 +1,12 @@
 //! One chart, all calls: every bit of every answer and of every lent place.
 
 use host_tests::chart::Chart;
-use host_tests::lent::{exact_sizes, Lent};
+use host_tests::lent::{exact_sizes, Lent, Room, Work};
 use host_tests::samples::{known_about, Xorshift};
 use host_tests::{colour, encode, plain_colour, plain_tenths, rhythm, taps, Encoded};
 
 use crate::original::Original;
+use crate::turns::turns;
 
 #[track_caller]
 fn compare_encode(chart: &Chart, original: &Original, spare: usize) {
@@ -22,6 +23,33 @@ fn compare_encode(chart: &Chart, original: &Original, spare: usize) {
     assert_eq!(encode(chart, &mut lent), done, "encode of {chart}");
     let faults = lent.differences(&want);
     assert!(faults.is_empty(), "{faults:?} after encode of {chart}");
+}
+
+#[track_caller]
+fn compare_turns(chart: &Chart, original: &Original, spare: usize) {
+    let n = chart.size();
+    let lent = || {
+        let answers = [0, 1].map(|slice| Room::new(slice, n + spare, 0));
+        (answers, Work::new([8 * n + spare, n + spare], 0))
+    };
+    let ([mut previous, mut next], mut working) = lent();
+    let got = turns(
+        &chart.lent(),
+        chart.settings,
+        previous.lend(),
+        next.lend(),
+        working.work.lend(),
+        working.scratch.lend(),
+    );
+    assert_eq!((got.refusal, got.place), (0, 0), "turns of {chart}");
+    let (mut want, mut cleared) = lent();
+    for (room, numbers) in want.iter_mut().zip(columns(&original.chart.turns())) {
+        room.put(&numbers);
+    }
+    cleared.clear(n);
+    let filled = want.map(|room| room.bits());
+    assert_eq!([previous.bits(), next.bits()], filled, "turns of {chart}");
+    assert_eq!(working.bits(), cleared.bits(), "turns of {chart}");
 }
 
 #[track_caller]
@@ -57,16 +85,15 @@ fn compare_stretch(chart: &Chart, values: &[f64], a: usize, b: usize) -> bool {
     got.0 == 0
 }
 
-/// Each object's group, and its pattern group.
-fn numbers(original: &Original) -> [Vec<u16>; 2] {
-    let column = |k: usize| original.rhythm.rows.iter().map(move |row| row[k] as u16);
-    [0, 1].map(|k| column(k).collect())
+/// The first number of every object, and the second.
+fn columns(rows: &[[usize; 2]]) -> [Vec<u16>; 2] {
+    [0, 1].map(|k| rows.iter().map(|row| row[k] as u16).collect())
 }
 
 #[track_caller]
 fn compare_rhythm(chart: &Chart, original: &Original, spare: usize) {
     let n = chart.size();
-    let [group, pattern] = numbers(original);
+    let [group, pattern] = columns(&original.rhythm.rows);
     let lent = rhythm::Memory::of_sizes([n + spare, n + spare, 8 * n + spare, n + spare]);
     let mut memory = lent.clone();
     let want = rhythm::Grouped {
@@ -89,7 +116,7 @@ fn compare_taps(chart: &Chart, original: &Original, random: &mut Xorshift) -> bo
     let Some(groups) = taps::accepted(&known).groups else {
         return false;
     };
-    let [group, _] = numbers(original);
+    let [group, _] = columns(&original.rhythm.rows);
     assert_eq!(groups.of_object, group, "taps of {known}, {chart}");
     assert_eq!(
         groups.count,
@@ -123,10 +150,11 @@ pub struct Asked {
 pub fn compare(chart: &Chart, original: &Original, random: &mut Xorshift) -> Asked {
     let (n, spare) = (chart.size(), random.below(8));
     compare_encode(chart, original, spare);
+    compare_turns(chart, original, spare);
     let values = compare_colour(chart, original, spare);
     compare_rhythm(chart, original, spare);
     let grouped = usize::from(compare_taps(chart, original, random));
-    let (mut calls, mut noteless) = (4, 0);
+    let (mut calls, mut noteless) = (5, 0);
     if n > 0 {
         let a = random.below(n);
         let b = a + 1 + random.below(n - a);

@@ -3,3 +3,4 @@
 pub mod answers;
 pub mod built;
 pub mod original;
+pub mod turns;
