@@ -64,3 +64,33 @@ pub fn turns(
         )
     }
 }
+
+/// Memory for the call that is used again from chart to chart.
+#[derive(Default)]
+pub struct Turns {
+    pub previous: Vec<u16>,
+    pub next: Vec<u16>,
+    work: Vec<u16>,
+    scratch: Vec<f64>,
+}
+
+impl Turns {
+    /// Takes room for a good chart, and fills it.
+    pub fn fill(&mut self, chart: &Chart, settings: Settings) {
+        let n = chart.len();
+        for numbers in [&mut self.previous, &mut self.next] {
+            numbers.resize(n, 0);
+        }
+        self.work.resize(8 * n, 0);
+        self.scratch.resize(n, 0.0);
+        let got = turns(
+            chart,
+            settings,
+            &mut self.previous,
+            &mut self.next,
+            &mut self.work,
+            &mut self.scratch,
+        );
+        assert_eq!((got.refusal, got.place), (0, 0), "a good chart");
+    }
+}

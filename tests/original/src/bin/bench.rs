@@ -1,16 +1,21 @@
 //! How many times as fast as the original the library is, on the same charts in one run.
 
+use std::array;
 use std::hint::black_box;
 use std::time::Instant;
 
 use dresserduck::{BuiltChart, Chart, Encoding, RawChart, Refusal, Rhythm, Settings, Workspace};
+use original_tests::turns::Turns;
 
 const SIZES: [usize; 3] = [100, 1_000, 16_384];
-const CALLS: [&str; 4] = ["encode", "colour", "rhythm", "record"];
+const CALLS: [&str; 5] = ["encode", "turns", "colour", "rhythm", "record"];
 const WINDOW: f64 = 50.0;
 const RATE: f64 = 1.5;
 // the original's
 const BASE: Settings = Settings::DEFAULT;
+
+/// A thing of each call.
+type PerCall<T> = [T; CALLS.len()];
 
 struct Lists {
     kind: Vec<u8>,
@@ -127,10 +132,16 @@ impl Original {
 
 type Work<'a> = Box<dyn FnMut() + 'a>;
 
-/// The four calls on all charts of a set.
-fn original_works(charts: &[Original]) -> [Work<'_>; 4] {
+/// The calls on all charts of a set.
+fn original_works(charts: &[Original]) -> PerCall<Work<'_>> {
     [
         Box::new(move || charts.iter().for_each(|o| o.chart.process_color())),
+        Box::new(move || {
+            for o in charts {
+                o.chart.process_color();
+                black_box(o.chart.turns());
+            }
+        }),
         Box::new(move || {
             for o in charts {
                 o.chart.process_color();
@@ -152,6 +163,7 @@ fn original_works(charts: &[Original]) -> [Work<'_>; 4] {
 struct Room {
     workspace: Workspace,
     encoding: Encoding,
+    turns: Turns,
     values: Vec<f64>,
     rhythm: Rhythm,
 }
@@ -159,8 +171,12 @@ struct Room {
 /// One call on a chart, of whose groups the last has this number.
 type Call = fn(&mut Room, &Chart, usize) -> Result<(), Refusal>;
 
-const LIBRARY: [Call; 4] = [
+const LIBRARY: PerCall<Call> = [
     |room, chart, _| room.workspace.encode_into(chart, BASE, &mut room.encoding),
+    |room, chart, _| {
+        room.turns.fill(chart, BASE);
+        Ok(())
+    },
     |room, chart, _| room.workspace.colour_into(chart, BASE, &mut room.values),
     |room, chart, _| room.workspace.rhythm_into(chart, BASE, &mut room.rhythm),
     |room, chart, last| {
@@ -169,7 +185,7 @@ const LIBRARY: [Call; 4] = [
     },
 ];
 
-fn library_works<'a>(set: &'a [Lists], originals: &'a [Original]) -> [Work<'a>; 4] {
+fn library_works<'a>(set: &'a [Lists], originals: &'a [Original]) -> PerCall<Work<'a>> {
     let charts: Vec<Chart> = set.iter().map(Lists::chart).collect();
     LIBRARY.map(|call| {
         let (charts, mut room) = (charts.clone(), Room::default());
@@ -183,23 +199,23 @@ fn library_works<'a>(set: &'a [Lists], originals: &'a [Original]) -> [Work<'a>; 
 }
 
 /// Call by call, how often the library's time is in the original's.
-fn ratios(set: &[Lists]) -> [f64; 4] {
+fn ratios(set: &[Lists]) -> PerCall<f64> {
     let originals: Vec<Original> = set.iter().map(Original::of).collect();
     let mut original = original_works(&originals);
     let mut library = library_works(set, &originals);
-    [0, 1, 2, 3].map(|k| {
+    array::from_fn(|k| {
         let [theirs, ours] = medians(&mut original[k], &mut library[k]);
         theirs / ours
     })
 }
 
 /// Call by call, how often the library's time for a chart of the one set is in that for one of the other.
-fn growth(small: &[Lists], large: &[Lists]) -> [f64; 4] {
+fn growth(small: &[Lists], large: &[Lists]) -> PerCall<f64> {
     let [few, many] = [small, large].map(|set| set.iter().map(Original::of).collect::<Vec<_>>());
     let mut one = library_works(small, &few);
     let mut other = library_works(large, &many);
     let charts = small.len() as f64 / large.len() as f64;
-    [0, 1, 2, 3].map(|k| {
+    array::from_fn(|k| {
         let [less, more] = medians(&mut one[k], &mut other[k]);
         more / less * charts
     })
@@ -207,8 +223,10 @@ fn growth(small: &[Lists], large: &[Lists]) -> [f64; 4] {
 
 type LimitedCall = fn(&mut Room, &Chart, Settings) -> Result<(), Refusal>;
 
-/// Encode and colour: how often the library's time under the default search limit is in that under the largest.
-fn limit_ratios(set: &[Lists]) -> [f64; 2] {
+const LIMITED: [&str; 3] = ["encode", "turns", "colour"];
+
+/// The calls that encode: how often the library's time under the default search limit is in that under the largest.
+fn limit_ratios(set: &[Lists]) -> [f64; LIMITED.len()] {
     let charts: Vec<Chart> = set.iter().map(Lists::chart).collect();
     let under = |call: LimitedCall, settings: Settings| {
         let (charts, mut room) = (&charts, Room::default());
@@ -218,8 +236,12 @@ fn limit_ratios(set: &[Lists]) -> [f64; 2] {
             }
         }
     };
-    let calls: [LimitedCall; 2] = [
+    let calls: [LimitedCall; LIMITED.len()] = [
         |room, chart, set| room.workspace.encode_into(chart, set, &mut room.encoding),
+        |room, chart, set| {
+            room.turns.fill(chart, set);
+            Ok(())
+        },
         |room, chart, set| room.workspace.colour_into(chart, set, &mut room.values),
     ];
     calls.map(|call| {
@@ -312,7 +334,8 @@ fn print_by_size<const COLUMNS: usize>(
 
 fn print_growth() {
     println!("The library's time at 16,384 objects over that at 1,000:\n");
-    println!("| chart | {} |\n|---|---|---|---|---|", CALLS.join(" | "));
+    println!("| chart | {} |", CALLS.join(" | "));
+    println!("|---|{}", "---|".repeat(CALLS.len()));
     for ((name, small), (_, large)) in charts(SIZES[1]).iter().zip(charts(SIZES[2])) {
         println!("| {name} | {} |", row(growth(small, &large)));
     }
@@ -326,10 +349,5 @@ fn main() {
     print_by_size(title, ["build", "build and colour"], charts, built_ratios);
     print_growth();
     let title = "The library's time under a search limit of 64 over that under 16";
-    print_by_size(
-        title,
-        ["encode", "colour"],
-        charts_and_most_hits,
-        limit_ratios,
-    );
+    print_by_size(title, LIMITED, charts_and_most_hits, limit_ratios);
 }
