@@ -13,7 +13,7 @@ import random
 import re
 import sys
 
-from library import DEFAULT, GUIDE, ROOT, Chart, Settings, build, colour, encode, open_library, record, rhythm, starts, stretch, taps
+from library import DEFAULT, GUIDE, ROOT, Chart, Settings, build, colour, encode, open_library, record, rhythm, starts, stretch, taps, turns
 
 # the searches go through every chart of up to ALL objects, and through RANDOM longer ones of up to LONG
 ALL, RANDOM, LONG, SEED = 9, 3000, 60, 1
@@ -232,6 +232,24 @@ def interval_under_4(library):
     return [*found]
 
 
+def around(i):
+    """The notes before and after the streak of object i of the guide's chart."""
+    return lambda library: [notes[i] for notes in turns(library, GUIDE)]
+
+
+def behind(i):
+    """The note after that streak alone."""
+    return lambda library: [turns(library, GUIDE).next[i]]
+
+
+def not_there(library):
+    """What is told before the first streak of the guide's chart, before the roll's, and after the last."""
+    told = turns(library, GUIDE)
+    numbers = {told.previous[0], told.previous[GUIDE.letters.index("n")], told.next[-1]}
+    demand(len(numbers) == 1, "a note that is not there is told by several numbers")
+    return [*numbers]
+
+
 def ends_apart(library):
     """The two ends of a delta of 150 ms that is known to within as many milliseconds as leave the groups open."""
     within = known_within(library)[1]
@@ -251,6 +269,10 @@ FIGURES = [
     ("docs/GUIDE.md", "({:.2f}, {:.2f}, {:.2f})", new_changes),
     ("docs/GUIDE.md", "repeats ({:.2f})", repeated_changes),
     ("docs/GUIDE.md", "deltas of {:g} and {:g} ms", built_deltas),
+    ("docs/GUIDE.md", "The `kk` at 3 and 4 stands between the notes {} and {}", around(3)),
+    ("docs/GUIDE.md", "there is no such note the answer is {}", not_there),
+    ("docs/GUIDE.md", "the note after it is note {}, the `d` at 11", behind(8)),
+    ("docs/GUIDE.md", "the `kk` at 6 and 7 has note {} after it, the `k` at 9", behind(6)),
     ("docs/GUIDE.md", "The whole chart has mean {:.3f} and tenths {}", whole),
     ("docs/GUIDE.md", "a value of its own, {:.2f}, but is no note: with it the mean would be {:.3f}", with_roll),
     ("docs/GUIDE.md", "lowers the sum to {:.2f}", at(13)),

@@ -39,7 +39,8 @@ fn first_items(lasts: &[u16], firsts: &mut [u16])
     fill::by_place(lasts.len(), firsts, |group| first_item(lasts, group));
 }
 
-// Both, where `lasts` has a place for each group and no more.
+// The last items, and by them the first, where `lasts` has a place for each group and no more. Which marks made the
+// groups is not asked: it holds of any that did.
 pub fn group_ends(numbers: &[u16], lasts: &mut [u16], firsts: &mut [u16])
     requires few { length numbers.now ≤ 65535 }
     requires numbered { Numbered numbers.now (length lasts.old) }
