@@ -1,4 +1,4 @@
-//! The seven calls as the library exports them, for a host that lends memory of its own. A
+//! The eight calls as the library exports them, for a host that lends memory of its own. A
 //! [`Workspace`](crate::Workspace) and a [`RawChart`] do the same with memory that they make.
 //!
 //! Each call takes a chart, then [`Settings`], then plain arguments, then the slices that it is lent to fill and to work
@@ -54,6 +54,16 @@ pub struct Encoded {
     pub place: u64,
     /// how many hit patterns there are
     pub hit_patterns: u64,
+}
+
+/// What [`turns`] answers.
+#[repr(C)]
+#[derive(Clone, Copy, Debug, Default, PartialEq, Eq)]
+pub struct Turned {
+    /// 0, or the number of the first refusal that applies
+    pub refusal: u64,
+    /// the object that is refused by 4 to 7, else 0
+    pub place: u64,
 }
 
 /// What [`colour`] answers.
@@ -240,6 +250,11 @@ exports! {
     /// Per object six numbers, as in [`Encoding`](crate::Encoding).
     fn encode = dresserduck_encode(Chart[start, delta, ratio]; streak: u16, streak_place: u16, pattern: u16,
         pattern_place: u16, hit: u16, interval: u8, work: u16, scratch: f64) -> Encoded;
+
+    /// Per object the note before its streak and the note after it, as in [`Turns`](crate::Turns);
+    /// [`NO_TURN`](crate::NO_TURN) where there is none.
+    fn turns = dresserduck_turns(Chart[start, delta, ratio]; previous: u16, next: u16, work: u16,
+        scratch: f64) -> Turned;
 
     /// Per object its colour value.
     fn colour = dresserduck_colour(Chart[start, delta, ratio]; value: f64, work: u16, scratch: f64) -> Coloured;

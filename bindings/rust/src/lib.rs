@@ -55,7 +55,9 @@ mod workspace;
 pub use chart::{Chart, CENTER, LARGEST_CHART, NON_HIT, RIM};
 pub use raw_chart::{BuiltChart, RawChart, LARGEST_RAW_CHART};
 pub use refusal::Refusal;
-pub use result::{Encoding, GroupRecord, PairClass, Rhythm, Stretch, Taps, NO_GROUP, NO_PAIR};
+pub use result::{
+    Encoding, GroupRecord, PairClass, Rhythm, Stretch, Taps, Turns, NO_GROUP, NO_PAIR, NO_TURN,
+};
 pub use settings::Settings;
 pub use tap_chart::TapChart;
 pub use workspace::Workspace;

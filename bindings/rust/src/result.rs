@@ -42,6 +42,43 @@ impl Encoding {
     }
 }
 
+/// Per object two notes: the one before its streak and the one after it. Notes are numbered from 0 without the NonHits.
+///
+/// ```
+/// use dresserduck::{Chart, Settings, Turns, Workspace};
+///
+/// // d, k, a roll, k, d: four notes, and the streaks d, k, then the roll with the k behind it, d
+/// let chart = Chart::new(&[0, 1, 2, 1, 0], &[0.0; 5], &[125.0; 5], &[1.0; 5]);
+/// let turns = Workspace::new().turns(&chart, Settings::default())?;
+/// let both = |object| (turns.previous(object), turns.next(object));
+/// assert_eq!(both(1), (Some(0), Some(2))); // what comes next has its colour, too
+/// assert_eq!(both(3), (None, Some(3))); // its streak begins with the roll
+/// # Ok::<(), dresserduck::Refusal>(())
+/// ```
+#[derive(Clone, Debug, Default, PartialEq, Eq)]
+pub struct Turns {
+    pub(crate) previous: Vec<u16>,
+    pub(crate) next: Vec<u16>,
+}
+
+/// The number that stands for a note that is not there.
+pub const NO_TURN: u16 = 65_535;
+
+impl Turns {
+    /// The note before the first object of an object's streak; none where no note stands before it, where it is a NonHit,
+    /// and past the chart.
+    pub fn previous(&self, object: usize) -> Option<usize> {
+        number_at(&self.previous, object, NO_TURN)
+    }
+
+    /// The note after the last object of an object's streak; none where no note stands after it, and past the chart. Where
+    /// it is a NonHit, the streak is this NonHit alone, and the note is number 1, wherever the NonHit stands; none in a
+    /// chart of fewer than two notes.
+    pub fn next(&self, object: usize) -> Option<usize> {
+        number_at(&self.next, object, NO_TURN)
+    }
+}
+
 /// The mean of the colour values of a stretch's notes.
 #[derive(Clone, Copy, Debug, PartialEq)]
 pub struct Stretch {
@@ -65,20 +102,20 @@ pub struct Rhythm {
 /// The number that stands for the group of a NonHit, which has none.
 pub const NO_GROUP: u16 = 65_535;
 
-fn number_at(numbers: &[u16], object: usize) -> Option<usize> {
+fn number_at(numbers: &[u16], object: usize, none: u16) -> Option<usize> {
     let number = *numbers.get(object)?;
-    (number != NO_GROUP).then_some(usize::from(number))
+    (number != none).then_some(usize::from(number))
 }
 
 impl Rhythm {
     /// The rhythm group of an object; none for a NonHit, and past the chart.
     pub fn group(&self, object: usize) -> Option<usize> {
-        number_at(&self.group, object)
+        number_at(&self.group, object, NO_GROUP)
     }
 
     /// The pattern group of an object; none for a NonHit, and past the chart.
     pub fn pattern_group(&self, object: usize) -> Option<usize> {
-        number_at(&self.pattern_group, object)
+        number_at(&self.pattern_group, object, NO_GROUP)
     }
 }
 
@@ -138,7 +175,7 @@ impl Taps {
 
     /// The rhythm group of an object; none for a NonHit, past the chart, and where the groups are open.
     pub fn group(&self, object: usize) -> Option<usize> {
-        number_at(&self.group, object)
+        number_at(&self.group, object, NO_GROUP)
     }
 }
 

@@ -5,7 +5,7 @@ use std::ops::Range;
 use crate::calls;
 use crate::chart::{Chart, LARGEST_CHART};
 use crate::refusal::Refusal;
-use crate::result::{Encoding, GroupRecord, Rhythm, Stretch, Taps};
+use crate::result::{Encoding, GroupRecord, Rhythm, Stretch, Taps, Turns};
 use crate::settings::Settings;
 use crate::tap_chart::TapChart;
 
@@ -99,6 +99,45 @@ impl Workspace {
         accepted(answer.refusal, answer.place)?;
         out.hit_patterns = answer.hit_patterns as usize;
         Ok(())
+    }
+
+    /// Where the colour turns: for each object the note before its streak and the note after it.
+    ///
+    /// ```
+    /// use dresserduck::{Chart, Settings, Workspace};
+    ///
+    /// // d kk d
+    /// let chart = Chart::new(&[0, 1, 1, 0], &[0.0; 4], &[125.0; 4], &[1.0; 4]);
+    /// let turns = Workspace::new().turns(&chart, Settings::default())?;
+    /// assert_eq!([0, 1, 2, 3].map(|i| turns.previous(i)), [None, Some(0), Some(0), Some(2)]);
+    /// assert_eq!([0, 1, 2, 3].map(|i| turns.next(i)), [Some(1), Some(3), Some(3), None]);
+    /// # Ok::<(), dresserduck::Refusal>(())
+    /// ```
+    pub fn turns(&mut self, chart: &Chart, settings: Settings) -> Result<Turns, Refusal> {
+        let mut turns = Turns::default();
+        self.turns_into(chart, settings, &mut turns)?;
+        Ok(turns)
+    }
+
+    /// The same into turns whose memory is used again. What they hold after a refusal is of no use.
+    pub fn turns_into(
+        &mut self,
+        chart: &Chart,
+        settings: Settings,
+        out: &mut Turns,
+    ) -> Result<(), Refusal> {
+        self.grow(chart.len());
+        room(&mut out.previous, chart.len());
+        room(&mut out.next, chart.len());
+        let answer = calls::turns(
+            chart,
+            settings,
+            &mut out.previous,
+            &mut out.next,
+            &mut self.work,
+            &mut self.scratch,
+        );
+        accepted(answer.refusal, answer.place)
     }
 
     /// Each object's colour value: how new the change of colour at it is, not how fast. Never a NaN or an infinity.

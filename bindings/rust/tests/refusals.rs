@@ -3,7 +3,7 @@
 use std::error::Error;
 use std::ops::Range;
 
-use dresserduck::{Chart, Refusal, Settings, TapChart, Workspace, LARGEST_CHART};
+use dresserduck::{Chart, Refusal, Settings, TapChart, Turns, Workspace, LARGEST_CHART};
 
 const BASE: Settings = Settings::DEFAULT;
 
@@ -40,11 +40,12 @@ fn sure<'a>(chart: &Chart<'a>) -> TapChart<'a> {
     )
 }
 
-/// What each of the six calls on a chart says.
-fn refusals(chart: &Chart, settings: Settings) -> [Option<Refusal>; 6] {
+/// What each of the seven calls on a chart says.
+fn refusals(chart: &Chart, settings: Settings) -> [Option<Refusal>; 7] {
     let mut workspace = Workspace::new();
     [
         workspace.encode(chart, settings).err(),
+        workspace.turns(chart, settings).err(),
         workspace.colour(chart, settings).err(),
         workspace.stretch(chart, settings, 0..chart.len()).err(),
         workspace.rhythm(chart, settings).err(),
@@ -55,15 +56,15 @@ fn refusals(chart: &Chart, settings: Settings) -> [Option<Refusal>; 6] {
 
 #[track_caller]
 fn all_refused(lists: &Lists, refusal: Refusal) {
-    assert_eq!(refusals(&lists.chart(), BASE), [Some(refusal); 6]);
+    assert_eq!(refusals(&lists.chart(), BASE), [Some(refusal); 7]);
 }
 
 #[test]
 fn charts_are_refused_by_every_call() {
     all_refused(&Lists::of(LARGEST_CHART + 1), Refusal::TooManyObjects);
-    assert_eq!(refusals(&Lists::of(LARGEST_CHART).chart(), BASE), [None; 6]);
+    assert_eq!(refusals(&Lists::of(LARGEST_CHART).chart(), BASE), [None; 7]);
     let mut lists = Lists::of(7);
-    assert_eq!(refusals(&lists.chart(), BASE), [None; 6]);
+    assert_eq!(refusals(&lists.chart(), BASE), [None; 7]);
     lists.ratio[5] = f64::NAN;
     all_refused(&lists, Refusal::BadRatio { object: 5 });
     lists.delta[5] = f64::INFINITY;
@@ -87,20 +88,20 @@ fn numbers_out_of_range_are_refused_by_every_call() {
         BASE.with_threshold(-1.0),
         BASE.with_tolerance(1.0f64.next_up()),
     ] {
-        let all = [Some(Refusal::BadSettings); 6];
+        let all = [Some(Refusal::BadSettings); 7];
         assert_eq!(refusals(&lists.chart(), settings), all, "{settings:?}");
         assert_eq!(
             refusals(&Lists::of(0).chart(), settings),
             all,
             "{settings:?}"
         );
-        let all = [Some(Refusal::TooManyObjects); 6];
+        let all = [Some(Refusal::TooManyObjects); 7];
         assert_eq!(refusals(&huge.chart(), settings), all, "{settings:?}");
     }
     lists.kind[5] = 0;
     let widest = BASE.with_margin(50.0).with_search_limit(64);
     let widest = widest.with_threshold(1.0).with_tolerance(1.0);
-    assert_eq!(refusals(&lists.chart(), widest), [None; 6]);
+    assert_eq!(refusals(&lists.chart(), widest), [None; 7]);
 }
 
 #[test]
@@ -182,6 +183,7 @@ fn a_chart_without_objects_is_accepted() {
     let chart = Chart::new(&[], &[], &[], &[]);
     let mut workspace = Workspace::new();
     assert_eq!(workspace.encode(&chart, BASE).unwrap().hit_patterns, 0);
+    assert_eq!(workspace.turns(&chart, BASE), Ok(Turns::default()));
     assert_eq!(workspace.colour(&chart, BASE), Ok(vec![]));
     assert_eq!(workspace.rhythm(&chart, BASE).unwrap().groups, 0);
     assert_eq!(workspace.taps(&sure(&chart), BASE).unwrap().groups, Some(0));
@@ -204,6 +206,11 @@ fn a_workspace_is_as_good_as_new() {
         assert_eq!(
             workspace.encode(&chart, BASE),
             fresh.encode(&chart, BASE),
+            "{n}"
+        );
+        assert_eq!(
+            workspace.turns(&chart, BASE),
+            fresh.turns(&chart, BASE),
             "{n}"
         );
         assert_eq!(
