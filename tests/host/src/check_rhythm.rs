@@ -1,23 +1,24 @@
 //! Calls of rhythm and record with known memory, and a look at everything that they may have written.
 
 use crate::chart::Chart;
+use crate::lent::{exact_four, roomy_four, TwoNumbers};
 use crate::plain_rhythm::Groups;
-use crate::rhythm::{record, rhythm, Grouped, Memory, Recorded};
+use crate::rhythm::{record, rhythm, Grouped, Recorded};
 
 /// As much memory as n objects need.
-pub fn exact(n: usize) -> Memory {
-    Memory::of_sizes([n, n, 8 * n, n])
+pub fn exact(n: usize) -> TwoNumbers {
+    TwoNumbers::of_sizes(exact_four(n), n)
 }
 
 /// Some more.
-pub fn roomy(n: usize) -> Memory {
-    Memory::of_sizes([n + 3, n + 1, 8 * n + 5, n + 2])
+pub fn roomy(n: usize) -> TwoNumbers {
+    TwoNumbers::of_sizes(roomy_four(n), n)
 }
 
 /// The chart is accepted, with exactly enough memory and with some to spare, and has these groups.
 #[track_caller]
 pub fn check_rhythm(chart: &Chart, groups: &Groups) {
-    let [group, pattern] = groups.numbers();
+    let numbers = groups.numbers();
     let want = Grouped {
         refusal: 0,
         place: 0,
@@ -27,7 +28,7 @@ pub fn check_rhythm(chart: &Chart, groups: &Groups) {
     for lent in [exact(chart.size()), roomy(chart.size())] {
         let mut memory = lent.clone();
         assert_eq!(rhythm(chart, &mut memory), want, "{chart}");
-        let after = lent.filled(&group, &pattern);
+        let after = lent.filled(&numbers);
         assert_eq!(memory.bits(), after.bits(), "{chart}");
     }
 }
@@ -48,7 +49,13 @@ pub fn check_record(chart: &Chart, groups: &Groups, group: usize, window: f64) -
 
 /// rhythm, or record of this group with this window, is refused, and all memory is as it was lent.
 #[track_caller]
-pub fn refused(chart: &Chart, of: Option<(usize, f64)>, lent: Memory, refusal: u64, place: u64) {
+pub fn refused(
+    chart: &Chart,
+    of: Option<(usize, f64)>,
+    lent: TwoNumbers,
+    refusal: u64,
+    place: u64,
+) {
     let mut memory = lent.clone();
     match of {
         None => {

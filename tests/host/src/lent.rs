@@ -22,7 +22,7 @@ impl Element for u8 {
     }
 }
 
-// A number is below 2^14, or 65,535 for a NonHit's group.
+// A number is below 2^14, or 65,535 for none.
 impl Element for u16 {
     fn sentinel(slice: usize, place: usize) -> Self {
         0x8000 | ((place * 7 + slice * 4099) % 0x7FFF) as u16
@@ -134,6 +134,59 @@ impl Work {
 
     pub fn bits(&self) -> [Vec<u64>; 2] {
         [self.work.bits(), self.scratch.bits()]
+    }
+}
+
+/// The counts of the four slices of a call that gives an object two answers: these, work, scratch.
+pub type FourSizes = [usize; 4];
+
+/// The fewest places for n objects.
+pub fn exact_four(n: usize) -> FourSizes {
+    [n, n, 8 * n, n]
+}
+
+/// Some more.
+pub fn roomy_four(n: usize) -> FourSizes {
+    [n + 3, n + 1, 8 * n + 5, n + 2]
+}
+
+/// The four slices, where both answers are numbers; record is lent the last two.
+#[derive(Clone)]
+pub struct TwoNumbers {
+    pub numbers: [Room<u16>; 2],
+    pub working: Work,
+}
+
+impl TwoNumbers {
+    /// Slices of these counts, with guards for what they lack for n objects.
+    pub fn of_sizes([first, second, work, scratch]: FourSizes, n: usize) -> Self {
+        TwoNumbers {
+            numbers: [Room::new(0, first, n), Room::new(1, second, n)],
+            working: Work::new([work, scratch], n),
+        }
+    }
+
+    /// What every place holds.
+    pub fn bits(&self) -> [Vec<u64>; 4] {
+        let [first, second] = self.numbers.each_ref().map(|room| room.bits());
+        let [work, scratch] = self.working.bits();
+        [first, second, work, scratch]
+    }
+
+    /// The memory after an accepted call on n objects that fills no answers.
+    pub fn cleared(&self, n: usize) -> Self {
+        let mut after = self.clone();
+        after.working.clear(n);
+        after
+    }
+
+    /// The memory after an accepted call that fills these.
+    pub fn filled(&self, answers: &[Vec<u16>; 2]) -> Self {
+        let mut after = self.cleared(answers[0].len());
+        for (room, values) in after.numbers.iter_mut().zip(answers) {
+            room.put(values);
+        }
+        after
     }
 }
 

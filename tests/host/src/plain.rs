@@ -1,6 +1,6 @@
 //! The scope's encoder, sentence by sentence over lists of lists. It knows nothing of the library.
 
-const NON_HIT: u8 = 2;
+pub const NON_HIT: u8 = 2;
 
 /// The six numbers of every object, and how many hit patterns there are.
 #[derive(Debug, PartialEq, Eq)]
@@ -20,7 +20,7 @@ type Pattern = Vec<Streak>;
 type HitPattern = Vec<Pattern>;
 
 /// Whether each object continues the open streak: it is not the first, and the note numbered note_idx - 1 has its kind.
-fn continues(kinds: &[u8]) -> Vec<bool> {
+pub fn continues(kinds: &[u8]) -> Vec<bool> {
     let mut notes: Vec<u8> = Vec::new();
     let mut answers = Vec::new();
     for &kind in kinds {

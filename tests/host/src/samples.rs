@@ -75,6 +75,20 @@ pub fn rounds(period: usize) -> Vec<u8> {
     streaks.collect::<Vec<_>>().concat()
 }
 
+/// All strings over d, k, n of this length.
+pub fn strings(length: u32) -> impl Iterator<Item = Vec<u8>> {
+    (0..3_usize.pow(length)).map(move |number| {
+        let digit = |place| (number / 3_usize.pow(place) % 3) as u8;
+        (0..length).map(digit).collect()
+    })
+}
+
+/// The same letters over and over, up to n objects.
+pub fn repeated(text: &str, n: usize) -> Chart {
+    let motif = Chart::of_text(text).kind;
+    Chart::of_kinds(motif.into_iter().cycle().take(n).collect())
+}
+
 /// A chart of n objects with many coupled runs, long streaks and NonHits at seams.
 pub fn biased_chart(random: &mut Xorshift, n: usize) -> Chart {
     let palette: &[&[usize]] = &[&[1, 2], &[1, 2, 3], &[1, 3, 4, 7], &[2, 5], &[1, 2, 12]];

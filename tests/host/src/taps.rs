@@ -8,6 +8,7 @@ use crate::plain_taps::{self, Told};
 use crate::samples::Xorshift;
 use dresserduck::{calls, Settings};
 
+pub use crate::lent::{exact_four as exact_sizes, roomy_four as roomy_sizes, FourSizes as Sizes};
 pub use dresserduck::calls::Tapped;
 
 /// A chart with a range for each delta: the chart's deltas are the lowest.
@@ -100,25 +101,12 @@ impl fmt::Display for TapChart {
     }
 }
 
-/// The four slices that are lent.
+/// The four slices that are lent; their counts stand in the order in which they do here.
 #[derive(Clone)]
 pub struct Memory {
     pub pair: Room<u8>,
     pub group: Room<u16>,
     working: Work,
-}
-
-/// How many places each has: pairs, groups, work, scratch.
-pub type Sizes = [usize; 4];
-
-/// The fewest places for n objects.
-pub fn exact_sizes(n: usize) -> Sizes {
-    [n, n, 8 * n, n]
-}
-
-/// Some more.
-pub fn roomy_sizes(n: usize) -> Sizes {
-    [n + 3, n + 1, 8 * n + 5, n + 2]
 }
 
 impl Memory {

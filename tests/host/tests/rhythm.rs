@@ -4,8 +4,9 @@ use host_tests::chart::Chart;
 use host_tests::check::bad_charts;
 use host_tests::check_rhythm::{check_record, check_rhythm, exact, refused, roomy};
 use host_tests::faults::with_bad_settings;
+use host_tests::lent::TwoNumbers;
 use host_tests::plain_rhythm::{Groups, NO_GROUP};
-use host_tests::rhythm::{record, rhythm, Memory};
+use host_tests::rhythm::{record, rhythm};
 use host_tests::samples::{rhythmic_chart, Xorshift};
 use host_tests::LARGEST_CHART;
 
@@ -34,7 +35,7 @@ fn groups_of_the_scopes_examples() {
     for (deltas, want) in cases {
         let mut memory = exact(deltas.len());
         rhythm(&notes(deltas), &mut memory);
-        assert_eq!(memory.group.lent(), want, "{deltas:?}");
+        assert_eq!(memory.numbers[0].lent(), want, "{deltas:?}");
     }
 }
 
@@ -96,8 +97,9 @@ fn a_chart_without_notes_has_no_groups() {
     let mut memory = exact(2);
     let got = rhythm(&chart, &mut memory);
     assert_eq!((got.refusal, got.groups, got.pattern_groups), (0, 0, 0));
-    assert_eq!(memory.group.lent(), [NO_GROUP; 2]);
-    assert_eq!(memory.pattern.lent(), [NO_GROUP; 2]);
+    for numbers in memory.numbers {
+        assert_eq!(numbers.lent(), [NO_GROUP; 2]);
+    }
     let empty = Chart::of_text("");
     assert_eq!(rhythm(&empty, &mut exact(0)).refusal, 0);
     refused(&chart, Some((0, 50.0)), roomy(2), 9, 0);
@@ -144,7 +146,8 @@ fn earlier_refusals_come_before_8_and_9() {
         for settings in with_bad_settings() {
             refused(&huge.under(settings), of, exact(LARGEST_CHART + 1), 1, 0);
             for sizes in [[5, 5, 39, 5], [5, 5, 40, 4]] {
-                refused(&good.under(settings), of, Memory::of_sizes(sizes), 3, 0);
+                let lent = TwoNumbers::of_sizes(sizes, 5);
+                refused(&good.under(settings), of, lent, 3, 0);
             }
         }
         for (number, place, chart) in bad_charts() {
@@ -153,7 +156,8 @@ fn earlier_refusals_come_before_8_and_9() {
     }
     for settings in with_bad_settings() {
         for sizes in [[4, 5, 40, 5], [5, 4, 40, 5]] {
-            refused(&good.under(settings), None, Memory::of_sizes(sizes), 3, 0);
+            let lent = TwoNumbers::of_sizes(sizes, 5);
+            refused(&good.under(settings), None, lent, 3, 0);
         }
     }
 }

@@ -1,10 +1,11 @@
 //! Two charts with a common tail have the same rhythm groups from the rhythm landmarks of the scope on: demand 3 through the call
 //! rhythm, under one margin.
 
+use host_tests::check_rhythm::exact;
 use host_tests::faults::TINY;
 use host_tests::pairs::{random_pair, Pair};
 use host_tests::plain_rhythm;
-use host_tests::rhythm::{rhythm, Memory};
+use host_tests::rhythm::rhythm;
 use host_tests::samples::Xorshift;
 
 use dresserduck::Settings;
@@ -46,11 +47,11 @@ fn landmarks(pair: &Pair, notes: &[usize]) -> Vec<usize> {
 fn groups_from(pair: &Pair, chart: usize, from: usize) -> Vec<Vec<usize>> {
     let chart = &pair.charts[chart];
     let (n, before) = (chart.size(), chart.size() - pair.tail);
-    let mut memory = Memory::of_sizes([n, n, 8 * n, n]);
+    let mut memory = exact(n);
     let got = rhythm(chart, &mut memory);
     assert_eq!((got.refusal, got.place), (0, 0), "{chart}");
     let members = |number: u64| {
-        let of = |&i: &usize| u64::from(memory.group.lent()[i]) == number;
+        let of = |&i: &usize| u64::from(memory.numbers[0].lent()[i]) == number;
         (0..n).filter(of).collect::<Vec<usize>>()
     };
     let late = (0..got.groups)

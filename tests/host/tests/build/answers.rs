@@ -6,9 +6,10 @@ use crate::{builds, good, refuses};
 use host_tests::build::{build, Memory, Raw};
 use host_tests::chart::Chart;
 use host_tests::check;
+use host_tests::check_rhythm::exact;
 use host_tests::colour::{self, colour, stretch};
 use host_tests::plain_build::{self, quotients};
-use host_tests::rhythm::{self, record, rhythm};
+use host_tests::rhythm::{record, rhythm};
 use host_tests::samples::{raw_chart, Xorshift};
 use host_tests::LARGEST_RAW_CHART;
 
@@ -104,7 +105,7 @@ fn samples_are_built_as_the_plain_version_builds_them() {
 fn refusals_of_others(chart: &Chart) -> [u64; 4] {
     let n = chart.size();
     let mut values = colour::Memory::of_sizes([n, 8 * n, n]);
-    let mut groups = rhythm::Memory::of_sizes([n, n, 8 * n, n]);
+    let mut groups = exact(n);
     check::accepted(chart);
     [
         colour(chart, &mut values).refusal,

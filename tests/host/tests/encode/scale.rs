@@ -4,16 +4,8 @@ use host_tests::chart::Chart;
 use host_tests::check::{accepted, accepted_with};
 use host_tests::lent::exact_sizes;
 use host_tests::plain::{self, Answers};
-use host_tests::samples::{biased_chart, scatter, Xorshift};
+use host_tests::samples::{biased_chart, repeated, scatter, strings, Xorshift};
 use host_tests::LARGEST_CHART;
-
-/// All strings over d, k, n of this length.
-fn strings(length: u32) -> impl Iterator<Item = Vec<u8>> {
-    (0..3_usize.pow(length)).map(move |number| {
-        let digit = |place| (number / 3_usize.pow(place) % 3) as u8;
-        (0..length).map(digit).collect()
-    })
-}
 
 #[test]
 fn every_chart_up_to_seven_objects() {
@@ -90,26 +82,20 @@ fn random_largest_charts() {
     }
 }
 
-/// The same letters over and over.
-fn largest_of(text: &str) -> Chart {
-    let motif = Chart::of_text(text).kind;
-    Chart::of_kinds(motif.into_iter().cycle().take(LARGEST_CHART).collect())
-}
-
 #[test]
 fn repeated_largest_charts() {
     let texts = [
         "d", "k", "n", "dn", "nd", "dkk", "dkkddk", "dkknn", "dnk", "ddkdkk", "dkdnkddd",
     ];
     for text in texts {
-        accepted(&largest_of(text));
+        accepted(&repeated(text, LARGEST_CHART));
     }
 }
 
 /// A streak for each object, so that numbers and places are as large as they get.
 #[test]
 fn largest_numbers() {
-    let answers = accepted(&largest_of("dk"));
+    let answers = accepted(&repeated("dk", LARGEST_CHART));
     let last = answers.numbers.map(|column| column[LARGEST_CHART - 1]);
     assert_eq!(last, [16_383, 16_383, 0, 0, 0], "dk over and over");
 }

@@ -8,7 +8,8 @@ mod looked_at;
 mod order;
 
 use host_tests::chart::Chart;
-use host_tests::rhythm::{rhythm, Memory};
+use host_tests::check_rhythm::exact;
+use host_tests::rhythm::rhythm;
 use host_tests::taps::Range;
 
 /// One delta and no other.
@@ -18,9 +19,8 @@ fn known(delta: f64) -> Range {
 
 /// What the call rhythm answers: how many groups, and each object's.
 fn grouped(chart: &Chart) -> (u64, Vec<u16>) {
-    let n = chart.size();
-    let mut memory = Memory::of_sizes([n, n, 8 * n, n]);
+    let mut memory = exact(chart.size());
     let got = rhythm(chart, &mut memory);
     assert_eq!((got.refusal, got.place), (0, 0), "{chart}");
-    (got.groups, memory.group.lent().to_vec())
+    (got.groups, memory.numbers[0].lent().to_vec())
 }
