@@ -142,10 +142,10 @@ fn the_header_declares_what_is_exported() {
     let (exported_records, exported_calls) = in_source(&exporting());
     assert_eq!(records, exported_records);
     assert_eq!(calls, exported_calls);
-    assert_eq!((records.len(), calls.len()), (8, 7), "{:?}", calls.keys());
+    assert_eq!((records.len(), calls.len()), (9, 8), "{:?}", calls.keys());
     let fields: usize = records.values().map(Vec::len).sum();
     let arguments: usize = calls.values().map(|call| call.len() - 1).sum();
-    assert_eq!((fields, arguments), (35, 121), "fields and arguments");
+    assert_eq!((fields, arguments), (37, 138), "fields and arguments");
 }
 
 /// The names in the header's enums without what all begin with, and their numbers.
@@ -170,6 +170,7 @@ fn the_headers_numbers_are_those_of_the_rust_crate() {
         ("CENTER", dresserduck::CENTER.into()),
         ("RIM", dresserduck::RIM.into()),
         ("NON_HIT", dresserduck::NON_HIT.into()),
+        ("NO_TURN", dresserduck::NO_TURN.into()),
         ("NO_GROUP", dresserduck::NO_GROUP.into()),
         ("NEAR", PairClass::Near.number().into()),
         ("RISE", PairClass::Rise.number().into()),
