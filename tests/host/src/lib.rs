@@ -21,11 +21,13 @@ pub mod plain_rhythm;
 pub mod plain_taps;
 #[path = "../../plain_tenths.rs"]
 pub mod plain_tenths;
+pub mod plain_turns;
 pub mod rhythm;
 pub mod samples;
 pub mod sets;
-pub mod six;
+pub mod seven;
 pub mod taps;
+pub mod turns;
 #[path = "../../xorshift.rs"]
 mod xorshift;
 

@@ -3,7 +3,7 @@
 use crate::chart::Chart;
 use crate::faults::{BOUND, TINY};
 use crate::samples::{biased_chart, ranges_above, rounds, Xorshift};
-use crate::six::Asked;
+use crate::seven::Asked;
 use dresserduck::Settings;
 
 const FIVE: f64 = Settings::DEFAULT.margin;

@@ -47,24 +47,25 @@ macro_rules! asked {
     }};
 }
 
-/// All six under the default settings, with these counts of the chart's slices and of answer, work and scratch slices. For taps the
+/// All seven under the default settings, with these counts of the chart's slices and of answer, work and scratch slices. For taps the
 /// count of the deltas is that of the lowest and that of the highest.
-fn all_six(at: &Places, inputs: [usize; 4], lent: [usize; 3]) -> [(u64, u64); 6] {
-    all_six_under(Settings::DEFAULT, at, inputs, lent)
+fn all_seven(at: &Places, inputs: [usize; 4], lent: [usize; 3]) -> [(u64, u64); 7] {
+    all_seven_under(Settings::DEFAULT, at, inputs, lent)
 }
 
-fn all_six_under(
+fn all_seven_under(
     settings: Settings,
     at: &Places,
     inputs: [usize; 4],
     [n, work, scratch]: [usize; 3],
-) -> [(u64, u64); 6] {
+) -> [(u64, u64); 7] {
     let [kind, start, delta, ratio] = inputs;
     let [a, b, c, d, e] = at.numbers;
     let ([i, p], v, w, s) = (at.bytes, at.value, at.work, at.scratch);
     [
         asked!(dresserduck_encode(at, kind, [start, delta, ratio], settings) =>
             (a, n), (b, n), (c, n), (d, n), (e, n), (i, n), (w, work), (s, scratch)),
+        asked!(dresserduck_turns(at, kind, [start, delta, ratio], settings) => (a, n), (b, n), (w, work), (s, scratch)),
         asked!(dresserduck_colour(at, kind, [start, delta, ratio], settings) => (v, n), (w, work), (s, scratch)),
         asked!(dresserduck_stretch(at, kind, [start, delta, ratio], settings, 0, 1) => (v, n), (w, work), (s, scratch)),
         asked!(dresserduck_rhythm(at, kind, [start, delta, ratio], settings) => (a, n), (b, n), (w, work), (s, scratch)),
@@ -75,10 +76,10 @@ fn all_six_under(
 
 #[test]
 fn a_chart_without_objects_needs_no_memory() {
-    let answers = all_six(&Places::nowhere(), [0; 4], [0; 3]);
+    let answers = all_seven(&Places::nowhere(), [0; 4], [0; 3]);
     // no stretch and no group is in such a chart
     let [done, none] = [(0, 0), (9, 0)];
-    assert_eq!(answers, [done, done, none, done, done, none]);
+    assert_eq!(answers, [done, done, done, none, done, done, none]);
 }
 
 /// Among them some that are 3 or 0 to arithmetic of 16 or 32 bits.
@@ -88,13 +89,13 @@ const TOO_MANY: [usize; 6] = [16_385, 65_539, (1 << 32) + 3, 1 << 32, 1 << 63, u
 fn counts_beyond_memory_are_refused_by_themselves() {
     let nowhere = Places::nowhere();
     for count in TOO_MANY {
-        let refused = all_six(&nowhere, [count; 4], [count; 3]);
-        assert_eq!(refused, [(1, 0); 6], "{count} objects");
+        let refused = all_seven(&nowhere, [count; 4], [count; 3]);
+        assert_eq!(refused, [(1, 0); 7], "{count} objects");
         for input in 1..4 {
             let mut inputs = [3; 4];
             inputs[input] = count;
-            let refused = all_six(&nowhere, inputs, [3, 24, 3]);
-            assert_eq!(refused, [(2, 0); 6], "{inputs:?}");
+            let refused = all_seven(&nowhere, inputs, [3, 24, 3]);
+            assert_eq!(refused, [(2, 0); 7], "{inputs:?}");
         }
     }
 }
@@ -102,8 +103,8 @@ fn counts_beyond_memory_are_refused_by_themselves() {
 #[test]
 fn work_slices_too_short_are_refused_by_their_counts() {
     for lent in [[3, 23, 3], [3, 24, 2], [3, 0, 3], [3, 24, 0]] {
-        let refused = all_six(&Places::nowhere(), [3; 4], lent);
-        assert_eq!(refused, [(3, 0); 6], "{lent:?}");
+        let refused = all_seven(&Places::nowhere(), [3; 4], lent);
+        assert_eq!(refused, [(3, 0); 7], "{lent:?}");
     }
 }
 
@@ -113,8 +114,8 @@ fn settings_are_refused_by_themselves() {
     for settings in some_bad_settings() {
         for n in [0, 3, 16_384] {
             let lent = [n, 8 * n, n];
-            let refused = all_six_under(settings, &Places::nowhere(), [n; 4], lent);
-            assert_eq!(refused, [(16, 0); 6], "{settings:?}, {n} objects");
+            let refused = all_seven_under(settings, &Places::nowhere(), [n; 4], lent);
+            assert_eq!(refused, [(16, 0); 7], "{settings:?}, {n} objects");
         }
     }
 }
@@ -165,8 +166,8 @@ fn lent_counts_may_be_larger_than_32_bits() {
         [usize::MAX; 3],
     ] {
         let mut memory = Memory::new();
-        let answers = all_six(&memory.places(), [3; 4], lent);
-        assert_eq!(answers, [(0, 0); 6], "{lent:?}");
+        let answers = all_seven(&memory.places(), [3; 4], lent);
+        assert_eq!(answers, [(0, 0); 7], "{lent:?}");
         let past = memory.numbers.map(|slice| slice[3]);
         assert_eq!((past, memory.work[24]), ([99; 5], 99), "{lent:?}");
         assert_eq!(
@@ -181,10 +182,10 @@ fn lent_counts_may_be_larger_than_32_bits() {
 #[test]
 fn answer_slices_too_short_are_refused() {
     let mut memory = Memory::new();
-    let answers = all_six(&memory.places(), [3; 4], [2, 24, 3]);
+    let answers = all_seven(&memory.places(), [3; 4], [2, 24, 3]);
     // record has none
     let (short, done) = ((3, 0), (0, 0));
-    assert_eq!(answers, [short, short, short, short, short, done]);
+    assert_eq!(answers, [short, short, short, short, short, short, done]);
     assert_eq!(memory.numbers, [[99; 4]; 5]);
     assert_eq!((memory.bytes, memory.floats[0]), ([[99; 4]; 2], [99.0; 4]));
 }

@@ -11,6 +11,7 @@ use host_tests::colour::{self, colour, stretch};
 use host_tests::plain_build::{self, quotients};
 use host_tests::rhythm::{record, rhythm};
 use host_tests::samples::{raw_chart, Xorshift};
+use host_tests::turns;
 use host_tests::LARGEST_RAW_CHART;
 
 #[test]
@@ -101,12 +102,13 @@ fn samples_are_built_as_the_plain_version_builds_them() {
     assert!(enough, "{counts:?}");
 }
 
-/// Encode accepts; the refusals of colour, stretch, rhythm and record, each on the whole chart or its first group.
+/// Encode and turns accept; the refusals of colour, stretch, rhythm and record, each on the whole chart or its first group.
 fn refusals_of_others(chart: &Chart) -> [u64; 4] {
     let n = chart.size();
     let mut values = colour::Memory::of_sizes([n, 8 * n, n]);
     let mut groups = exact(n);
     check::accepted(chart);
+    turns::accepted(chart);
     [
         colour(chart, &mut values).refusal,
         stretch(chart, 0, n, &mut values).refusal,

@@ -1,16 +1,16 @@
-//! All six calls under random sets, on charts on which the numbers decide: what the plain versions answer.
+//! All seven calls under random sets, on charts on which the numbers decide: what the plain versions answer.
 
 use std::collections::BTreeMap;
 
 use host_tests::samples::Xorshift;
 use host_tests::sets::{drawn_chart, drawn_settings, LIMITS, MARGINS, THRESHOLDS, TOLERANCES};
-use host_tests::six::{accepted, Asked, Told, CALLS};
+use host_tests::seven::{accepted, Asked, Told, CALLS};
 
 use dresserduck::Settings;
 
 const NUMBERS: [&str; 4] = ["margin", "search limit", "threshold", "tolerance"];
 
-/// The calls whose answers each of them decides.
+/// The calls whose answers each of them decides, and no others: none decides what turns answers.
 const DECIDED: [&[&str]; 4] = [
     &["rhythm", "taps", "record"],
     &["encode", "colour", "stretch"],
@@ -59,12 +59,12 @@ fn with_default(settings: Settings, number: usize) -> Settings {
 /// How often a number decided: with the default in its place something else was answered.
 #[derive(Default)]
 struct Counts {
-    by_call: [[usize; 6]; 4],
+    by_call: [[usize; 7]; 4],
     by_value: [BTreeMap<u64, usize>; 4],
 }
 
 impl Counts {
-    fn add(&mut self, number: usize, value: u64, unlike: [bool; 6]) {
+    fn add(&mut self, number: usize, value: u64, unlike: [bool; 7]) {
         for (count, is_other) in self.by_call[number].iter_mut().zip(unlike) {
             *count += usize::from(is_other);
         }
@@ -72,15 +72,16 @@ impl Counts {
         *self.by_value[number].entry(value).or_default() += usize::from(any);
     }
 
-    /// The number decided often what each of these calls answers, and so did each value of it.
+    /// The number decided often what each of these calls answers, never what another does, and so did each value of it.
     fn check(&self, number: usize, calls: &[&str], values: &[u64]) {
         let name = NUMBERS[number];
         for (call, count) in CALLS.iter().zip(self.by_call[number]) {
             println!("{name}: {count} answers of {call}");
-            assert!(
-                count >= 350 || !calls.contains(call),
-                "{name}: {count} of {call}"
-            );
+            let is_right = match calls.contains(call) {
+                true => count >= 350,
+                false => count == 0,
+            };
+            assert!(is_right, "{name}: {count} of {call}");
         }
         for value in values {
             let count = self.by_value[number].get(value).copied().unwrap_or(0);

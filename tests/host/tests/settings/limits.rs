@@ -3,7 +3,7 @@
 use host_tests::faults::{bad_settings, settings_at_bounds, some_bad_settings};
 use host_tests::samples::{biased_chart, rhythmic_chart, rounds, Xorshift};
 use host_tests::sets::{drawn_chart, drawn_settings};
-use host_tests::six::{accepted, refused, Asked};
+use host_tests::seven::{accepted, refused, Asked};
 use host_tests::taps::TapChart;
 use host_tests::LARGEST_CHART;
 

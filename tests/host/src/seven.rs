@@ -1,12 +1,13 @@
-//! All six calls on one chart: what each answers, which is what its plain version does, or that each refuses.
+//! All seven calls on one chart: what each answers, which is what its plain version does, or that each refuses.
 
 use crate::chart::Chart;
-use crate::lent::exact_sizes;
+use crate::lent::{exact_four, exact_sizes};
 use crate::plain::Answers;
 use crate::plain_rhythm::Groups;
+use crate::plain_turns::Turns;
 use crate::rhythm::Recorded;
 use crate::taps::{self, TapChart};
-use crate::{check, check_colour, check_rhythm};
+use crate::{check, check_colour, check_rhythm, turns};
 
 /// A chart, for taps with a range about each delta, and what stretch and record are asked.
 pub struct Asked {
@@ -16,12 +17,15 @@ pub struct Asked {
 }
 
 /// The calls, as their answers stand in `Told`.
-pub const CALLS: [&str; 6] = ["encode", "colour", "stretch", "rhythm", "taps", "record"];
+pub const CALLS: [&str; 7] = [
+    "encode", "turns", "colour", "stretch", "rhythm", "taps", "record",
+];
 
 /// What the calls answered, floats by their bits.
 #[derive(Debug, PartialEq)]
 pub struct Told {
     pub encoded: Answers,
+    turns: Turns,
     values: Vec<u64>,
     mean: Option<u64>,
     groups: [Vec<u16>; 2],
@@ -32,9 +36,10 @@ pub struct Told {
 
 impl Told {
     /// Which calls answered something else.
-    pub fn unlike(&self, other: &Told) -> [bool; 6] {
+    pub fn unlike(&self, other: &Told) -> [bool; 7] {
         [
             self.encoded != other.encoded,
+            self.turns != other.turns,
             self.values != other.values,
             self.mean != other.mean,
             self.groups != other.groups,
@@ -59,6 +64,7 @@ fn records(chart: &Chart, groups: &Groups, window: f64) -> Vec<Recorded> {
 pub fn accepted(asked: &Asked) -> Told {
     let chart = &asked.chart.low;
     let encoded = check::accepted(chart);
+    let turns = turns::accepted(chart);
     let values = check_colour::check_values(chart);
     let (a, b) = asked.bounds;
     let mean = match a < b {
@@ -70,6 +76,7 @@ pub fn accepted(asked: &Asked) -> Told {
     let sure = taps::accepted(&asked.chart);
     Told {
         encoded,
+        turns,
         values: values.iter().map(|x| x.to_bits()).collect(),
         mean: mean.map(f64::to_bits),
         groups: groups.numbers(),
@@ -85,6 +92,7 @@ pub fn accepted(asked: &Asked) -> Told {
 pub fn refused(chart: &TapChart, refusal: u64) {
     let (low, n) = (&chart.low, chart.size());
     check::refused(low, exact_sizes(n), refusal, 0);
+    turns::refused(low, exact_four(n), refusal, 0);
     for bounds in [None, Some((0, n)), Some((1, 0))] {
         check_colour::refused(low, bounds, check_colour::roomy(n), refusal, 0);
     }
