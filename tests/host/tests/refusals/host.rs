@@ -1,9 +1,8 @@
 //! Refusals 1, 2 and 3: how long the slices are.
 
+use crate::{accepted, refused, roomy, Encode, OnChart, Turns};
 use host_tests::chart::Chart;
-use host_tests::check::{accepted, accepted_with, refused};
-use host_tests::lent::exact_sizes;
-use host_tests::{plain, LARGEST_CHART};
+use host_tests::LARGEST_CHART;
 
 /// The three input slices beside the kinds.
 fn lists(chart: &mut Chart) -> [&mut Vec<f64>; 3] {
@@ -23,7 +22,7 @@ fn largest_chart() {
         65_536,
         65_537,
     ] {
-        refused(&Chart::of_size(n), exact_sizes(n), 1, 0);
+        refused(&Chart::of_size(n), n, 1, 0);
     }
 }
 
@@ -33,10 +32,10 @@ fn one_input_of_another_length() {
         for which in 0..3 {
             let mut short = Chart::of_size(n);
             lists(&mut short)[which].pop();
-            refused(&short, exact_sizes(n), 2, 0);
+            refused(&short, n, 2, 0);
             let mut long = Chart::of_size(n);
             lists(&mut long)[which].push(1.0);
-            refused(&long, exact_sizes(n), 2, 0);
+            refused(&long, n, 2, 0);
         }
     }
 }
@@ -47,12 +46,12 @@ fn kinds_of_another_length() {
     for n in [1, 2, 9, LARGEST_CHART] {
         let mut short = Chart::of_size(n);
         short.kind.pop();
-        refused(&short, exact_sizes(n), 2, 0);
+        refused(&short, n, 2, 0);
     }
     for n in [0, 1, 2, 9, LARGEST_CHART - 1] {
         let mut long = Chart::of_size(n);
         long.kind.push(0);
-        refused(&long, exact_sizes(n + 1), 2, 0);
+        refused(&long, n + 1, 2, 0);
     }
 }
 
@@ -64,7 +63,7 @@ fn two_inputs_of_other_lengths() {
             let mut chart = Chart::of_size(9);
             lists(&mut chart)[shorter].pop();
             lists(&mut chart)[longer].push(1.0);
-            refused(&chart, exact_sizes(9), 2, 0);
+            refused(&chart, 9, 2, 0);
         }
     }
 }
@@ -75,28 +74,42 @@ fn values_without_kinds() {
     for which in 0..3 {
         let mut chart = Chart::of_size(0);
         lists(&mut chart)[which].push(1.0);
-        refused(&chart, exact_sizes(0), 2, 0);
+        refused(&chart, 0, 2, 0);
+    }
+}
+
+/// Each slice of the call in turn.
+fn each_too_short<C: OnChart>(n: usize) {
+    let chart = Chart::of_size(n);
+    for slice in 0..C::exact(n).as_mut().len() {
+        let mut sizes = C::exact(n);
+        sizes.as_mut()[slice] -= 1;
+        C::refused(&chart, sizes, 3, 0);
+        // room in the others does not help
+        let mut others = roomy::<C>(n, 70);
+        others.as_mut()[slice] = sizes.as_mut()[slice];
+        C::refused(&chart, others, 3, 0);
+        sizes.as_mut()[slice] = 0;
+        C::refused(&chart, sizes, 3, 0);
     }
 }
 
 #[test]
 fn one_lent_slice_too_short() {
     for n in [1, 2, 9, LARGEST_CHART] {
-        let chart = Chart::of_size(n);
-        accepted(&chart);
-        for slice in 0..8 {
-            let mut sizes = exact_sizes(n);
-            sizes[slice] -= 1;
-            refused(&chart, sizes, 3, 0);
-            // room in the others does not help
-            let mut roomy = exact_sizes(n).map(|count| count + 70);
-            roomy[slice] = sizes[slice];
-            refused(&chart, roomy, 3, 0);
-            sizes[slice] = 0;
-            refused(&chart, sizes, 3, 0);
-        }
-        refused(&chart, exact_sizes(n).map(|count| count - 1), 3, 0);
+        accepted(&Chart::of_size(n));
+        each_too_short::<Encode>(n);
+        each_too_short::<Turns>(n);
+        refused(&Chart::of_size(n), n - 1, 3, 0);
     }
+}
+
+/// The call's work slice has this count.
+fn refused_for_work<C: OnChart>(chart: &Chart, work: usize) {
+    let mut sizes = C::exact(chart.size());
+    let slices = sizes.as_mut().len();
+    sizes.as_mut()[slices - 2] = work;
+    C::refused(chart, sizes, 3, 0);
 }
 
 /// Counts that are long enough only to arithmetic of 16 bits: 8n is 65,536 for n = 8,192.
@@ -105,22 +118,26 @@ fn work_of_a_wrapped_count() {
     let n = 8_192;
     let chart = Chart::of_size(n);
     for work in [0, 1, n, 7 * n, 8 * n - 1] {
-        let mut sizes = exact_sizes(n);
-        sizes[6] = work;
-        refused(&chart, sizes, 3, 0);
+        refused_for_work::<Encode>(&chart, work);
+        refused_for_work::<Turns>(&chart, work);
+    }
+}
+
+/// In all slices of the call, and in each in turn.
+fn accepted_with_room<C: OnChart>(n: usize) {
+    let chart = Chart::of_size(n);
+    C::accepted(&chart, roomy::<C>(n, 11));
+    for slice in 0..C::exact(n).as_mut().len() {
+        let mut sizes = C::exact(n);
+        sizes.as_mut()[slice] += 1;
+        C::accepted(&chart, sizes);
     }
 }
 
 #[test]
 fn lent_slices_with_room() {
     for n in [0, 1, 2, 9, LARGEST_CHART] {
-        let chart = Chart::of_size(n);
-        let answers = plain::encode(&chart.kind, chart.settings.search_limit);
-        accepted_with(&chart, exact_sizes(n).map(|count| count + 11), &answers);
-        for slice in 0..8 {
-            let mut sizes = exact_sizes(n);
-            sizes[slice] += 1;
-            accepted_with(&chart, sizes, &answers);
-        }
+        accepted_with_room::<Encode>(n);
+        accepted_with_room::<Turns>(n);
     }
 }

@@ -1,9 +1,8 @@
 //! Refusals 4 to 7: every field on both sides of each limit, in objects first, inside and last.
 
+use crate::{accepted, refused};
 use host_tests::chart::Chart;
-use host_tests::check::{accepted, refused};
 use host_tests::faults::{bad_values, good_values, Value};
-use host_tests::lent::exact_sizes;
 use host_tests::LARGEST_CHART;
 
 /// A chart with one value changed.
@@ -44,7 +43,7 @@ fn values_outside_the_limits() {
         for n in [1, 2, 9] {
             for object in objects(n) {
                 let chart = changed(n, object, value);
-                refused(&chart, exact_sizes(n), value.refusal(), object);
+                refused(&chart, n, value.refusal(), object);
             }
         }
     }
@@ -60,12 +59,7 @@ fn every_object_is_looked_at() {
         Value::Ratio(0.0),
     ] {
         for object in 0..n {
-            refused(
-                &changed(n, object, value),
-                exact_sizes(n),
-                value.refusal(),
-                object,
-            );
+            refused(&changed(n, object, value), n, value.refusal(), object);
         }
     }
 }
@@ -89,12 +83,7 @@ fn largest_chart_at_the_limits() {
         Value::Ratio(beyond),
     ] {
         for object in objects(n) {
-            refused(
-                &changed(n, object, value),
-                exact_sizes(n),
-                value.refusal(),
-                object,
-            );
+            refused(&changed(n, object, value), n, value.refusal(), object);
         }
     }
 }

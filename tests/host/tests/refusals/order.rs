@@ -1,9 +1,8 @@
 //! Which refusal goes first: of the whole chart 1 to 3, then 16, and then the first object that has one of 4 to 7.
 
+use crate::{accepted, refused, Encode, OnChart, Turns};
 use host_tests::chart::Chart;
-use host_tests::check::{accepted, refused};
 use host_tests::faults::{some_bad, some_bad_settings};
-use host_tests::lent::{exact_sizes, Sizes};
 use host_tests::order::{each_alone, every_pair, first_of_many, of_two_objects, Input};
 use host_tests::LARGEST_CHART;
 
@@ -13,20 +12,20 @@ const OF_OBJECTS: [u64; 4] = [4, 5, 6, 7];
 /// The object that is spoiled, not 0, so that a wrong place shows.
 const OBJECT: usize = 3;
 
-/// A chart for encode, and how much it is lent.
-struct Encode {
+/// A chart for the call, and how much it is lent.
+struct Lent<C: OnChart> {
     chart: Chart,
-    sizes: Sizes,
+    sizes: C::Sizes,
 }
 
-impl Input for Encode {
+impl<C: OnChart> Input for Lent<C> {
     const ORDER: &'static [u64] = &[1, 2, 3, 16, 4, 5, 6, 7];
 
     fn new(too_many: bool) -> Self {
         let n = if too_many { LARGEST_CHART + 1 } else { 9 };
-        Encode {
+        Lent {
             chart: Chart::of_size(n),
-            sizes: exact_sizes(n),
+            sizes: C::exact(n),
         }
     }
 
@@ -34,7 +33,7 @@ impl Input for Encode {
         match refusal {
             1 => 1,
             2 => 6,
-            3 => 8,
+            3 => C::exact(0).as_mut().len(),
             16 => some_bad_settings().len(),
             _ => some_bad(refusal).len(),
         }
@@ -56,7 +55,7 @@ impl Input for Encode {
                 };
                 list.resize(length, 1.0);
             }
-            3 => self.sizes[way] -= 1,
+            3 => self.sizes.as_mut()[way] -= 1,
             16 => chart.settings = some_bad_settings()[way],
             _ => some_bad(refusal)[way].put(chart, OBJECT),
         }
@@ -65,25 +64,28 @@ impl Input for Encode {
     fn refused(&self, refusal: u64) {
         let of_object = OF_OBJECTS.contains(&refusal);
         let place = if of_object { OBJECT } else { 0 };
-        refused(&self.chart, self.sizes, refusal, place);
+        C::refused(&self.chart, self.sizes, refusal, place);
     }
 }
 
 #[test]
 fn each_refusal_alone() {
-    accepted(&Encode::new(false).chart);
-    each_alone::<Encode>();
+    accepted(&Lent::<Turns>::new(false).chart);
+    each_alone::<Lent<Encode>>();
+    each_alone::<Lent<Turns>>();
 }
 
 /// Every pair can apply together, as the object refusals read different fields of one object.
 #[test]
 fn every_pair_in_order() {
-    assert_eq!(every_pair::<Encode>(), 28, "pairs of eight");
+    let pairs = [every_pair::<Lent<Encode>>(), every_pair::<Lent<Turns>>()];
+    assert_eq!(pairs, [28; 2], "pairs of eight");
 }
 
 #[test]
 fn the_first_of_many() {
-    first_of_many::<Encode>();
+    first_of_many::<Lent<Encode>>();
+    first_of_many::<Lent<Turns>>();
 }
 
 /// Faults in two objects: the earlier object's is named, whatever its number.
@@ -93,7 +95,7 @@ fn the_earlier_object_wins() {
         let mut chart = Chart::of_size(9);
         some_bad(second)[1].put(&mut chart, late);
         some_bad(first)[0].put(&mut chart, early);
-        refused(&chart, exact_sizes(9), first, early);
+        refused(&chart, 9, first, early);
     }
 }
 
@@ -110,7 +112,7 @@ fn faults_in_every_later_object() {
                     .iter()
                     .for_each(|&number| some_bad(number)[0].put(&mut chart, late));
             }
-            refused(&chart, exact_sizes(n), refusal, early);
+            refused(&chart, n, refusal, early);
         }
     }
 }
