@@ -126,6 +126,14 @@ impl Work {
         }
     }
 
+    /// Two empty slices that point at no memory.
+    pub fn dangling() -> Self {
+        Work {
+            work: Room::dangling(),
+            scratch: Room::dangling(),
+        }
+    }
+
     /// Does what an accepting call on n objects does.
     pub fn clear(&mut self, n: usize) {
         self.work.put(&vec![0; 8 * n]);
@@ -163,6 +171,14 @@ impl TwoNumbers {
         TwoNumbers {
             numbers: [Room::new(0, first, n), Room::new(1, second, n)],
             working: Work::new([work, scratch], n),
+        }
+    }
+
+    /// Four empty slices that point at no memory.
+    pub fn dangling() -> Self {
+        TwoNumbers {
+            numbers: [(); 2].map(|()| Room::dangling()),
+            working: Work::dangling(),
         }
     }
 
@@ -230,14 +246,10 @@ impl Lent {
 
     /// Eight empty slices that point at no memory.
     pub fn dangling() -> Self {
-        let working = Work {
-            work: Room::dangling(),
-            scratch: Room::dangling(),
-        };
         Lent {
             numbers: [(); 5].map(|()| Room::dangling()),
             interval: Room::dangling(),
-            working,
+            working: Work::dangling(),
         }
     }
 
