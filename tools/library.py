@@ -18,6 +18,7 @@ ROOT = os.path.dirname(os.path.dirname(os.path.abspath(__file__)))
 Chart = collections.namedtuple("Chart", "letters deltas ratios")
 Built = collections.namedtuple("Built", "letters starts deltas ratios")
 Encoding = collections.namedtuple("Encoding", "streak streak_place pattern pattern_place hit interval")
+Turns = collections.namedtuple("Turns", "previous next")
 Rhythm = collections.namedtuple("Rhythm", "group pattern groups pattern_groups")
 Taps = collections.namedtuple("Taps", "pair group groups open")
 
@@ -56,6 +57,7 @@ def answer(name, *fields):
 ANSWERS = {
     "build": answer("Built", "objects"),
     "encode": answer("Encoded", "hit_patterns"),
+    "turns": answer("Turned"),
     "colour": answer("Coloured"),
     "stretch": answer("Stretched", ("mean", ctypes.c_double), ("tenths", ctypes.c_int64)),
     "rhythm": answer("Grouped", "groups", "pattern_groups"),
@@ -127,6 +129,13 @@ def encode(library, chart, settings=DEFAULT):
     filled = [lent(ctypes.c_uint16, [0] * n) for _ in range(5)] + [lent(ctypes.c_uint8, [0] * n)]
     call(library, "encode", chart, *sum(filled, []), settings=settings)
     return Encoding(*[list(numbers) for numbers, _ in filled])
+
+
+def turns(library, chart):
+    """The notes before and after each object's streak, a list of each; 65535 where there is none."""
+    filled = [lent(ctypes.c_uint16, [0] * len(chart.letters)) for _ in range(2)]
+    call(library, "turns", chart, *sum(filled, []))
+    return Turns(*[list(notes) for notes, _ in filled])
 
 
 def colour(library, chart):
