@@ -1,12 +1,11 @@
 //! One chart, all calls: every bit of every answer and of every lent place.
 
 use host_tests::chart::Chart;
-use host_tests::lent::{exact_sizes, Lent, Room, Work};
+use host_tests::lent::{exact_four, exact_sizes, Lent, TwoNumbers};
 use host_tests::samples::{known_about, Xorshift};
-use host_tests::{colour, encode, plain_colour, plain_tenths, rhythm, taps, Encoded};
+use host_tests::{colour, encode, plain_colour, plain_tenths, rhythm, taps, turns, Encoded};
 
 use crate::original::Original;
-use crate::turns::turns;
 
 #[track_caller]
 fn compare_encode(chart: &Chart, original: &Original, spare: usize) {
@@ -25,31 +24,20 @@ fn compare_encode(chart: &Chart, original: &Original, spare: usize) {
     assert!(faults.is_empty(), "{faults:?} after encode of {chart}");
 }
 
+/// With so many places more than needed in each slice.
+fn lent_with(chart: &Chart, spare: usize) -> TwoNumbers {
+    let n = chart.size();
+    TwoNumbers::of_sizes(exact_four(n).map(|size| size + spare), n)
+}
+
 #[track_caller]
 fn compare_turns(chart: &Chart, original: &Original, spare: usize) {
-    let n = chart.size();
-    let lent = || {
-        let answers = [0, 1].map(|slice| Room::new(slice, n + spare, 0));
-        (answers, Work::new([8 * n + spare, n + spare], 0))
-    };
-    let ([mut previous, mut next], mut working) = lent();
-    let got = turns(
-        &chart.lent(),
-        chart.settings,
-        previous.lend(),
-        next.lend(),
-        working.work.lend(),
-        working.scratch.lend(),
-    );
+    let lent = lent_with(chart, spare);
+    let mut memory = lent.clone();
+    let got = turns::turns(chart, &mut memory);
     assert_eq!((got.refusal, got.place), (0, 0), "turns of {chart}");
-    let (mut want, mut cleared) = lent();
-    for (room, numbers) in want.iter_mut().zip(columns(&original.chart.turns())) {
-        room.put(&numbers);
-    }
-    cleared.clear(n);
-    let filled = want.map(|room| room.bits());
-    assert_eq!([previous.bits(), next.bits()], filled, "turns of {chart}");
-    assert_eq!(working.bits(), cleared.bits(), "turns of {chart}");
+    let filled = lent.filled(&columns(&original.chart.turns()));
+    assert_eq!(memory.bits(), filled.bits(), "turns of {chart}");
 }
 
 #[track_caller]
@@ -92,9 +80,7 @@ fn columns(rows: &[[usize; 2]]) -> [Vec<u16>; 2] {
 
 #[track_caller]
 fn compare_rhythm(chart: &Chart, original: &Original, spare: usize) {
-    let n = chart.size();
-    let [group, pattern] = columns(&original.rhythm.rows);
-    let lent = rhythm::Memory::of_sizes([n + spare, n + spare, 8 * n + spare, n + spare]);
+    let lent = lent_with(chart, spare);
     let mut memory = lent.clone();
     let want = rhythm::Grouped {
         refusal: 0,
@@ -104,7 +90,7 @@ fn compare_rhythm(chart: &Chart, original: &Original, spare: usize) {
     };
     let got = rhythm::rhythm(chart, &mut memory);
     assert_eq!(got, want, "rhythm of {chart}");
-    let filled = lent.filled(&group, &pattern);
+    let filled = lent.filled(&columns(&original.rhythm.rows));
     assert_eq!(memory.bits(), filled.bits(), "rhythm of {chart}");
 }
 
@@ -129,7 +115,7 @@ fn compare_taps(chart: &Chart, original: &Original, random: &mut Xorshift) -> bo
 #[track_caller]
 fn compare_record(chart: &Chart, original: &Original, group: usize, window: f64) {
     let n = chart.size();
-    let lent = rhythm::Memory::of_sizes([0, 0, 8 * n, n]);
+    let lent = TwoNumbers::of_sizes([0, 0, 8 * n, n], n);
     let mut memory = lent.clone();
     let got = rhythm::record(chart, group, window, &mut memory);
     let want = original.record(group, window);

@@ -3,4 +3,3 @@
 pub mod answers;
 pub mod built;
 pub mod original;
-pub mod turns;

@@ -4,8 +4,9 @@ use std::array;
 use std::hint::black_box;
 use std::time::Instant;
 
-use dresserduck::{BuiltChart, Chart, Encoding, RawChart, Refusal, Rhythm, Settings, Workspace};
-use original_tests::turns::Turns;
+use dresserduck::{
+    BuiltChart, Chart, Encoding, RawChart, Refusal, Rhythm, Settings, Turns, Workspace,
+};
 
 const SIZES: [usize; 3] = [100, 1_000, 16_384];
 const CALLS: [&str; 5] = ["encode", "turns", "colour", "rhythm", "record"];
@@ -173,10 +174,7 @@ type Call = fn(&mut Room, &Chart, usize) -> Result<(), Refusal>;
 
 const LIBRARY: PerCall<Call> = [
     |room, chart, _| room.workspace.encode_into(chart, BASE, &mut room.encoding),
-    |room, chart, _| {
-        room.turns.fill(chart, BASE);
-        Ok(())
-    },
+    |room, chart, _| room.workspace.turns_into(chart, BASE, &mut room.turns),
     |room, chart, _| room.workspace.colour_into(chart, BASE, &mut room.values),
     |room, chart, _| room.workspace.rhythm_into(chart, BASE, &mut room.rhythm),
     |room, chart, last| {
@@ -238,10 +236,7 @@ fn limit_ratios(set: &[Lists]) -> [f64; LIMITED.len()] {
     };
     let calls: [LimitedCall; LIMITED.len()] = [
         |room, chart, set| room.workspace.encode_into(chart, set, &mut room.encoding),
-        |room, chart, set| {
-            room.turns.fill(chart, set);
-            Ok(())
-        },
+        |room, chart, set| room.workspace.turns_into(chart, set, &mut room.turns),
         |room, chart, set| room.workspace.colour_into(chart, set, &mut room.values),
     ];
     calls.map(|call| {
