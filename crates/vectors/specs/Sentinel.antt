@@ -6,7 +6,7 @@ use Rattle.vectors.specs.Held.{FrontHeld}
 
 -- ---- sentinels, which are no answers
 
--- a number of a group is below 16,384, and an object of none has 65,535
+-- a number of a group or a note is below 16,384, and where there is none stands 65,535
 abbrev pub number_sentinel : ℕ
 number_sentinel = 48879
 

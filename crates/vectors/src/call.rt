@@ -10,6 +10,7 @@ pub enum Call {
     Rhythm,
     Record,
     Build,
+    Turns,
 }
 
 // A number that names no call.
@@ -31,6 +32,7 @@ impl TryFrom<u8> for Call {
             4 => Ok(Call::Rhythm),
             5 => Ok(Call::Record),
             6 => Ok(Call::Build),
+            7 => Ok(Call::Turns),
             _ => Err(UnknownCall(number)),
         }
     }

@@ -6,7 +6,7 @@ ghost use Rattle.vectors.specs.Sentinel.{Cleared};
 use crate::column::Column;
 pub use grouping_chart::chart::MOST_OBJECTS;
 
-// The sentinels are no answers: a number of a group is below 16,384 or, for none, 65,535.
+// The sentinels are no answers: a number of a group or a note is below 16,384 or, for none, 65,535.
 pub const NUMBER_SENTINEL: u16 = 48879;
 
 // An interval is at most 17, and a kind at most 2.
