@@ -3,8 +3,9 @@ use mathlib.Core.Path.{◌≡◌}
 use mathlib.Core.List.{List}
 use Rattle.std.specs.Prelude.{Some}
 use mathlib.Core.Bool.{Bool}
-use Prim.Native.Nat.{ℕ, ◌+◌, ◌-◌, ◌*◌}
-use lib.ListN.{take, drop, replicate}
+use Prim.Native.Nat.{ℕ, ◌+◌, ◌-◌, ◌*◌, ◌≤◌}
+use native.Mathlib.Omega.{arith}
+use lib.ListN.{length, take, drop, replicate}
 use lib.Ieee.{Float}
 use Rattle.lent.proofs.OverLaws.{lent-part}
 use Rattle.grouping_chart.specs.Chart.{Chart, largest}
@@ -17,11 +18,11 @@ use Rattle.vectors.specs.Sentinel.{number_sentinel, byte_sentinel, float_sentine
 use Rattle.vectors.specs.passes.Room.{most_places, most_work, Few}
 use Rattle.vectors.proofs.TellsLaws.{tells_of}
 use Rattle.vectors.proofs.SentinelLaws.{code_one, ones_lent, numbers-lent, bytes-lent, work-lent, floats-lent}
-use Rattle.cases_encode.specs.Encode.{encode_chart, encode_lent, EncodeStored, EncodeHolds}
+use Rattle.cases_encode.specs.Encode.{encode_chart, encode_lent, EncodeStored, EncodeForm, EncodeHolds}
 
 -- ---- the chart and the slices, as fronts of what the code makes
 
-abbrev made_chart : ℕ → List ℕ → Chart
+abbrev pub made_chart : ℕ → List ℕ → Chart
 made_chart n body =
     let ones : List Float = take n (replicate largest code_one) in
     record { kinds = take (2 + n - 2) (drop 2 body); starts = ones; deltas = ones; ratios = ones }
@@ -41,7 +42,7 @@ made_memory n spare =
     }
 
 module _ {n spare : ℕ} (few : Few n spare) where
-  chart_is : (body : List ℕ) → made_chart n body ≡ encode_chart n body
+  pub chart_is : (body : List ℕ) → made_chart n body ≡ encode_chart n body
   unfolding encode_chart
   chart_is body = rw (lent-part 2 n body, ones_lent few)
 
@@ -56,6 +57,11 @@ module _ {n spare : ℕ} (few : Few n spare) where
 
 -- ---- the case
 
+-- the kinds lie in a body of this form
+pub form_room : (h : Head) (body : List ℕ) → EncodeForm h body → 2 + h.objects ≤ length body
+unfolding EncodeForm
+form_room h body f = omega (arith, f.whole)
+
 pub encode_call : (h : Head) (body : List ℕ) (spare : ℕ) → EncodeHolds h body spare → h.call ≡ Some Encode
-unfolding EncodeHolds
+unfolding EncodeHolds EncodeForm
 encode_call h body spare p = p.form.asked

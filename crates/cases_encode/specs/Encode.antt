@@ -50,10 +50,14 @@ pub record EncodeStored (size width n : ℕ) (body : List ℕ) (o : Outcome (Res
   pub interval : FrontHeld (part (2 + n + 5 * size) n body) byte_sentinel o.memory.interval
   pub cleared : Cleared n o.memory.work o.memory.scratch
 
+-- the bytes of an encode case
+unfoldable pub EncodeForm : Head → List ℕ → Type 0
+EncodeForm h body = Formed Encode 1 2 (2 + 2 * h.objects + 5 * column_size h.objects h.width) h (length body)
+
 -- a case with this head and this body, in slices with so many places to spare
 unfoldable pub EncodeHolds : Head → List ℕ → ℕ → Type 0
 EncodeHolds h body spare =
     let n : ℕ = h.objects in
     let size : ℕ = column_size n h.width in
-    Holds n (Formed Encode 1 2 (2 + 2 * n + 5 * size) h (length body))
+    Holds n (EncodeForm h body)
     (EncodeStored size h.width n body (encode_outcome base_settings (encode_chart n body) (encode_lent n spare)))

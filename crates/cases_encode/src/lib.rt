@@ -8,7 +8,8 @@ ghost use Rattle.grouping_chart.specs.Lent.{seen};
 ghost use Rattle.call_encode.specs.Call.{memory, encode_outcome};
 ghost use Rattle.vectors.specs.Case.{column_size};
 ghost use Rattle.vectors.specs.Held.{Tells};
-ghost use Rattle.cases_encode.specs.Encode.{encode_chart, encode_lent, NumbersStored, EncodeStored, EncodeHolds};
+ghost use Rattle.cases_encode.specs.Encode.{encode_chart, encode_lent, NumbersStored, EncodeStored};
+ghost use Rattle.cases_encode.specs.Encode.{EncodeForm, EncodeHolds};
 ghost use Rattle.cases_encode.specs.passes.Room.{EncodeBody};
 
 use grouping_chart::chart::Chart;
@@ -150,14 +151,22 @@ fn call_holds(room: Room) -> bool
     )
 }
 
+// Whether the bytes have the form of an encode case.
+#[tactic(auto, unfolding(crate::specs::Encode::EncodeForm))]
+pub fn encode_formed(room: Room) -> bool
+    ensures { Tells result (EncodeForm room.entry.case.head room.entry.case.bytes.now) }
+{
+    let size = 2 + 2 * room.case.head.objects + 5 * room.column_size();
+    formed(room.case, Call::Encode, 1, 2, size)
+}
+
 // Whether encode answers as the case has it, in slices with so many places to spare.
-#[tactic(auto, unfolding(crate::specs::Encode::EncodeHolds))]
+#[tactic(auto, unfolding(crate::specs::Encode::EncodeHolds, crate::specs::Encode::EncodeForm))]
 pub fn holds(case: Case, spare: Spare) -> bool
     ensures { Tells result (EncodeHolds case.entry.head case.entry.bytes.now spare.places) }
 {
     let Some(room) = Room::of(case, spare) else {
         return false;
     };
-    let size = 2 + 2 * case.head.objects + 5 * room.column_size();
-    formed(case, Call::Encode, 1, 2, size) && call_holds(room)
+    encode_formed(room) && call_holds(room)
 }
