@@ -1,7 +1,7 @@
 #!/usr/bin/env python3
 """Writes crates/replay/data/encode and crates/replay/data/colour, whose cases crates/replay replays: charts, and what the original answers on them.
 
-usage: vectors.py ORACLE OUT           the cases of encode
+usage: vectors.py ORACLE OUT           the cases of encode and turns
        vectors.py ORACLE OUT colour    those of colour and stretch
 (ORACLE as in oracle.py)
 
@@ -12,6 +12,7 @@ Numbers have their low byte first; a float is the number of its bits. A case is 
   call 2, colour: distinct ratios m (2), kinds (n), each object's ratio as its place in the table
                   (n numbers of `width` bytes each), values (8n), the table of ratios (8m)
   call 3, stretch, on the chart of the colour case before it: a (2), b (2), mean (8), tenths (4, signed)
+  call 7, turns, on the chart of the encode case before it: previous, next (n numbers of two bytes each, 65535 for none)
 """
 import fractions
 import itertools
@@ -26,6 +27,8 @@ SEED = 1
 ENCODE = 1
 COLOUR = 2
 STRETCH = 3
+TURNS = 7
+NO_TURN = 65535
 LONGEST = 300
 MOST = 16384
 
@@ -81,17 +84,17 @@ def charts():
 
 
 def request(kinds):
-    """A chart whose starts, deltas and ratios are all 1.0, as the replay has them: encode looks at the kinds alone."""
+    """A chart whose starts, deltas and ratios are all 1.0, as the replay has them: encode and turns look at the kinds alone."""
     ones = words([1.0] * len(kinds))
-    return f"chart {len(kinds)}\n{kinds}\n{ones}\n{ones}\n{ones}\nencode\n"
+    return f"chart {len(kinds)}\n{kinds}\n{ones}\n{ones}\n{ones}\nencode\nturns\n"
 
 
 def ask_encode(oracle, all_kinds):
-    """For each chart the number of hit patterns and the six numbers of each object."""
+    """For each chart the number of hit patterns, the six numbers of each object, and its two turns."""
     lines = iter(ask(oracle, "".join(map(request, all_kinds))))
     for kinds in all_kinds:
         hits = int(next(lines))
-        yield hits, [tuple(map(int, next(lines).split())) for _ in kinds]
+        yield hits, *([tuple(map(int, next(lines).split())) for _ in kinds] for _ in range(2))
     assert next(lines, None) is None, "more answers than requests"
 
 
@@ -108,6 +111,35 @@ def case(kinds, hits, objects):
         body += struct.pack(f"<{len(kinds)}{'BH'[width - 1]}", *column)
     body += bytes(intervals)
     return head(ENCODE, width, len(kinds), body)
+
+
+def turns_case(turns):
+    n = len(turns)
+    return head(TURNS, 2, n, b"".join(struct.pack(f"<{n}H", *column) for column in zip(*turns)))
+
+
+def check_intervals(answers):
+    seen = {o[5] for _, objects, _ in answers for o in objects}
+    assert seen == {*range(1, 16), 17}, f"intervals seen: {sorted(seen)}"
+    assert max(hits for hits, _, _ in answers) > 8000, "no chart has many hit patterns"
+
+
+def told(kinds, turns):
+    """Of each object its two turns, how many notes stand before it, its kind, and the notes of its chart."""
+    notes = kinds.replace("2", "")
+    passed = itertools.accumulate((kind != "2" for kind in kinds), initial=0)
+    return [(*turn, before, kind, notes) for turn, before, kind in zip(turns, passed, kinds)]
+
+
+def check_turns(all_kinds, answers):
+    """Either turn is missing, and is a number of two bytes; and NonHits make both what notes alone would not."""
+    objects = [o for kinds, (_, _, turns) in zip(all_kinds, answers) for o in told(kinds, turns)]
+    for turn in map(set, list(zip(*objects))[:2]):
+        assert NO_TURN in turn and max(turn - {NO_TURN}) > 255, "a turn is never missing, or never above 255"
+    assert any(later < before for _, later, before, _, _ in objects), "no next note stands before its object"
+    noted = [(*turn, kind, notes) for *turn, _, kind, notes in objects if kind != "2"]
+    assert any(earlier == NO_TURN and kind != notes[0] for earlier, _, kind, notes in noted), "no NonHit hides the note before it"
+    assert any(later != NO_TURN and kind == notes[later] for _, later, kind, notes in noted), "no next note has its streak's kind"
 
 
 # ---- colour and stretch
@@ -316,13 +348,13 @@ def main():
         sys.exit(__doc__)
     all_kinds = list(charts())
     answers = list(ask_encode(sys.argv[1], all_kinds))
-    seen = {o[5] for _, objects in answers for o in objects}
-    assert seen == {*range(1, 16), 17}, f"intervals seen: {sorted(seen)}"
-    assert max(hits for hits, _ in answers) > 8000, "no chart has many hit patterns"
+    check_intervals(answers)
+    check_turns(all_kinds, answers)
     with open(sys.argv[2], "wb") as out:
-        for kinds, (hits, objects) in zip(all_kinds, answers):
+        for kinds, (hits, objects, turns) in zip(all_kinds, answers):
             out.write(case(kinds, hits, objects))
-    print(f"encode: {len(all_kinds)} cases, {sum(map(len, all_kinds))} objects")
+            out.write(turns_case(turns))
+    print(f"encode, and turns: {len(all_kinds)} cases, {sum(map(len, all_kinds))} objects")
 
 
 if __name__ == "__main__":

@@ -1,4 +1,4 @@
-// Replays the original's stored answers: calls build, encode, colour, stretch, rhythm or record on each case of
+// Replays the original's stored answers: calls build, encode, turns, colour, stretch, rhythm or record on each case of
 // data/build, data/encode, data/colour and data/rhythm, compares all that it hands back, and prints how many cases
 // there are and how many differ.
 // What is counted `replay` promises. Of what is printed no promise can speak: tests/replay sees that it is the count.
@@ -72,6 +72,7 @@ fn main(rt: HostRuntime) -> io::Result<()> {
     println!(&rt; "{}", charts("build", build, "objects"))?;
     let encode = replay(&rt, "encode", Call::Encode);
     println!(&rt; "{}", charts("encode", encode, "objects"))?;
+    println!(&rt; "{}", parts("turns", encode))?;
     let colour = replay(&rt, "colour", Call::Colour);
     println!(&rt; "{}", charts("colour", colour, "values"))?;
     println!(&rt; "{}", parts("stretch", colour))?;

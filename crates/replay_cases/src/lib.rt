@@ -12,10 +12,10 @@ use vectors::room::Spare;
 pub mod count;
 pub mod tally;
 
-// The most bytes of a case with a chart, and of one on a chart: build's and record's have most.
+// The most bytes of a case with a chart, and of one on a chart: build's and turns' have most.
 pub const MOST_BODY: usize = cases_build::MOST_BODY;
 
-pub const MOST_PART: usize = cases_record::PART_SIZE;
+pub const MOST_PART: usize = cases_turns::MOST_PART;
 
 // What follows a head: the body of a case with a chart, a part of the case before it, or nothing that belongs there.
 // An `Option` of an enum of the first two would be no plainer: who asks takes all three apart in one match.
@@ -33,7 +33,9 @@ pub fn follows(call: Call, h: Head) -> Next
 {
     match (call, h.call) {
         (asked, Some(own)) if asked == own => Next::Body,
-        (Call::Colour, Some(Call::Stretch)) | (Call::Rhythm, Some(Call::Record)) => Next::Part,
+        (Call::Encode, Some(Call::Turns))
+        | (Call::Colour, Some(Call::Stretch))
+        | (Call::Rhythm, Some(Call::Record)) => Next::Part,
         _ => Next::Nothing,
     }
 }
@@ -64,6 +66,7 @@ pub fn part_holds(chart: Case, part: Case, spare: Spare) -> bool
         return false;
     };
     match call {
+        Call::Turns => cases_turns::holds(chart, part, spare),
         Call::Stretch => cases_colour::stretch_holds(chart, part, spare),
         Call::Record => cases_record::holds(chart, part, spare),
         _ => false,
