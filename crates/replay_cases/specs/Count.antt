@@ -1,5 +1,5 @@
 -- What is counted over the cases of a file.
-use Rattle.std.specs.Prelude.{◌≡◌, ℕ, ◌+◌, ◌-◌, ◌%◌, ◌^◌, ◌<◌, false, []}
+use Rattle.std.specs.Prelude.{◌≡◌, ℕ, ◌+◌, ◌-◌, ◌*◌, ◌%◌, ◌^◌, ◌<◌, false, []}
 use Rattle.vectors.specs.Case.{head_of}
 use Rattle.replay_cases.specs.Tally.{no_cases, one_more}
 use Rattle.replay_cases.specs.declared.tally.Tally.{Tally}
@@ -39,6 +39,7 @@ pub record After (r : Replay) (c : Replayed) (s : Replay) : Type 0 where
   pub counted : s ≡ after_case r c
   pub fewer : s.left < r.left
 
--- how many places the next case's slices have to spare, by its number
+-- how many places the next case's slices have to spare, by the cases before it; a part counts twice, so that charts
+-- with a part each, and their parts, take all eight in turn
 unfoldable pub spare_of : Replay → ℕ
-spare_of r = (r.charts.cases + r.parts.cases) % 2 ^ 64 % 8
+spare_of r = (r.charts.cases + 2 * r.parts.cases) % 8
