@@ -90,12 +90,21 @@ turned 'a built ratio' build 6 128 -8 "$(differ build 1 128)"
 
 # encode: the number of hit patterns (2 bytes), kinds, five columns, intervals; case 4 is dd, the last has 16,384 objects
 turned 'the number of hit patterns of a chart without objects' encode 1 0 0 "$(differ encode 1 0)"
-turned 'a kind' encode 1 4 3 "$(differ encode 1 4)"
+turned 'a kind' encode 1 4 3 "$(differ encode 1 4)$(differ turns 1 4)"
 turned 'a streak' encode 1 4 4 "$(differ encode 1 4)"
 turned 'an interval' encode 1 10763 -1 "$(differ encode 1 10763)"
 turn encode 1 10000 2
-turned 'two cases' encode 1 9841 0 "$(differ encode 2 9841)"
+turned 'two cases' encode 1 9841 0 "$(differ encode 2 9841)$(differ turns 1 10000)"
 turn encode 1 10000 2
+
+# turns: previous, next (2 each); case 4 is of dd, case 5 of dk; in the last the last object has a previous note above 255 and no next
+turned 'a previous note' encode 7 5 2 "$(differ turns 1 5)"
+turned 'a previous note that is missing' encode 7 4 0 "$(differ turns 1 4)"
+turned 'the high byte of a previous note' encode 7 10763 32767 "$(differ turns 1 10763)"
+turned 'a next note' encode 7 5 4 "$(differ turns 1 5)"
+turned 'a next note that is missing' encode 7 10763 -1 "$(differ turns 1 10763)"
+turned 'the width of turns' encode 7 0 -7 "$(differ turns 1 0)"
+turned 'the call of turns' encode 7 0 -8 's/10764 cases, 276742/2 cases, 0/; s/10764/0/;'"$(differ encode 1 1)"
 
 # colour: distinct ratios (2), kinds, places in the table, values, the table; the last is ddddk, with one stretch.
 # What a colour case stores its stretches fill again, so they differ too.
@@ -122,12 +131,14 @@ turned 'a pattern ratio' rhythm 5 38 50 "$(differ record 1 38)"
 
 # a case that can't be read counts as one of build, encode, colour or rhythm that differs
 ends 'a built chart without its last byte' build 1 's/35223/18840/;'"$(differ build 1 129)"
-ends 'a chart without its last byte' encode 1 's/276742/260358/;'"$(differ encode 1 10763)"
+ends 'turns without their last byte' encode 1 's/10764 cases, 276742/10765 cases, 276742/; s/turns: 10764/turns: 10763/;'"$(differ encode 1 10764)"
+ends 'a file without its last turns' encode 65544 's/turns: 10764/turns: 10763/'
+ends 'a chart without its last byte' encode 65545 's/276742/260358/; s/turns: 10764/turns: 10763/;'"$(differ encode 1 10763)"
 ends 'a stretch without its last byte' colour 1 's/1011/1012/; s/5210/5209/;'"$(differ colour 1 1011)"
 ends 'a head without its last byte' rhythm 59 's/465/466/; s/3673/3672/;'"$(differ rhythm 1 465)"
 ends 'a file without its last case' rhythm 66 's/3673/3672/'
 
 rm "$made/encode"
-prints 'a file that is not there' 's/^encode: .*/encode: 0 cases, 0 objects, 0 differ/'
+prints 'a file that is not there' 's/^encode: .*/encode: 0 cases, 0 objects, 0 differ/; s/^turns: .*/turns: 0 cases, 0 differ/'
 
 echo "replay: $count runs ok"
