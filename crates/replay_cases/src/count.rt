@@ -83,8 +83,8 @@ impl Replay {
         }
     }
 
-    // How many places the next case's slices have to spare: 0 to 7, by the cases before it. A part counts twice, so that
-    // charts with a part each, and their parts, take all eight in turn.
+    // How many places the next case's slices have to spare: 0 to 7, by the cases before it. A part counts twice, so
+    // that charts with a part each, and their parts, take all eight in turn.
     #[tactic(auto, unfolding(crate::specs::Count::spare_of))]
     pub fn spare(self) -> Spare
         ensures { result.places ≡ spare_of self }
