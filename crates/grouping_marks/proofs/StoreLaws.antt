@@ -6,9 +6,10 @@ use Prim.Native.Nat.{ℕ, zero, suc, ◌+◌, ◌≤◌, ◌<◌}
 use native.Mathlib.Numerals.{add-one}
 use native.Mathlib.Omega.{arith}
 use lib.ListN.{length, drop, get_or, set, length-append, length-set, drop_of_length-le}
-use lib.Seq.{drop-cons, set_at}
+use lib.Seq.{drop-cons}
 use Rattle.lent.specs.Over.{over}
-use Rattle.lent.proofs.PieceLaws.{over_whole}
+use Rattle.lent.proofs.OverLaws.{put_nothing, put_front}
+use Rattle.lent.proofs.PieceLaws.{over_whole, set_last, set_next}
 use Rattle.lent.proofs.WalkLaws.{scan_none}
 use Rattle.lent.specs.passes.Bounds.{AllBelow}
 use Rattle.grouping_marks.specs.Marks.{opened, number_by_mark, group_count, group_numbers, last_items}
@@ -17,21 +18,6 @@ use Rattle.grouping_marks.proofs.MarksLaws.{length-numbers, numbers-below}
 use Rattle.grouping_marks.proofs.NumberLaws.{number_last}
 use Rattle.grouping_marks.proofs.ItemLaws.{numbers_left, numbers_same, numbers_new, numbers_start, lasts_left, lasts_none, lasts_same, lasts_new}
 use Rattle.grouping_marks.proofs.ItemLaws.{last_items_none, last_items_start, length-last_items, last-below}
-
--- ---- a list that is written over the front, and one place more
-
-set_last : (xs w : List ℕ) (x y : ℕ) → set (over (xs ++ x ∷ []) w) (length xs) y ≡ over (xs ++ y ∷ []) w
-unfolding over
-set_last xs w x y =
-    let as_long : length (xs ++ x ∷ []) ≡ length (xs ++ y ∷ []) = length-append xs (x ∷ []) ∙ sym (length-append xs (y ∷ [])) in
-    rw (append_assoc xs (x ∷ []) (drop (length (xs ++ x ∷ [])) w), append_assoc xs (y ∷ []) (drop (length (xs ++ y ∷ [])) w), as_long)
-    (set_at xs x (drop (length (xs ++ y ∷ [])) w) y (length xs) refl)
-
-set_next : (xs w : List ℕ) (y : ℕ) → length xs < length w → set (over xs w) (length xs) y ≡ over (xs ++ y ∷ []) w
-unfolding over
-set_next xs [] y h = absurd (omega arith)
-set_next [] (v ∷ w) y h = refl
-set_next (z ∷ xs) (v ∷ w) y h = ap (λ (l : List ℕ). z ∷ l) (set_next xs w y (omega arith))
 
 -- the open group has a last item
 lasts_some : (x : ℕ) (ms : List ℕ) → 1 ≤ length (lasts_left x ms)
@@ -71,20 +57,20 @@ stored_left done c x (suc m ∷ ms) w l h =
     ∙ stored_left (done ++ x ∷ []) (length (done ++ x ∷ [])) (suc x) ms w refl room
     ∙ ap (λ (l : List ℕ). over l w) (append_assoc done (x ∷ []) (lasts_left (suc x) ms)))
 
+over_nothing : (w : List ℕ) → w ≡ over [] w
+over_nothing w = sym (put_nothing 0 w) ∙ put_front [] w
+
 -- every item is stored at its group's place
 pub stored_lasts : (marks w : List ℕ) → length (last_items marks) ≤ length w → stored 0 (group_numbers marks) w ≡ over (last_items marks) w
-unfolding group_numbers over
-stored_lasts [] w h = rw (none_left, last_items_none) (stored_none 0 w ∙ none w)
-  where
-    none_left : group_numbers [] ≡ []
-    none_left = scan_none opened number_by_mark 0
-
-    none : (w : List ℕ) → w ≡ over [] w
-    none w = refl
+unfolding group_numbers
+stored_lasts [] w h =
+    let none_left : group_numbers [] ≡ [] = scan_none opened number_by_mark 0 in
+    rw (none_left, last_items_none) (stored_none 0 w ∙ over_nothing w)
 stored_lasts (m ∷ ms) w h =
     let room : length (lasts_left 0 ms) ≤ length w = rw (last_items_start m ms) at h in
+    let first : set w 0 0 ≡ over (0 ∷ []) w = ap (λ (l : List ℕ). set l 0 0) (over_nothing w) ∙ set_next [] w 0 (omega (arith, lasts_some 0 ms)) in
     rw (numbers_start m ms, last_items_start m ms, stored_first 0 0 (numbers_left 0 ms) w)
-    (ap (stored 1 (numbers_left 0 ms)) (set_next [] w 0 (omega (arith, lasts_some 0 ms)) ∙ refl) ∙ stored_left [] 0 0 ms w refl (omega arith))
+    (ap (stored 1 (numbers_left 0 ms)) first ∙ stored_left [] 0 0 ms w refl (omega arith))
 
 -- ---- the loop: what remains, stored from here, gives what all of it gives
 

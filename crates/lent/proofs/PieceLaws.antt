@@ -1,10 +1,10 @@
 -- `over`, `put` and `part` by the pieces of a list, as code takes a slice apart and puts it together again.
-use mathlib.Core.Path.{◌≡◌, refl, ap, ◌∙◌}
-use mathlib.Core.List.{List, [], ◌++◌, append-nil, append_assoc}
+use mathlib.Core.Path.{◌≡◌, refl, sym, ap, ◌∙◌}
+use mathlib.Core.List.{List, [], ◌∷◌, ◌++◌, append-nil, append_assoc}
 use Prim.Native.Nat.{ℕ, ◌+◌, ◌-◌, ◌≤◌, ◌<◌}
 use native.Mathlib.Omega.{arith}
-use lib.ListN.{length, take, drop, get_or, length-append, length-take, drop_of_length-le, take-append-drop, get_or-append}
-use lib.Seq.{drop-drop, take-take, take_at, drop_at, drop-append-le}
+use lib.ListN.{length, take, drop, get_or, set, length-append, length-take, drop_of_length-le, take-append-drop, get_or-append}
+use lib.Seq.{drop-drop, take-take, set_at, take_at, drop_at, drop-append-le}
 use Rattle.std.proofs.lemmas.List.{drop-take}
 use Rattle.lent.specs.Over.{over, put, part}
 use Rattle.lent.proofs.OverLaws.{drop-over, over-agree}
@@ -80,6 +80,20 @@ module _ {A : Type 0} where
       let e : at + (end - at) ≡ end = omega arith in
       let d : drop end xs ≡ drop (end - at) (drop at xs) = rw (drop-drop (end - at) at xs, e) in
       rw d (take-append-drop (end - at) (drop at xs))
+
+  -- the last place that was written, and the next one
+  pub set_last : (xs w : List A) (x y : A) → set (over (xs ++ x ∷ []) w) (length xs) y ≡ over (xs ++ y ∷ []) w
+  unfolding over
+  set_last xs w x y =
+      let as_long : length (xs ++ x ∷ []) ≡ length (xs ++ y ∷ []) = length-append xs (x ∷ []) ∙ sym (length-append xs (y ∷ [])) in
+      rw (append_assoc xs (x ∷ []) (drop (length (xs ++ x ∷ [])) w), append_assoc xs (y ∷ []) (drop (length (xs ++ y ∷ [])) w), as_long)
+      (set_at xs x (drop (length (xs ++ y ∷ [])) w) y (length xs) refl)
+
+  pub set_next : (xs w : List A) (y : A) → length xs < length w → set (over xs w) (length xs) y ≡ over (xs ++ y ∷ []) w
+  unfolding over
+  set_next xs [] y h = absurd (omega arith)
+  set_next [] (v ∷ w) y h = refl
+  set_next (z ∷ xs) (v ∷ w) y h = ap (λ (l : List A). z ∷ l) (set_next xs w y (omega arith))
 
   -- a part of the front
   pub part-take : (a n k : ℕ) (w : List A) → a + n ≤ k → part a n (take k w) ≡ part a n w
