@@ -1,5 +1,5 @@
--- What a reader may not expect of where the colour turns, proved: a streak that begins with a NonHit has no note before it, one that ends with a NonHit is
--- that object alone and has note 1 after it, and all objects of a streak have the same two answers. And how far these go.
+-- What a reader may not expect of where the colour turns, proved: no note stands before a streak that a NonHit begins, one that ends with a NonHit is that
+-- object alone and has note 1 after it, and all objects of a streak have the same two answers.
 use mathlib.Core.Path.{◌≡◌}
 use mathlib.Core.Bool.{false, cond}
 use mathlib.Core.List.{List}

@@ -28,7 +28,7 @@ const EXAMPLES: [Example; 15] = [
     ("nddk", ["---1", "122-"]),
     ("dnk", ["--0", "11-"]),
     ("dkdn", ["-01-", "12-1"]),
-    // the note after a streak may have its colour, and a streak that begins with a NonHit has no note before it
+    // the note after a streak may have its colour, and a streak that a NonHit begins has no note before it
     ("dnd", ["---", "1--"]),
     ("knkd", ["---1", "122-"]),
     ("kddnddnk", ["-00----4", "1335551-"]),
