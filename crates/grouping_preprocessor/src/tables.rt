@@ -23,19 +23,20 @@ impl<'a> Tables<'a> {
         requires { TablesRoom n levels (length work.now) }
         ensures { Cut n levels work.now result }
     {
+        let streaks = Streaks::of(work, n, levels);
         Tables {
-            streak: &work[..n],
+            streak: streaks.streak,
             pattern: &work[3 * n..3 * n + levels.streaks],
             streak_place: &work[4 * n..4 * n + levels.streaks],
             hit: &work[n..n + levels.patterns],
             pattern_place: &work[2 * n..2 * n + levels.patterns],
             interval: &work[7 * n..7 * n + levels.hits],
-            first: &work[5 * n..5 * n + levels.streaks],
+            first: streaks.first,
         }
     }
 }
 
-// Of these what is kept of every streak: each object's streak, and each streak's first and last object.
+// What is kept of every streak: each object's streak, and each streak's first and last object.
 #[derive(Clone, Copy)]
 pub struct Streaks<'a> {
     pub streak: &'a [u16],
@@ -44,7 +45,7 @@ pub struct Streaks<'a> {
 }
 
 impl<'a> Streaks<'a> {
-    // In the same places. The last region is none of them, so that it may be written meanwhile.
+    // In the same places, all before the last region, which may be written meanwhile.
     pub fn of(work: &'a [u16], n: usize, levels: Levels) -> Streaks<'a>
         requires { StreaksRoom n levels (length work.now) }
         ensures { StreaksCut n levels work.now result }
