@@ -12,14 +12,15 @@
  *
  * A call takes its chart, then the settings, then plain arguments, then the slices that it is lent: those that it fills with n
  * answers each, and two to work in, `work` and `scratch`. dresserduck_build takes raw objects where the others take the chart, and has
- * no settings and no slices to work in. A slice is a pointer and a count of elements, and may be longer than needed where it is lent.
- * A pointer is aligned for its element and not null, also where the count is 0. No slice that is lent overlaps another slice; those of
- * the chart and of the raw objects are only read, and may overlap each other.
+ * no settings and no slices to work in. dresserduck_lesson takes the pairs of a lesson behind the settings, as two slices of one
+ * length, and fills two of its answer slices with an answer for each pair. A slice is a pointer and a count of elements, and may be
+ * longer than needed where it is lent. A pointer is aligned for its element and not null, also where the count is 0. No slice that is
+ * lent overlaps another slice; those of the chart, of the raw objects and of the pairs are only read, and may overlap each other.
  *
- * Every call answers every input. Either `refusal` is DRESSERDUCK_ACCEPTED: an answer slice has its answers in the first n places,
- * the work slices are left 0 in as many places as they need, and what any slice held past these it still holds. One answer slice may
- * be left as it was: `group` of dresserduck_taps. Or `refusal` is the number of the first refusal that applies and `place` says where:
- * then every other field is 0, and every lent slice is as it was.
+ * Every call answers every input. Either `refusal` is DRESSERDUCK_ACCEPTED: an answer slice has its answers in the first n places, or
+ * in as many as there are pairs, the work slices are left 0 in as many places as they need, and what any slice held past these it
+ * still holds. One answer slice may be left as it was: `group` of dresserduck_taps. Or `refusal` is the number of the first refusal
+ * that applies and `place` says where: then every other field is 0, and every lent slice is as it was.
  *
  * The calls keep nothing from one to the next and take no memory but what they are lent and the stack, so that several threads may
  * call at once, each with slices of its own to fill.
@@ -49,16 +50,17 @@ enum {
 };
 
 /* The refusals. They are tested in this order: 1 to 3 for the call, then 10 or 16, then 4 to 7 for one object after another, then 8, 9
- * and 11. For dresserduck_taps 15 stands between 6 and 7. `place` is the object's number, counted from 0, for 4 to 7 and 15, and 0 for the
- * others. For dresserduck_build it is the number of the object that would be built, and 4 to 6 are about that object's kind, start and
- * delta. */
+ * and 11. For dresserduck_taps 15 stands between 6 and 7. For dresserduck_lesson 17 comes behind 7, and then 9 and 11 for one pair
+ * after another. `place` is the object's number, counted from 0, for 4 to 7 and 15, the pair's for 9 and 11 of dresserduck_lesson, and
+ * 0 for the others. For dresserduck_build it is the number of the object that would be built, and 4 to 6 are about that object's kind,
+ * start and delta. */
 enum {
     DRESSERDUCK_ACCEPTED = 0,
 
     /* the host programmer's */
     DRESSERDUCK_TOO_MANY_OBJECTS = 1, /* n is over 16,384, or m over 16,386, counted on the kind slice */
-    DRESSERDUCK_LENGTHS_DIFFER = 2,   /* the chart's slices, or the two of the raw objects, are not of one length */
-    DRESSERDUCK_SLICE_TOO_SHORT = 3,  /* an answer slice has fewer than n places, or a work slice too few */
+    DRESSERDUCK_LENGTHS_DIFFER = 2,   /* the chart's slices, or the two of the raw objects or of the pairs, are not of one length */
+    DRESSERDUCK_SLICE_TOO_SHORT = 3,  /* an answer slice has fewer than n places, or than pairs, or a work slice too few */
 
     /* the chart writer's, at the object `place` */
     DRESSERDUCK_BAD_KIND = 4,  /* above 2 */
@@ -69,11 +71,12 @@ enum {
 
     /* the player's settings'; 9 has two names, as its causes are two */
     DRESSERDUCK_BAD_WINDOW = 8,  /* dresserduck_record: the window lies outside 1.0 to 1,000.0, or is a NaN */
-    DRESSERDUCK_BAD_STRETCH = 9, /* dresserduck_stretch: a >= b or b > n */
+    DRESSERDUCK_BAD_STRETCH = 9, /* dresserduck_stretch: a >= b or b > n; dresserduck_lesson: a pair's stretch is empty or ends past n */
     DRESSERDUCK_BAD_GROUP = 9,   /* dresserduck_record: the group's number is not below the number of groups */
     DRESSERDUCK_BAD_RATE = 10,   /* dresserduck_build: the rate lies outside 0.25 to 4.0, or is a NaN */
-    DRESSERDUCK_NO_NOTE = 11,    /* dresserduck_stretch: all objects from a to b are NonHits */
-    DRESSERDUCK_BAD_SETTINGS = 16 /* all but dresserduck_build: a number of the settings lies outside its range, or is a NaN */
+    DRESSERDUCK_NO_NOTE = 11,    /* dresserduck_stretch: all objects from a to b are NonHits; dresserduck_lesson: all of a pair's stretch */
+    DRESSERDUCK_BAD_SETTINGS = 16, /* all but dresserduck_build: a number of the settings lies outside its range, or is a NaN */
+    DRESSERDUCK_BAD_LESSON = 17    /* dresserduck_lesson: more than 32 pairs, or an offset that is not above the one before it */
 };
 
 /* The settings: four numbers that every call on a chart takes by value, for the player at hand. Two charts are compared fairly only
@@ -221,6 +224,36 @@ dresserduck_stretched dresserduck_stretch(
     dresserduck_settings settings,
     size_t a, size_t b,
     double *value, size_t value_count,
+    uint16_t *work, size_t work_count,
+    double *scratch, size_t scratch_count);
+
+/* The most stretches that a lesson may have. */
+enum { DRESSERDUCK_MOST_PAIRS = 32 };
+
+/* What dresserduck_lesson answers; `refusal` and `place` as above. */
+typedef struct dresserduck_lessoned {
+    uint64_t refusal;
+    uint64_t place;
+} dresserduck_lessoned;
+
+/* Tells the means of several stretches of a chart at once, which are accepted as a set or not at all. They come as pairs, one for each
+ * stretch, from none to 32; they may overlap each other:
+ *   offset  its first object; each is above the one before
+ *   length  how many objects it has. It ends before the exact sum of the two, which does not wrap
+ * Fills the colour values of all objects as dresserduck_colour does, and per pair what dresserduck_stretch answers of its stretch:
+ *   mean    the mean over its notes
+ *   tenths  that in tenths, to the nearest */
+dresserduck_lessoned dresserduck_lesson(
+    const uint8_t *kind, size_t kind_count,
+    const double *start, size_t start_count,
+    const double *delta, size_t delta_count,
+    const double *ratio, size_t ratio_count,
+    dresserduck_settings settings,
+    const uint64_t *offset, size_t offset_count,
+    const uint64_t *length, size_t length_count,
+    double *value, size_t value_count,
+    double *mean, size_t mean_count,
+    int64_t *tenths, size_t tenths_count,
     uint16_t *work, size_t work_count,
     double *scratch, size_t scratch_count);
 

@@ -1,7 +1,7 @@
 -- The verdict on a call, case by case, in the order of the tests; it is never refused for a bad ratio, refusal 7.
 use mathlib.Core.Path.{◌≡◌, refl, sym, ◌∙◌}
 use mathlib.Core.Bool.{Bool, true, false, cond}
-use Prim.Native.Nat.{◌≤◌}
+use Prim.Native.Nat.{ℕ, ◌≤◌}
 use borrow.Author.Tests.{ltb-false, eqb-true}
 use lib.Dec.{eqb, ltb}
 use lib.ListN.{length}
@@ -11,7 +11,6 @@ use Rattle.lent.proofs.NeverLaws.{never}
 use Rattle.grouping_chart.specs.Refusal.{Check, passed, Verdict, accepted, refused, refused_or, in_order, objects_verdict}
 use Rattle.grouping_chart.specs.declared.refusal.Reason.TheVariants.{TooManyObjects, UnequalLengths, ShortSlice, BadRatio, BadRate}
 use Rattle.grouping_chart.specs.declared.refusal.Refusal.{Refusal}
-use Rattle.grouping_chart.specs.declared.object.ObjectIndex.{ObjectIndex}
 use Rattle.grouping_chart.proofs.RefusalLaws.{NotRatio, neither_ratio, objects_not_ratio, refused_before, passed_before}
 use Rattle.grouping_chart.proofs.AcceptedLaws as chart
 use Rattle.call_build.specs.Build.{Raw, built_chart}
@@ -74,5 +73,5 @@ not_ratio rate r short =
     neither_ratio (ltb 16386 (length r.kinds)) (refused TooManyObjects) _ (λ e. never (cc)) lengths
 
 -- so a built ratio is never refused
-pub never_7 : (rate : Float) (r : Raw) (short : Bool) (place : ObjectIndex) → verdict_of rate r short ≡ Err (record { reason = BadRatio; place = place }) → ⊥
+pub never_7 : (rate : Float) (r : Raw) (short : Bool) (place : ℕ) → verdict_of rate r short ≡ Err (record { reason = BadRatio; place = place }) → ⊥
 never_7 rate r short place e = (rw e at (not_ratio rate r short)) refl

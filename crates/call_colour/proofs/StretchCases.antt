@@ -1,13 +1,15 @@
 -- What is refused of a stretch, test by test, and where a stretch lies of which nothing is refused.
-use mathlib.Core.Path.{◌≡◌, refl}
+use mathlib.Core.Path.{◌≡◌, refl, ap}
 use mathlib.Core.Bool.{Bool, true, false, ◌||◌, cond}
 use mathlib.Core.List.{List}
-use Prim.Native.Nat.{ℕ, ◌≤◌, ◌<◌}
+use Prim.Native.Nat.{ℕ, ◌+◌, ◌-◌, ◌≤◌, ◌<◌}
+use native.Mathlib.Omega.{arith}
 use borrow.Author.Tests.{lt-ltb, le-ltb, le-leb, lt-leb, ltb-false, leb-false}
 use lib.Dec.{ltb, leb}
 use lib.ListN.{length}
 use Rattle.std.specs.Prelude.{Err}
 use Rattle.grouping_chart.specs.Refusal.{passed}
+use Rattle.lent.specs.Over.{part}
 use Rattle.lent.proofs.NeverLaws.{never}
 use Rattle.grouping_chart.specs.declared.refusal.Reason.TheVariants.{OutOfRange, NoNotes}
 use Rattle.std.proofs.lemmas.Bool.{or_parts}
@@ -18,6 +20,10 @@ pub record StretchLies (kinds : List ℕ) (a b : ℕ) : Type 0 where
   pub some : a < b
   pub inside : b ≤ length kinds
   pub noted : has_note (from_to a b kinds) ≡ true
+
+-- a stretch by its first object and how many it has
+pub from_to-sum : {A : Type 0} (a n : ℕ) (xs : List A) → from_to a (a + n) xs ≡ part a n xs
+from_to-sum a n xs = let e : a + n - a ≡ n = omega arith in ap (λ (k : ℕ). part a k xs) e
 
 module _ (kinds : List ℕ) (a b : ℕ) where
   pub none_refused : b ≤ a → Err OutOfRange ≡ stretch_refusal kinds a b

@@ -46,12 +46,11 @@ module _ {s : Settings} {c : Chart} {m : Memory} {a b : ℕ} {new : Memory} (x :
   unfolding filled
   written = rw x.made
 
-  pub stretch_room : StretchRoom c.kinds new.value a b
+  pub stretch_room : StretchRoom c.kinds new.value a (b - a)
   stretch_room = record {
     known = λ i h. ((accepted_good c _ x.taken).objects i nan h).kind;
-    ordered = omega (arith, lies.some);
-    kinded = lies.inside;
-    valued = omega (arith, lies.inside, long, room, ap length written, length-over values m.value room);
+    kinded = omega (arith, lies.some, lies.inside);
+    valued = omega (arith, lies.some, lies.inside, long, room, ap length written, length-over values m.value room);
     few = omega (arith, lies.inside, (chart_room s c m x.taken).regions);
   }
 

@@ -24,8 +24,14 @@ pub struct StretchMean {
     pub tenths: i64,
 }
 
-// What both calls do with an accepted chart: encode, fill the values, and clear the work slices.
-fn fill_chart(chart: Chart, s: Settings, value: &mut [f64], work: &mut [u16], scratch: &mut [f64])
+// What colour, stretch and lesson do with an accepted chart: encode, fill the values, and clear the work slices.
+pub fn fill_chart(
+    chart: Chart,
+    s: Settings,
+    value: &mut [f64],
+    work: &mut [u16],
+    scratch: &mut [f64],
+)
     requires { ChartRoom s chart.kind.now chart.ratio.now (memory value.old work.old scratch.old) }
     ensures { memory value.new work.new scratch.new ≡ filled s chart.entry.kind.now chart.entry.ratio.now
         (memory value.old work.old scratch.old) }
@@ -72,9 +78,9 @@ pub fn stretch(
 {
     let short = value.len() < chart.kind.len();
     judge(chart, s, short, work.len(), scratch.len())?;
-    stretches::stretch_refusal(chart.kind, a, b)?;
+    stretches::refusal_between(chart.kind, a, b)?;
     fill_chart(chart, s, value, work, scratch);
-    let mean = stretches::mean(chart.kind, value, a, b);
+    let mean = stretches::mean(chart.kind, value, a, b - a);
     Ok(StretchMean {
         mean,
         tenths: numeric::tenths::tenths(mean),

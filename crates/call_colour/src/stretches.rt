@@ -1,9 +1,11 @@
-// What is refused of a stretch, and its mean.
-ghost use Rattle.std.specs.Prelude.{◌≡◌, cond, ◌≤◌};
+// What is refused of a stretch, and its mean. A stretch of a chart is taken by its first object and how many objects it
+// has: no end past the chart is formed, which could wrap.
+ghost use Rattle.std.specs.Prelude.{◌≡◌, ◌+◌, cond, ◌≤◌, length};
 ghost use Rattle.numeric.specs.Constants.{minus_zero64};
+ghost use Rattle.lent.specs.Over.{part};
 ghost use Rattle.grouping_chart.specs.Object.{is_note};
 ghost use Rattle.grouping_interval.specs.Notes.{of_notes};
-ghost use Rattle.call_colour.specs.Stretch.{from_to, has_note, stretch_refusal, average_of};
+ghost use Rattle.call_colour.specs.Stretch.{has_note, stretch_refusal, average_of};
 ghost use Rattle.call_colour.specs.passes.Rooms.{AverageRoom, StretchRoom};
 
 use grouping_chart::object::is_note;
@@ -16,22 +18,42 @@ fn has_note(kind: &[u8]) -> bool
     kind.iter().any(|k| is_note(*k))
 }
 
-// Whether a stretch is good. One where a is not below b or b is above n is refused, then one that has no note. The ends
-// stay two numbers, as C lends them: that they are in order is what is tested.
-#[tactic(auto, unfolding(crate::specs::Stretch::stretch_refusal), using(lent::proofs::PieceLaws::part_pieces))]
-pub fn stretch_refusal(kind: &[u8], a: usize, b: usize) -> Result<(), Reason>
+// The objects of a stretch, or what there is of each of them.
+#[tactic(auto, using(lent::proofs::PieceLaws::part_pieces))]
+fn objects_of<T>(items: &[T], offset: usize, n: usize) -> &[T]
+    requires { offset + n ≤ length items.now }
+    ensures { result.now ≡ part offset n items.now }
+{
+    &items[offset..][..n]
+}
+
+// Whether a stretch is good. One that is empty or ends past the chart is refused, then one that has no note.
+pub fn stretch_refusal(kind: &[u8], offset: usize, length: usize) -> Result<(), Reason>
+    ensures { result ≡ stretch_refusal kind.now offset (offset + length) }
+{
+    if length == 0 {
+        return Err(Reason::OutOfRange);
+    }
+    if kind.len() < offset {
+        return Err(Reason::OutOfRange);
+    }
+    if kind.len() - offset < length {
+        return Err(Reason::OutOfRange);
+    }
+    if !has_note(objects_of(kind, offset, length)) {
+        return Err(Reason::NoNotes);
+    }
+    Ok(())
+}
+
+// The same of the stretch that has object a and not object b.
+pub fn refusal_between(kind: &[u8], a: usize, b: usize) -> Result<(), Reason>
     ensures { result ≡ stretch_refusal kind.now a b }
 {
     if b <= a {
         return Err(Reason::OutOfRange);
     }
-    if kind.len() < b {
-        return Err(Reason::OutOfRange);
-    }
-    if !has_note(&kind[a..b]) {
-        return Err(Reason::NoNotes);
-    }
-    Ok(())
+    stretch_refusal(kind, a, b - a)
 }
 
 // What an object adds to a sum: a note its value, a NonHit -0.0, which changes no sum. It is read by its kind's place,
@@ -58,11 +80,13 @@ fn average(kind: &[u8], value: &[f64]) -> f64
     sum / (notes as f64)
 }
 
-// The average of the notes from a to b, b not included.
-#[tactic(auto, using(lent::proofs::PieceLaws::part_pieces))]
-pub fn mean(kind: &[u8], value: &[f64], a: usize, b: usize) -> f64
-    requires { StretchRoom kind.now value.now a b }
-    ensures { result ≡ average_of (of_notes (from_to a b kind.now) (from_to a b value.now)) }
+// The average of a stretch's notes.
+pub fn mean(kind: &[u8], value: &[f64], offset: usize, length: usize) -> f64
+    requires { StretchRoom kind.now value.now offset length }
+    ensures { result ≡ average_of (of_notes (part offset length kind.now) (part offset length value.now)) }
 {
-    average(&kind[a..b], &value[a..b])
+    average(
+        objects_of(kind, offset, length),
+        objects_of(value, offset, length),
+    )
 }

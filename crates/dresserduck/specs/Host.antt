@@ -15,26 +15,27 @@ use Rattle.dresserduck.specs.declared.Coloured.{Coloured}
 use Rattle.dresserduck.specs.declared.Stretched.{Stretched}
 use Rattle.dresserduck.specs.declared.Grouped.{Grouped}
 use Rattle.dresserduck.specs.declared.Recorded.{Recorded}
+use Rattle.dresserduck.specs.declared.lesson.Lessoned.{Lessoned}
 use Rattle.dresserduck.specs.declared.taps.Tapped.{Tapped}
 use Rattle.dresserduck.specs.declared.turns.Turned.{Turned}
 
 unfoldable pub built_of : Result ℕ Refusal → Built
 built_of (Ok objects) = record { refusal = 0; place = 0; objects = objects }
-built_of (Err first) = record { refusal = reason_number first.reason; place = first.place.0; objects = 0 }
+built_of (Err first) = record { refusal = reason_number first.reason; place = first.place; objects = 0 }
 
 unfoldable pub encoded_of : Result ℕ Refusal → Encoded
 encoded_of (Ok count) = record { refusal = 0; place = 0; hitpatterns = count }
-encoded_of (Err first) = record { refusal = reason_number first.reason; place = first.place.0; hitpatterns = 0 }
+encoded_of (Err first) = record { refusal = reason_number first.reason; place = first.place; hitpatterns = 0 }
 
 unfoldable pub coloured_of : Result (Unit {0}) Refusal → Coloured
 coloured_of (Ok done) = record { refusal = 0; place = 0 }
-coloured_of (Err first) = record { refusal = reason_number first.reason; place = first.place.0 }
+coloured_of (Err first) = record { refusal = reason_number first.reason; place = first.place }
 
 unfoldable pub stretched_of : Result StretchMean Refusal → Stretched
 stretched_of (Ok found) = record { refusal = 0; place = 0; mean = found.mean; tenths = found.tenths }
 stretched_of (Err first) = record {
   refusal = reason_number first.reason;
-  place = first.place.0;
+  place = first.place;
   mean = of_bits binary64 0;
   tenths = pos 0;
 }
@@ -42,7 +43,7 @@ stretched_of (Err first) = record {
 unfoldable pub grouped_of : Result GroupTotals Refusal → Grouped
 grouped_of (Ok totals) = record { refusal = 0; place = 0; groups = totals.groups; patterngroups = totals.patterns }
 grouped_of (Err first) =
-    record { refusal = reason_number first.reason; place = first.place.0; groups = 0; patterngroups = 0 }
+    record { refusal = reason_number first.reason; place = first.place; groups = 0; patterngroups = 0 }
 
 -- an own interval, absent or not, and its bits
 unfoldable pub has_own : Option Float → ℕ
@@ -70,7 +71,7 @@ recorded_of (Ok r) = record {
 }
 recorded_of (Err first) = record {
   refusal = reason_number first.reason;
-  place = first.place.0;
+  place = first.place;
   firstnote = 0;
   notecount = 0;
   hasown = 0;
@@ -86,11 +87,15 @@ recorded_of (Err first) = record {
 unfoldable pub tapped_of : Result (Option ℕ) Refusal → Tapped
 tapped_of (Ok (Some groups)) = record { refusal = 0; place = 0; «open» = 0; groups = groups }
 tapped_of (Ok None) = record { refusal = 0; place = 0; «open» = 1; groups = 0 }
-tapped_of (Err first) = record { refusal = reason_number first.reason; place = first.place.0; «open» = 0; groups = 0 }
+tapped_of (Err first) = record { refusal = reason_number first.reason; place = first.place; «open» = 0; groups = 0 }
 
 unfoldable pub turned_of : Result (Unit {0}) Refusal → Turned
 turned_of (Ok done) = record { refusal = 0; place = 0 }
-turned_of (Err first) = record { refusal = reason_number first.reason; place = first.place.0 }
+turned_of (Err first) = record { refusal = reason_number first.reason; place = first.place }
+
+unfoldable pub lessoned_of : Result (Unit {0}) Refusal → Lessoned
+lessoned_of (Ok done) = record { refusal = 0; place = 0 }
+lessoned_of (Err first) = record { refusal = reason_number first.reason; place = first.place }
 
 -- a call's outcome, its answer turned into such a record
 unfoldable pub for_host : {Answer Record Memory : Type 0} → (Answer → Record) → Outcome Answer Memory

@@ -23,6 +23,7 @@ use grouping_chart::refusal::Refusal;
 use grouping_chart::settings::Settings;
 use numeric::canonical::bits;
 
+pub mod lesson;
 pub mod taps;
 pub mod turns;
 
@@ -47,7 +48,7 @@ impl From<Result<usize, Refusal>> for Built {
             },
             Err(first) => Built {
                 refusal: u64::from(first.reason),
-                place: first.place.0 as u64,
+                place: first.place as u64,
                 ..Built::default()
             },
         }
@@ -94,7 +95,7 @@ impl From<Result<usize, Refusal>> for Encoded {
             },
             Err(first) => Encoded {
                 refusal: u64::from(first.reason),
-                place: first.place.0 as u64,
+                place: first.place as u64,
                 ..Encoded::default()
             },
         }
@@ -162,7 +163,7 @@ impl From<Result<(), Refusal>> for Coloured {
             Ok(()) => Coloured::default(),
             Err(first) => Coloured {
                 refusal: u64::from(first.reason),
-                place: first.place.0 as u64,
+                place: first.place as u64,
                 ..Coloured::default()
             },
         }
@@ -217,7 +218,7 @@ impl From<Result<StretchMean, Refusal>> for Stretched {
             },
             Err(first) => Stretched {
                 refusal: u64::from(first.reason),
-                place: first.place.0 as u64,
+                place: first.place as u64,
                 ..Stretched::default()
             },
         }
@@ -274,7 +275,7 @@ impl From<Result<GroupTotals, Refusal>> for Grouped {
             },
             Err(first) => Grouped {
                 refusal: u64::from(first.reason),
-                place: first.place.0 as u64,
+                place: first.place as u64,
                 ..Grouped::default()
             },
         }
@@ -358,7 +359,7 @@ impl From<Result<GroupRecord, Refusal>> for Recorded {
             },
             Err(first) => Recorded {
                 refusal: u64::from(first.reason),
-                place: first.place.0 as u64,
+                place: first.place as u64,
                 ..Recorded::default()
             },
         }

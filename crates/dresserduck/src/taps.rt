@@ -35,7 +35,7 @@ impl From<Result<Option<usize>, Refusal>> for Tapped {
             },
             Err(first) => Tapped {
                 refusal: u64::from(first.reason),
-                place: first.place.0 as u64,
+                place: first.place as u64,
                 ..Tapped::default()
             },
         }

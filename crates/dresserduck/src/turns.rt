@@ -26,7 +26,7 @@ impl From<Result<(), Refusal>> for Turned {
             Ok(()) => Turned::default(),
             Err(first) => Turned {
                 refusal: u64::from(first.reason),
-                place: first.place.0 as u64,
+                place: first.place as u64,
             },
         }
     }

@@ -82,16 +82,16 @@ rhythm_memory n = record {
 -- 0 and the number of hit patterns, or the refusal and its place
 unfoldable pub encode_answer : Result ℕ Refusal → List ℕ
 encode_answer (Ok hits) = 0 ∷ hits ∷ []
-encode_answer (Err first) = reason_number first.reason ∷ first.place.0 ∷ []
+encode_answer (Err first) = reason_number first.reason ∷ first.place ∷ []
 
 unfoldable pub colour_answer : Result (Unit {0}) Refusal → List ℕ
 colour_answer (Ok done) = 0 ∷ []
-colour_answer (Err first) = reason_number first.reason ∷ first.place.0 ∷ []
+colour_answer (Err first) = reason_number first.reason ∷ first.place ∷ []
 
 -- 0 and how many groups and pattern groups there are, or the refusal and its place
 unfoldable pub rhythm_answer : Result GroupTotals Refusal → List ℕ
 rhythm_answer (Ok totals) = 0 ∷ totals.groups ∷ totals.patterns ∷ []
-rhythm_answer (Err first) = reason_number first.reason ∷ first.place.0 ∷ []
+rhythm_answer (Err first) = reason_number first.reason ∷ first.place ∷ []
 
 unfoldable pub encode_shown : Outcome (Result ℕ Refusal) encode.Memory → List (List ℕ)
 encode_shown o =

@@ -12,7 +12,7 @@ use lib.Ieee.{Float, nan}
 use Rattle.std.proofs.lemmas.Bool.{and_parts}
 use Rattle.std.proofs.lemmas.List.{get_or_default}
 use Rattle.lent.proofs.NeverLaws.{never}
-use Rattle.std.specs.Prelude.{Ok, Err}
+use Rattle.std.specs.Prelude.{Result, Ok, Err}
 use Rattle.grouping_chart.specs.declared.refusal.Reason.{Reason}
 use Rattle.grouping_chart.specs.Chart.{Chart, equally_long}
 use Rattle.grouping_chart.specs.Refusal.{Check, passed, kind_good, time_good, ratio_good, Verdict, accepted, refused, refused_or}
@@ -69,8 +69,8 @@ pub test_passed : (b : Bool) (r : Reason) → cond b passed (Err r) ≡ passed �
 test_passed true r e = refl
 test_passed false r e = never (cc)
 
--- two tests of which the second is made where the first passes
-pub both_passed : (first later : Check) → and_then first later ≡ passed → (first ≡ passed) × (later ≡ passed)
+-- two tests, or verdicts, of which the second is made where the first passes
+pub both_passed : {Why : Type 0} (first later : Result (Unit {0}) Why) → and_then first later ≡ Ok tt → (first ≡ Ok tt) × (later ≡ Ok tt)
 both_passed (Ok done) later e = (refl, e)
 both_passed (Err r) later e = never (cc)
 

@@ -1,5 +1,5 @@
 -- The verdict on a call, what it refuses after its chart, and the two cases of what it comes to. The calls cite these.
-use mathlib.Core.Path.{◌≡◌, sym, ◌∙◌}
+use mathlib.Core.Path.{◌≡◌, refl, sym, ◌∙◌}
 use mathlib.Core.Bool.{false}
 use mathlib.Core.List.{List}
 use Prim.Native.Nat.{ℕ, ◌*◌, ◌≤◌}
@@ -11,7 +11,8 @@ use Rattle.grouping_chart.specs.Settings.{Settings, settings_refusal, Permitted}
 use Rattle.grouping_chart.specs.Outcome.{Outcome, outcome, refused_then, answered}
 use Rattle.grouping_chart.specs.declared.refusal.Reason.{Reason}
 use Rattle.grouping_chart.specs.declared.refusal.Refusal.{Refusal}
-use Rattle.grouping_chart.proofs.AcceptedLaws.{GoodChart, accepted_good, both_passed}
+use Rattle.lent.proofs.NeverLaws.{never}
+use Rattle.grouping_chart.proofs.AcceptedLaws.{GoodChart, accepted_good, none_refused, both_passed}
 use Rattle.grouping_chart.proofs.RoomLaws.{AllLong, roomy, all_long, joined, short_joined}
 
 -- the verdict, from what `judge` answered on the tests of the answer slices
@@ -50,6 +51,12 @@ module _ {v : Verdict} (asked : Check) where
   pub then-refused : {r : Reason} → v ≡ accepted → asked ≡ Err r → refused_then v asked ≡ refused r
   unfolding refused_then
   then-refused h e = rw (h, e)
+
+-- where neither is refused, the call is accepted, and only there
+pub neither-refused : (v : Verdict) (asked : Check) → refused_then v asked ≡ accepted → (v ≡ accepted) × (asked ≡ passed)
+unfolding refused_then
+neither-refused (Ok done) asked e = (refl, (none_refused asked 0 accepted e).0)
+neither-refused (Err first) asked e = never (cc)
 
 -- ---- what a call comes to
 

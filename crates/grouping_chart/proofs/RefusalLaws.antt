@@ -20,7 +20,7 @@ use Rattle.grouping_chart.specs.Chart.{Chart, equally_long}
 use Rattle.grouping_chart.specs.Refusal.{Check, passed, kind_good, time_good, ratio_good, Verdict, accepted, refusal, refused_or}
 use Rattle.grouping_chart.specs.Refusal.{and_then, delta_refusal, object_order, object_refusal, first_refused, in_order, objects_verdict, verdict}
 use Rattle.grouping_chart.specs.declared.refusal.Refusal.{Refusal}
-use Rattle.grouping_chart.specs.passes.Good.{SameLengths, all, or_later, first_at}
+use Rattle.grouping_chart.specs.passes.Good.{SameLengths, all, first_at}
 
 -- a good ratio may stand for another
 pub refusal_ratio : (k : ℕ) (s d r r' : Float) → ratio_good r ≡ true → ratio_good r' ≡ true → object_refusal k s d r ≡ object_refusal k s d r'
@@ -48,12 +48,12 @@ unfolding first_refused
 first_none test kinds starts deltas ratios i h = rw (drop_of_length-le kinds h)
 
 later_step : (v : Verdict) (check : Check) (i : ℕ) (later : Verdict)
-    → or_later (or_later v (refused_or check i accepted)) later ≡ or_later v (refused_or check i later)
+    → and_then (and_then v (refused_or check i accepted)) later ≡ and_then v (refused_or check i later)
 later_step (Ok done) (Ok good) i later = refl
 later_step (Ok done) (Err reason) i later = refl
 later_step (Err first) check i later = refl
 
-later_none : (v : Verdict) → v ≡ or_later v accepted
+later_none : (v : Verdict) → v ≡ and_then v accepted
 later_none (Ok done) = refl
 later_none (Err first) = refl
 
@@ -65,27 +65,29 @@ module _ (checks : ℕ → Check) where
   next_refused {reason} n (suc m) h e f =
       ⊎_elim (λ k. rw (← k, ← e, ← f)) (λ k. rw (← next_refused n m k e f)) (eq-or-lt_of_le (omega arith))
 
--- by the places: what is refused among the first n, then what is left
+-- by the places: what is refused among the first n, then what is left of a recursion that makes the tests in this order
+module _ (checks : ℕ → Check) (from : ℕ → Verdict) (n : ℕ) (turn : (i : ℕ) → i < n → from i ≡ refused_or (checks i) i (from (i + 1)))
+    (end : accepted ≡ from n) where
+  so_far : (i : ℕ) → i ≤ n → and_then (first_at checks i) (from i) ≡ from 0
+  unfolding first_at
+  so_far zero h = refl
+  so_far (suc i) h =
+      let step : from i ≡ refused_or (checks i) i (from (suc i)) = rw add-one at (turn i (omega arith)) in
+      later_step (first_at checks i) (checks i) i (from (suc i)) ∙ ap (and_then (first_at checks i)) (sym step) ∙ so_far i (omega arith)
+
+  pub by-places : first_at checks n ≡ from 0
+  by-places = later_none (first_at checks n) ∙ ap (and_then (first_at checks n)) end ∙ so_far n (omega arith)
+
+-- of objects
 module _ {A : Type 0} (test : A → Check) (kinds : List ℕ) (starts : List Float) (deltas : List A) (ratios : List Float) (y : A) (z : Float)
     (same : SameLengths (length kinds) starts deltas ratios)
     (checks : ℕ → Check) (each : (i : ℕ) → i < length kinds
     → checks i ≡ object_order (get_or kinds i 0) (get_or starts i z) (test (get_or deltas i y)) (get_or ratios i z)) where
-  abbrev from : ℕ → Verdict
-  from i = first_refused test i (drop i kinds) (drop i starts) (drop i deltas) (drop i ratios)
-
-  so_far : (i : ℕ) → i ≤ length kinds → or_later (first_at checks i) (from i) ≡ from 0
-  unfolding first_at
-  so_far zero h = refl
-  so_far (suc i) h =
-      let step : from i ≡ refused_or (checks i) i (from (suc i)) =
-      rw add-one at (first_from test kinds starts deltas ratios i y z same (checks i) (omega arith) (each i (omega arith))) in
-      later_step (first_at checks i) (checks i) i (from (suc i)) ∙ ap (or_later (first_at checks i)) (sym step) ∙ so_far i (omega arith)
-
   pub first-places : first_at checks (length kinds) ≡ first_refused test 0 kinds starts deltas ratios
   first-places =
-      later_none (first_at checks (length kinds))
-      ∙ ap (or_later (first_at checks (length kinds))) (first_none test kinds starts deltas ratios (length kinds) (omega arith))
-      ∙ so_far (length kinds) (omega arith)
+      by-places checks (λ i. first_refused test i (drop i kinds) (drop i starts) (drop i deltas) (drop i ratios)) (length kinds)
+      (λ i h. first_from test kinds starts deltas ratios i y z same (checks i) h (each i h))
+      (first_none test kinds starts deltas ratios (length kinds) (omega arith))
 
 -- of a chart
 module _ (c : Chart) (same : SameLengths (length c.kinds) c.starts c.deltas c.ratios) where

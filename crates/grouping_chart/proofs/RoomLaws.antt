@@ -3,7 +3,7 @@ use mathlib.Core.Path.{◌≡◌, refl, sym, ◌∙◌}
 use mathlib.Core.Bool.{Bool, true, false, cond, ◌||◌, or-false, or_assoc}
 use mathlib.Core.List.{List, [], ◌∷◌}
 use Prim.Native.Nat.{ℕ, ◌*◌, ◌≤◌}
-use borrow.Author.Tests.{ltb-false}
+use borrow.Author.Tests.{ltb-false, le-ltb}
 use lib.Dec.{ltb}
 use Rattle.std.specs.Prelude.{Err}
 use Rattle.std.proofs.lemmas.Bool.{or_parts}
@@ -28,6 +28,11 @@ roomy answers n work scratch e =
     let a = or_parts _ _ (not_refused (answers || (ltb work (8 * n) || ltb scratch n)) e) in
     let b = or_parts _ _ a.1 in
     record { answered = a.0; regions = ltb-false _ _ b.0; floats = ltb-false _ _ b.1 }
+
+-- and where no slice is too short nothing is refused
+pub room_passed : {answers : Bool} {n work scratch : ℕ} → Roomy answers n work scratch → short_refusal answers n work scratch ≡ passed
+unfolding short_refusal
+room_passed {n} {work} {scratch} r = rw (r.answered, le-ltb work (8 * n) r.regions, le-ltb scratch n r.floats)
 
 -- ---- the answer slices, one after another
 

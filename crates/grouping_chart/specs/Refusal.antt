@@ -1,7 +1,8 @@
 -- Why a call refuses, where, and the order of the tests for refusals 1 to 7 (scope: "Refused by number"): 1, 2, what is
 -- refused beside the chart, then 4 to 7 for one object after another. Room.antt alone says what is refused beside the
 -- chart, and when. Where a delta is known to within a range (change requests: 6/12), 15 is refused between 6 and 7.
--- A refusal has a reason, whose number C is told, and a place: the object's for 4 to 7 and 15, else 0.
+-- A refusal has a reason, whose number C is told, and a place: the object's for 4 to 7 and 15, the pair's for 9 and 11 of
+-- a lesson (change requests: 9/12), else 0.
 use Rattle.std.specs.Prelude.{ℕ, ◌+◌, Bool, cond, List, [], ◌∷◌, leb, ltb, Float, Result, Ok, Err}
 use Rattle.numeric.specs.Range.{within, earliest, latest, least_ratio, greatest_ratio}
 use Rattle.grouping_chart.specs.Chart.{Chart, size, largest, equally_long}
@@ -9,7 +10,7 @@ use Rattle.grouping_chart.specs.declared.refusal.Reason.{Reason}
 use Rattle.grouping_chart.specs.declared.refusal.Reason.TheVariants.{TooManyObjects, UnequalLengths, ShortSlice}
 use Rattle.grouping_chart.specs.declared.refusal.Reason.TheVariants.{UnknownKind, BadStart, BadDelta, BadRatio}
 use Rattle.grouping_chart.specs.declared.refusal.Reason.TheVariants.{BadWindow, OutOfRange, BadRate, NoNotes}
-use Rattle.grouping_chart.specs.declared.refusal.Reason.TheVariants.{LowestAboveHighest, BadSettings}
+use Rattle.grouping_chart.specs.declared.refusal.Reason.TheVariants.{LowestAboveHighest, BadSettings, BadLesson}
 use Rattle.grouping_chart.specs.declared.refusal.Refusal.{Refusal}
 
 -- the number that C is told
@@ -27,9 +28,10 @@ reason_number BadRate = 10
 reason_number NoNotes = 11
 reason_number LowestAboveHighest = 15
 reason_number BadSettings = 16
+reason_number BadLesson = 17
 
 abbrev pub refusal : Reason → ℕ → Refusal
-refusal reason place = record { reason = reason; place = record { 0 = place } }
+refusal reason place = record { reason = reason; place = place }
 
 abbrev pub at_0 : Reason → Refusal
 at_0 reason = refusal reason 0
@@ -61,10 +63,10 @@ time_good x = within earliest latest x
 unfoldable pub ratio_good : Float → Bool
 ratio_good x = within least_ratio greatest_ratio x
 
--- a test where the one before it passes
-abbrev pub and_then : Check → Check → Check
+-- a test, or a verdict, where the one before it passes
+abbrev pub and_then : {Why : Type 0} → Result (Unit {0}) Why → Result (Unit {0}) Why → Result (Unit {0}) Why
 and_then (Ok done) later = later
-and_then (Err reason) later = Err reason
+and_then (Err why) later = Err why
 
 unfoldable pub delta_refusal : Float → Check
 delta_refusal delta = cond (time_good delta) passed (Err BadDelta)

@@ -9,7 +9,6 @@ ghost use Rattle.grouping_chart.specs.Refusal.{objects_verdict, verdict};
 
 use crate::chart::{Chart, MOST_OBJECTS};
 use crate::good;
-use crate::object::ObjectIndex;
 use numeric::range;
 
 // Why a call refuses. C is told its number; 12 to 14 are those of the letters program.
@@ -28,13 +27,14 @@ pub enum Reason {
     NoNotes,
     LowestAboveHighest,
     BadSettings,
+    BadLesson,
 }
 
-// The first refusal that applies to a call. Its place is an object's where the reason is one object's, else 0.
+// The first refusal that applies to a call. Its place is that of the object, or of the pair, that is refused, else 0.
 #[derive(Clone, Copy, PartialEq, Eq, Debug)]
 pub struct Refusal {
     pub reason: Reason,
-    pub place: ObjectIndex,
+    pub place: usize,
 }
 
 impl From<Reason> for u64 {
@@ -55,19 +55,17 @@ impl From<Reason> for u64 {
             Reason::NoNotes => 11,
             Reason::LowestAboveHighest => 15,
             Reason::BadSettings => 16,
+            Reason::BadLesson => 17,
         }
     }
 }
 
-// What is no object's own is refused at place 0.
+// What is no one object's and no one pair's is refused at place 0.
 impl From<Reason> for Refusal {
     ghost from_gives = { λ r f. f ≡ at_0 r };
 
     fn from(reason: Reason) -> Refusal {
-        Refusal {
-            reason,
-            place: ObjectIndex(0),
-        }
+        Refusal { reason, place: 0 }
     }
 }
 
@@ -124,7 +122,7 @@ pub fn object_refusal(kind: u8, start: f64, delta: f64, ratio: f64) -> Result<()
     object_order(kind, start, delta_refusal(delta), ratio)
 }
 
-// The first of n objects that does not pass its test.
+// The first of n objects, or pairs, that does not pass its test.
 #[tactic(auto, unfolding(crate::specs::passes::Good::first_at))]
 pub fn first_refused<F: Fn(usize) -> Result<(), Reason>>(n: usize, test: F) -> Result<(), Refusal>
     requires callable { (i : ℕ) → i < n → F.pre test i }
@@ -133,10 +131,7 @@ pub fn first_refused<F: Fn(usize) -> Result<(), Reason>>(n: usize, test: F) -> R
 {
     for i in 0..n {
         if let Err(reason) = test(i) {
-            return Err(Refusal {
-                reason,
-                place: ObjectIndex(i),
-            });
+            return Err(Refusal { reason, place: i });
         }
     }
     Ok(())

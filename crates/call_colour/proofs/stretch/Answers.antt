@@ -1,6 +1,6 @@
 -- `stretch` meets its contract: the verdict of the definition is the one that the tests gave, each case leaves its outcome, and the mean of an accepted
 -- stretch is small enough for its tenths.
-use Rattle.std.proofs.Common.{sym, ap, ◌∙◌, rules}
+use Rattle.std.proofs.Common.{sym, ap, ◌∙◌, arith, rules}
 use mir.Facts.{to_z-of_z}
 use mir.Syntax.{w64}
 use Rattle.numeric.specs.Tenths.{tenths_of}
@@ -10,6 +10,7 @@ use Rattle.call_colour.specs.Stretch.{chart_tenths}
 use Rattle.call_colour.specs.Call.{memory, stretch_outcome}
 use Rattle.call_colour.proofs.CallLaws.{chart_room, stretch-done}
 use Rattle.call_colour.proofs.StretchLaws.{Stretched, stretch_room, mean_is, mean_in_range}
+use Rattle.call_colour.proofs.StretchCases.{good_lies}
 use Rattle.call_colour.proofs.stretch.Goals.{After-fill_chart}
 use Rattle.call_colour.proofs.stretch.Goals as goal
 
@@ -20,7 +21,7 @@ stretched : (c : After-fill_chart)
     Stretched a.s (seen a.chart) (memory a.value.now a.work.now a.scratch.now) a.a a.b (memory n.value n.work n.scratch)
 stretched c = record {
   taken = judged-told _ _ _ _ _ c.judge.ensures c.in_ok-judge.was;
-  good = sym c.stretch_refusal.ensures ∙ c.in_ok-stretch_refusal.was;
+  good = sym c.refusal_between.ensures ∙ c.in_ok-refusal_between.was;
   made = c.fill_chart.ensures;
 }
 
@@ -29,14 +30,17 @@ unfolding stretch_outcome
 returns-in_err-judge c =
     answered-refused _ _ _ (chart-refused _ (judged-told _ _ _ _ _ c.judge.ensures c.in_err-judge.was)) (search rules)
 
-pub returns-in_err-stretch_refusal : goal.returns-in_err-stretch_refusal
+pub returns-in_err-refusal_between : goal.returns-in_err-refusal_between
 unfolding stretch_outcome
-returns-in_err-stretch_refusal c =
+returns-in_err-refusal_between c =
     let taken = judged-told _ _ _ _ _ c.judge.ensures c.in_ok-judge.was in
-    answered-refused _ _ _ (then-refused _ taken (sym c.stretch_refusal.ensures ∙ c.in_err-stretch_refusal.was)) (search rules)
+    answered-refused _ _ _ (then-refused _ taken (sym c.refusal_between.ensures ∙ c.in_err-refusal_between.was)) (search rules)
 
 pub fill_chart-requires : goal.fill_chart-requires
 fill_chart-requires c = chart_room _ (seen c.args.chart) _ (judged-told _ _ _ _ _ c.judge.ensures c.in_ok-judge.was)
+
+pub overflow_sub-b : goal.overflow_sub-b
+overflow_sub-b c = let lies = good_lies _ _ _ (stretched (goal.at.overflow_sub-b c).After-fill_chart).good in omega (arith, lies.some)
 
 pub mean-mean-requires : goal.mean-mean-requires
 mean-mean-requires c = stretch_room (stretched (goal.at.mean-mean-requires c).After-fill_chart)

@@ -1,5 +1,5 @@
 -- What the passes of colour and stretch ask.
-use Rattle.std.specs.Prelude.{◌≡◌, ℕ, ◌≤◌, ◌<◌, List, length, get_or, Float}
+use Rattle.std.specs.Prelude.{◌≡◌, ℕ, ◌+◌, ◌≤◌, ◌<◌, List, length, get_or, Float}
 use Rattle.grouping_chart.specs.Chart.{largest}
 use Rattle.grouping_chart.specs.Settings.{Settings}
 use Rattle.grouping_preprocessor.specs.passes.Steps.{Regions}
@@ -24,10 +24,9 @@ pub record AverageRoom (kinds : List ℕ) (values : List Float) : Type 0 where
   pub same : length values ≡ length kinds
   pub few : length kinds ≤ largest
 
--- known kinds; kinds and values from a to b are there, and few
-pub record StretchRoom (kinds : List ℕ) (values : List Float) (a b : ℕ) : Type 0 where
+-- known kinds; kinds and values of a stretch, by its first object and how many it has, are there, and few
+pub record StretchRoom (kinds : List ℕ) (values : List Float) (a n : ℕ) : Type 0 where
   pub known : Kinds kinds
-  pub ordered : a ≤ b
-  pub kinded : b ≤ length kinds
-  pub valued : b ≤ length values
-  pub few : b ≤ largest
+  pub kinded : a + n ≤ length kinds
+  pub valued : a + n ≤ length values
+  pub few : n ≤ largest

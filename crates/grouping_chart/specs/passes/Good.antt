@@ -1,8 +1,8 @@
 -- What the passes over a chart's objects ask of its lists, and what they answer: whether all objects are good. Only
 -- where not is the first bad one looked for.
-use Rattle.std.specs.Prelude.{ℕ, zero, suc, ◌≡◌, Bool, true, ◌&&◌, List, [], ◌∷◌, length, Float, Ok, Err}
+use Rattle.std.specs.Prelude.{ℕ, zero, suc, ◌≡◌, Bool, true, ◌&&◌, List, [], ◌∷◌, length, Float}
 use Rattle.grouping_chart.specs.Chart.{Chart}
-use Rattle.grouping_chart.specs.Refusal.{Check, Verdict, accepted, refused_or, kind_good, time_good, ratio_good}
+use Rattle.grouping_chart.specs.Refusal.{Check, Verdict, accepted, and_then, refused_or, kind_good, time_good, ratio_good}
 
 -- the lists of starts, deltas (or of what is known of them) and ratios are n long
 pub record SameLengths {A : Type 0} (n : ℕ) (starts : List Float) (deltas : List A) (ratios : List Float) : Type 0 where
@@ -20,15 +20,10 @@ unfoldable pub all_places : (ℕ → Bool) → ℕ → Bool
 all_places passes zero = true
 all_places passes (suc n) = all_places passes n && passes n
 
--- a later verdict, where nothing was refused before
-abbrev pub or_later : Verdict → Verdict → Verdict
-or_later (Ok done) later = later
-or_later (Err first) later = Err first
-
--- the first of n objects that does not pass its test, by the places
+-- the first of n objects, or pairs, that does not pass its test, by the places
 unfoldable pub first_at : (ℕ → Check) → ℕ → Verdict
 first_at checks zero = accepted
-first_at checks (suc n) = or_later (first_at checks n) (refused_or (checks n) n accepted)
+first_at checks (suc n) = and_then (first_at checks n) (refused_or (checks n) n accepted)
 
 -- whether no object is refused, of four lists of one length
 unfoldable pub all_good : Chart → Bool
