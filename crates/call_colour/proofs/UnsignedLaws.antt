@@ -20,7 +20,7 @@ module _ {s : Settings} (r : InRanges s) where
   values_unsigned : colour_values s.search_limit s.tolerance ≡ colour_values (unsigned s).search_limit (unsigned s).tolerance
   values_unsigned = values.values_unsigned (tolerance_not_negative r) s.search_limit
 
-  filled_unsigned : filled s ≡ filled (unsigned s)
+  pub filled_unsigned : filled s ≡ filled (unsigned s)
   unfolding filled
   filled_unsigned = λ i kinds ratios m. record {
     value = over (values_unsigned i kinds ratios) m.value;
@@ -31,11 +31,11 @@ module _ {s : Settings} (r : InRanges s) where
   here_unsigned : judged s ≡ judged (unsigned s)
   here_unsigned = λ i c m. judged_unsigned r i c (answer_lengths m) m.work m.scratch
 
-  mean_unsigned : chart_mean s ≡ chart_mean (unsigned s)
+  pub mean_unsigned : chart_mean s ≡ chart_mean (unsigned s)
   unfolding chart_mean stretch_values
   mean_unsigned = λ i c a b. average_of (of_notes (from_to a b c.kinds) (from_to a b (values_unsigned i c.kinds c.ratios)))
 
-  tenths_unsigned : chart_tenths s ≡ chart_tenths (unsigned s)
+  pub tenths_unsigned : chart_tenths s ≡ chart_tenths (unsigned s)
   unfolding chart_tenths
   tenths_unsigned = λ i c a b. tenths_of (mean_unsigned i c a b)
 

@@ -2,30 +2,28 @@
 -- place in both answer slices.
 use mathlib.Core.Path.{◌≡◌, refl, sym, ap, ◌∙◌}
 use mathlib.Core.Bool.{false, ◌||◌}
-use mathlib.Core.List.{List, [], ◌∷◌, map}
-use Prim.Native.Nat.{ℕ, ◌+◌, ◌-◌, ◌≤◌, ◌<◌}
+use mathlib.Core.List.{List, [], ◌∷◌}
+use Prim.Native.Nat.{ℕ, ◌+◌, ◌≤◌, ◌<◌}
 use native.Mathlib.Omega.{arith}
+use borrow.Author.Tests.{le-ltb}
 use lib.ListN.{length, get_or}
-use lib.IntN.{ℤ}
-use lib.Ieee.{Float, nan}
 use Rattle.std.specs.Prelude.{Ok}
 use Rattle.std.proofs.lemmas.Bool.{or_parts}
-use Rattle.lent.specs.Over.{over}
 use Rattle.grouping_chart.specs.Chart.{Chart, size}
 use Rattle.grouping_chart.specs.Outcome.{outcome}
 use Rattle.grouping_chart.specs.Room.{any_short, short_refusal}
 use Rattle.grouping_chart.specs.Settings.{Settings, settings_refusal}
 use Rattle.grouping_chart.specs.Refusal.{Check, Verdict, accepted, and_then, verdict}
-use Rattle.grouping_chart.proofs.AcceptedLaws.{GoodChart, accepted_good, good_accepted, both_passed}
-use Rattle.grouping_chart.proofs.OutcomeLaws.{neither-refused, answered-done}
+use Rattle.grouping_chart.proofs.AcceptedLaws.{accepted_good, good_accepted, both_passed}
+use Rattle.grouping_chart.proofs.OutcomeLaws.{neither-refused, answered-done, accommodated}
 use Rattle.grouping_chart.proofs.RoomLaws.{joined, short_joined, roomy, room_passed, all_long}
 use Rattle.call_colour.specs.Stretch.{GoodStretch}
 use Rattle.call_colour.specs.Call as colour
 use Rattle.call_lesson.specs.Lesson.{Stretches, pair_count, pairs, count_refusal, set_refusal, first_pair_refused, lesson_verdict}
 use Rattle.call_lesson.specs.Call.{Memory, beside, judged, filled, lesson_outcome}
-use Rattle.call_lesson.specs.passes.Rooms.{Paired, pair_at}
+use Rattle.call_lesson.specs.passes.Rooms.{Paired}
 use Rattle.call_lesson.proofs.PairLaws.{length-pairs, get_or-pairs}
-use Rattle.call_lesson.proofs.VerdictLaws.{GoodSet, good_set, counted, pairs_good}
+use Rattle.call_lesson.proofs.VerdictLaws.{GoodSet, good_set, set_good, counted, count_good, pairs-last, pairs_good, good_pairs}
 
 -- an accepted lesson
 pub record Taken (s : Settings) (c : Chart) (l : Stretches) (m : Memory) : Type 0 where
@@ -75,6 +73,25 @@ module _ (s : Settings) (c : Chart) (l : Stretches) (m : Memory) where
         mean_room = long.0;
         tenths_room = long.1.0;
       }
+
+  -- and only such a lesson is accepted
+  pub untaken : Taken s c l m → judged s c l m ≡ accepted
+  untaken x =
+      let r = accommodated s c (colour.answer_lengths m.colour) (length m.colour.work) (length m.colour.scratch) x.chart in
+      let values : any_short (size c) (colour.answer_lengths m.colour) ≡ false =
+      sym (short_joined (size c) (colour.answer_lengths m.colour)) ∙ le-ltb (length m.colour.value) (size c) r.long.0 in
+      let answers : any_short (pair_count l) lengths ≡ false =
+      rw (← short_joined (pair_count l) lengths, le-ltb (length m.mean) (pair_count l) x.mean_room, le-ltb (length m.tenths) (pair_count l) x.tenths_room) refl in
+      let room = room_passed (record { answered = λ i. values i || answers i; regions = r.regions; floats = r.floats }) in
+      let good = good_accepted (record {
+        few = r.chart.few;
+        room = rw (count_good l x.paired, room) r.permitted;
+        lengths = r.chart.lengths;
+        objects = r.chart.objects;
+      }) in
+      pairs-last _ c.kinds l good (set_good l x.set)
+      ∙ good_pairs c.kinds 0 (pairs l)
+      (λ i d h. let k : i < pair_count l = omega (arith, length-pairs l x.paired) in rw (get_or-pairs l x.paired i d k) (x.each i k))
 
   pub done : judged s c l m ≡ accepted → {new : Memory} → new ≡ filled s c l m → outcome (Ok tt) new ≡ lesson_outcome s c l m
   unfolding lesson_outcome

@@ -4,3 +4,7 @@ pub mod RisingLaws
 pub mod VerdictLaws
 pub mod CallLaws
 pub mod StretchLaws
+pub mod AnswerLaws
+pub mod FaultLaws
+pub mod UnsignedLaws
+mod Examples

@@ -16,7 +16,7 @@ use Rattle.call_colour.specs.Call as colour
 use Rattle.call_colour.specs.passes.Rooms.{StretchRoom}
 use Rattle.call_colour.proofs.StretchCases.{from_to-sum}
 use Rattle.call_colour.proofs.StretchLaws.{Stretched, stretch_room, mean_is, mean_in_range}
-use Rattle.call_lesson.specs.Lesson.{Stretches, Pair, pair_count, pairs, pair_mean, pair_tenths}
+use Rattle.call_lesson.specs.Lesson.{Stretches, pair_count, pairs, pair_mean, pair_tenths}
 use Rattle.call_lesson.specs.Call.{Memory, filled}
 use Rattle.call_lesson.specs.passes.Rooms.{PairsRoom, pair_at, mean_in, tenths_in}
 use Rattle.call_lesson.proofs.PairLaws.{answers_alike}

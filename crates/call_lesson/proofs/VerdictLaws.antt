@@ -1,21 +1,19 @@
 -- The verdict on a lesson, test by test, and what is known where all pass.
 use mathlib.Core.Path.{◌≡◌, refl, sym, ap, ◌∙◌}
-use mathlib.Core.Bool.{Bool, true, false, cond, ◌&&◌}
+use mathlib.Core.Bool.{true}
 use mathlib.Core.List.{List, [], ◌∷◌}
 use Prim.Native.Nat.{ℕ, zero, suc, ◌+◌, ◌≤◌, ◌<◌}
 use native.Mathlib.Numerals.{add-one}
 use native.Mathlib.Omega.{arith}
-use borrow.Author.Tests.{eqb-true, leb-true, le-leb, lt-leb}
-use lib.Dec.{leb}
+use borrow.Author.Tests.{eqb-true, eq-eqb, leb-true, le-leb}
 use lib.ListN.{length, drop, get_or, drop_of_length-le}
 use lib.Seq.{drop-cons}
-use Rattle.std.specs.Prelude.{Ok, Err}
+use Rattle.std.specs.Prelude.{Err}
 use Rattle.std.proofs.lemmas.Bool.{and_parts}
 use Rattle.grouping_chart.specs.Refusal.{Check, passed, Verdict, accepted, refused, and_then, refused_or}
 use Rattle.grouping_chart.specs.Outcome.{refused_then}
 use Rattle.grouping_chart.specs.passes.Good.{first_at}
 use Rattle.grouping_chart.specs.declared.refusal.Reason.{Reason}
-use Rattle.grouping_chart.specs.declared.refusal.Reason.TheVariants.{BadLesson}
 use Rattle.grouping_chart.specs.declared.refusal.Refusal.{Refusal}
 use Rattle.grouping_chart.proofs.AcceptedLaws.{test_passed, none_refused}
 use Rattle.grouping_chart.proofs.OutcomeLaws.{chart-refused, nothing-refused, then-refused}
@@ -44,6 +42,10 @@ module _ (v : Verdict) (kinds : List ℕ) (l : Stretches) where
 pub counted : (l : Stretches) → count_refusal l ≡ passed → Paired l
 unfolding count_refusal
 counted l e = eqb-true _ _ (test_passed _ _ e)
+
+pub count_good : (l : Stretches) → Paired l → count_refusal l ≡ passed
+unfolding count_refusal
+count_good l e = rw (eq-eqb _ _ e) refl
 
 -- a set that is not refused
 pub record GoodSet (l : Stretches) : Type 0 where

@@ -1,5 +1,5 @@
 -- Each pair takes the mean of its own stretch; of each mean, read where it was written, the tenths can be told.
-use Rattle.std.proofs.Common.{◌≡◌, ℕ, ◌<◌, refl, sym, ap, ◌∙◌, List, arith, rules, length, get_or, map}
+use Rattle.std.proofs.Common.{◌≡◌, ℕ, ◌<◌, ap, ◌∙◌, List, arith, rules, get_or, map}
 use lib.IntN.{pos}
 use lib.Ieee.{Float, nan}
 use Rattle.numeric.specs.Tenths.{InTenthsRange}

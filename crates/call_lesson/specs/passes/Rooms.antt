@@ -1,11 +1,11 @@
 -- What the passes of lesson ask.
-use Rattle.std.specs.Prelude.{◌≡◌, ℕ, ◌≤◌, ◌<◌, List, length, get_or, map, Float, ℤ}
+use Rattle.std.specs.Prelude.{◌≡◌, ℕ, ◌≤◌, ◌<◌, List, length, get_or, Float, ℤ}
 use Rattle.numeric.specs.Tenths.{InTenthsRange, tenths_of}
 use Rattle.lent.specs.Over.{part}
 use Rattle.grouping_interval.specs.Notes.{of_notes}
 use Rattle.call_colour.specs.Stretch.{average_of}
 use Rattle.call_colour.specs.passes.Rooms.{StretchRoom}
-use Rattle.call_lesson.specs.Lesson.{Stretches, Pair, pair_count, pairs}
+use Rattle.call_lesson.specs.Lesson.{Stretches, Pair, pair_count}
 
 -- there are as many lengths as offsets
 abbrev pub Paired : Stretches → Type 0

@@ -1,5 +1,5 @@
 -- `judge` meets its contract: each part that refuses ends the verdict, and the pairs decide last.
-use Rattle.std.proofs.Common.{◌≡◌, sym, ◌∙◌, rules}
+use Rattle.std.proofs.Common.{sym, ◌∙◌, rules}
 use Rattle.grouping_chart.specs.Lent.{seen}
 use Rattle.grouping_chart.proofs.AcceptedLaws.{accepted_good, both_passed}
 use Rattle.call_lesson.specs.Lent.{stretches_seen}
