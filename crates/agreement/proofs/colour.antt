@@ -9,5 +9,6 @@ mod LevelLaws
 mod AgreementLaws
 mod ValueAgree
 mod StretchAgree
+mod LessonAgree
 mod Examples
 mod FalseReadings

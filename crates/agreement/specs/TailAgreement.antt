@@ -23,7 +23,8 @@ pub record AlikeTails (c c' : Chart) (m : ℕ) : Type 0 where
 pub record TailAgreement (s : Settings) (c c' : Chart) (m : ℕ) : Type 0 where
   -- Colour: a landmark stands behind p objects of the one chart and p' of the other. From there on hit patterns open at
   -- the same objects and hold the same objects; and from the sixteenth of them on, or whichever the search limit says,
-  -- every object has the same interval and the same colour value, and every stretch the same mean and the same tenths.
+  -- every object has the same interval and the same colour value, and every stretch the same mean and the same tenths,
+  -- those of a lesson too.
   pub colour : (p p' : ℕ) → Counterparts (size c) (size c') p p'
       → ColourLandmark c.kinds m p ⊎ ColourLandmark c'.kinds m p'
       → ColourClaim s c c' p p'

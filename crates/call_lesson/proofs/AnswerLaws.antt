@@ -42,15 +42,15 @@ module _ (s : Settings) (c : Chart) (l : Stretches) (m : Memory) (good : judged 
   unfolding filled
   mean-written i h =
       rw memory_left
-      (get_or-over _ m.mean i nan (omega (arith, length-answers l x.paired (pair_mean s c)))
-      ∙ answer_at l x.paired (pair_mean s c) i nan h)
+      (get_or-over _ m.mean i nan (omega (arith, length-answers l x.lies.paired (pair_mean s c)))
+      ∙ answer_at l x.lies.paired (pair_mean s c) i nan h)
 
   pub tenths-written : (i : ℕ) → i < pair_count l → get_or left.tenths i (pos 0) ≡ pair_tenths s c (pair_at l i)
   unfolding filled
   tenths-written i h =
       rw memory_left
-      (get_or-over _ m.tenths i (pos 0) (omega (arith, length-answers l x.paired (pair_tenths s c)))
-      ∙ answer_at l x.paired (pair_tenths s c) i (pos 0) h)
+      (get_or-over _ m.tenths i (pos 0) (omega (arith, length-answers l x.lies.paired (pair_tenths s c)))
+      ∙ answer_at l x.lies.paired (pair_tenths s c) i (pos 0) h)
 
   coloured : left.colour ≡ colour.filled s c.kinds c.ratios m.colour
   unfolding filled
@@ -65,7 +65,7 @@ module _ (s : Settings) (c : Chart) (l : Stretches) (m : Memory) (good : judged 
       → stretch_outcome s c (get_or l.offsets i 0) (get_or l.offsets i 0 + get_or l.lengths i 0) m.colour
       ≡ outcome (Ok (stretch_mean (get_or left.mean i nan) (get_or left.tenths i (pos 0)))) left.colour
   as_stretch i h =
-      sym (stretch-done s c m.colour x.chart coloured _ _ (x.each i h) (mean-written i h) (tenths-written i h))
+      sym (stretch-done s c m.colour x.chart coloured _ _ (x.lies.each i h) (mean-written i h) (tenths-written i h))
 
 -- a lesson without pairs is to its chart what the call colour is, and leaves both answer slices as they are lent
 module _ (s : Settings) (c : Chart) (m : Memory) (h : colour.judged s c m.colour ≡ accepted) where
@@ -76,9 +76,7 @@ module _ (s : Settings) (c : Chart) (m : Memory) (h : colour.judged s c m.colour
   empty : judged s c (stretches [] []) m ≡ accepted
   empty = untaken s c (stretches [] []) m (record {
     chart = h;
-    paired = refl;
-    set = empty_set;
-    each = λ i k. absurd (omega arith);
+    lies = record { paired = refl; set = empty_set; each = λ i k. absurd (omega arith) };
     mean_room = omega arith;
     tenths_room = omega arith;
   })

@@ -23,14 +23,12 @@ use Rattle.call_lesson.specs.Lesson.{Stretches, pair_count, pairs, count_refusal
 use Rattle.call_lesson.specs.Call.{Memory, beside, judged, filled, lesson_outcome}
 use Rattle.call_lesson.specs.passes.Rooms.{Paired}
 use Rattle.call_lesson.proofs.PairLaws.{length-pairs, get_or-pairs}
-use Rattle.call_lesson.proofs.VerdictLaws.{GoodSet, good_set, set_good, counted, count_good, pairs-last, pairs_good, good_pairs}
+use Rattle.call_lesson.proofs.VerdictLaws.{set_good, counted, count_good, pairs-last, LessonLies, none_lies, lies_none}
 
 -- an accepted lesson
 pub record Taken (s : Settings) (c : Chart) (l : Stretches) (m : Memory) : Type 0 where
   pub chart : colour.judged s c m.colour ≡ accepted
-  pub paired : Paired l
-  pub set : GoodSet l
-  pub each : (i : ℕ) → i < pair_count l → GoodStretch c.kinds (get_or l.offsets i 0) (get_or l.offsets i 0 + get_or l.lengths i 0)
+  pub lies : LessonLies c.kinds l
   pub mean_room : pair_count l ≤ length m.mean
   pub tenths_room : pair_count l ≤ length m.tenths
 
@@ -56,7 +54,6 @@ module _ (s : Settings) (c : Chart) (l : Stretches) (m : Memory) where
       let room = roomy _ (size c) (length m.colour.work) (length m.colour.scratch) slices.0 in
       let answers = or_parts _ _ room.answered in
       let long = all_long (pair_count l) lengths answers.1 in
-      let paired = counted l counts.0 in
       let roomy_chart = room_passed (record { answered = answers.0; regions = room.regions; floats = room.floats }) in
       record {
         chart = good_accepted (record {
@@ -65,11 +62,7 @@ module _ (s : Settings) (c : Chart) (l : Stretches) (m : Memory) where
           lengths = good.lengths;
           objects = good.objects;
         });
-        paired = paired;
-        set = good_set l first.1;
-        each = λ i k.
-            let pair = pairs_good c.kinds 0 (pairs l) parts.1 i (0, 0) (omega (arith, length-pairs l paired)) in
-            rw (get_or-pairs l paired i (0, 0) k) at pair;
+        lies = none_lies c.kinds l (counted l counts.0) first.1 parts.1;
         mean_room = long.0;
         tenths_room = long.1.0;
       }
@@ -85,13 +78,11 @@ module _ (s : Settings) (c : Chart) (l : Stretches) (m : Memory) where
       let room = room_passed (record { answered = λ i. values i || answers i; regions = r.regions; floats = r.floats }) in
       let good = good_accepted (record {
         few = r.chart.few;
-        room = rw (count_good l x.paired, room) r.permitted;
+        room = rw (count_good l x.lies.paired, room) r.permitted;
         lengths = r.chart.lengths;
         objects = r.chart.objects;
       }) in
-      pairs-last _ c.kinds l good (set_good l x.set)
-      ∙ good_pairs c.kinds 0 (pairs l)
-      (λ i d h. let k : i < pair_count l = omega (arith, length-pairs l x.paired) in rw (get_or-pairs l x.paired i d k) (x.each i k))
+      pairs-last _ c.kinds l good (set_good l x.lies.set) ∙ lies_none c.kinds l x.lies
 
   pub done : judged s c l m ≡ accepted → {new : Memory} → new ≡ filled s c l m → outcome (Ok tt) new ≡ lesson_outcome s c l m
   unfolding lesson_outcome

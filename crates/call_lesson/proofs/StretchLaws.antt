@@ -32,7 +32,7 @@ module _ {s : Settings} {c : Chart} {l : Stretches} {m : Memory} {new : colour.M
     n = get_or l.lengths i 0
 
     stretched : Stretched s c m.colour a (a + n) new
-    stretched = record { taken = x.chart; good = x.each i h; made = made }
+    stretched = record { taken = x.chart; good = x.lies.each i h; made = made }
 
     there : StretchRoom c.kinds new.value a n
     there = let e : a + n - a ≡ n = omega arith in rw e at (stretch_room stretched)
@@ -50,7 +50,7 @@ module _ {s : Settings} {c : Chart} {l : Stretches} {m : Memory} {new : colour.M
 
   pub pairs_room : PairsRoom c.kinds new.value l m.mean m.tenths
   pairs_room = record {
-    paired = x.paired;
+    paired = x.lies.paired;
     there = there;
     small = λ i h. mean_in_range (stretched i h) (by_ends i h);
     mean_room = x.mean_room;
@@ -63,6 +63,6 @@ module _ {s : Settings} {c : Chart} {l : Stretches} {m : Memory} {new : colour.M
       → record { colour = new; mean = mean; tenths = tenths } ≡ filled s c l m
   unfolding filled
   filled_is e f =
-      let means = e ∙ ap (λ (xs : List Float). over xs m.mean) (answers_alike l x.paired _ _ nan mean_there) in
-      let tenths = f ∙ ap (λ (xs : List ℤ). over xs m.tenths) (answers_alike l x.paired _ _ (pos 0) tenths_there) in
+      let means = e ∙ ap (λ (xs : List Float). over xs m.mean) (answers_alike l x.lies.paired _ _ nan mean_there) in
+      let tenths = f ∙ ap (λ (xs : List ℤ). over xs m.tenths) (answers_alike l x.lies.paired _ _ (pos 0) tenths_there) in
       λ t. record { colour = made t; mean = means t; tenths = tenths t }

@@ -15,10 +15,11 @@ use Rattle.grouping_chart.specs.Outcome.{refused_then}
 use Rattle.grouping_chart.specs.passes.Good.{first_at}
 use Rattle.grouping_chart.specs.declared.refusal.Reason.{Reason}
 use Rattle.grouping_chart.specs.declared.refusal.Refusal.{Refusal}
-use Rattle.grouping_chart.proofs.AcceptedLaws.{test_passed, none_refused}
-use Rattle.grouping_chart.proofs.OutcomeLaws.{chart-refused, nothing-refused, then-refused}
+use Rattle.grouping_chart.proofs.AcceptedLaws.{test_passed, none_refused, both_passed}
+use Rattle.grouping_chart.proofs.OutcomeLaws.{chart-refused, nothing-refused, then-refused, neither-refused}
 use Rattle.grouping_chart.proofs.RefusalLaws.{by-places}
-use Rattle.call_lesson.specs.Lesson.{Stretches, Pair, pair_count, pairs, rising, count_refusal, set_refusal, pair_refusal, first_pair_refused, lesson_verdict}
+use Rattle.call_colour.specs.Stretch.{GoodStretch}
+use Rattle.call_lesson.specs.Lesson.{Stretches, Pair, pair_count, pairs, rising, count_refusal, set_refusal, pair_refusal, first_pair_refused, lesson_verdict, GoodLesson}
 use Rattle.call_lesson.specs.passes.Rooms.{Paired, pair_at}
 use Rattle.call_lesson.proofs.PairLaws.{length-pairs, get_or-pairs}
 
@@ -103,3 +104,32 @@ module _ (kinds : List ℕ) where
       (λ i h. turn (pairs l) (0, 0) i (omega (arith, many)) ∙ ap (λ (t : Check). refused_or t i (from (i + 1)))
       (ap (pair_refusal kinds) (get_or-pairs l paired i (0, 0) h) ∙ sym (e i h)))
       (end (pairs l) (0, 0) ∙ ap from many)
+
+-- ---- the lesson alone
+
+-- as many lengths as offsets, a good set, and good stretches
+pub record LessonLies (kinds : List ℕ) (l : Stretches) : Type 0 where
+  pub paired : Paired l
+  pub set : GoodSet l
+  pub each : (i : ℕ) → i < pair_count l → GoodStretch kinds (get_or l.offsets i 0) (get_or l.offsets i 0 + get_or l.lengths i 0)
+
+module _ (kinds : List ℕ) (l : Stretches) where
+  pub none_lies : Paired l → set_refusal l ≡ passed → first_pair_refused kinds 0 (pairs l) ≡ accepted → LessonLies kinds l
+  none_lies paired set good = record {
+    paired = paired;
+    set = good_set l set;
+    each = λ i k. rw (get_or-pairs l paired i (0, 0) k) at (pairs_good kinds 0 (pairs l) good i (0, 0) (omega (arith, length-pairs l paired)));
+  }
+
+  pub lies_none : LessonLies kinds l → first_pair_refused kinds 0 (pairs l) ≡ accepted
+  lies_none x =
+      good_pairs kinds 0 (pairs l)
+      (λ i d h. let k : i < pair_count l = omega (arith, length-pairs l x.paired) in rw (get_or-pairs l x.paired i d k) (x.each i k))
+
+  pub good_lesson : GoodLesson kinds l → LessonLies kinds l
+  good_lesson g =
+      let parts = both_passed (refused_then accepted (set_refusal l)) (first_pair_refused kinds 0 (pairs l)) g.1 in
+      none_lies (counted l g.0) (neither-refused accepted (set_refusal l) parts.0).1 parts.1
+
+  pub lesson_good : LessonLies kinds l → GoodLesson kinds l
+  lesson_good x = (count_good l x.paired, pairs-last accepted kinds l refl (set_good l x.set) ∙ lies_none x)

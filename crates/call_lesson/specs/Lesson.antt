@@ -1,7 +1,7 @@
 -- A lesson: stretches that are marked as a set (change requests: 9/12). They are lent as pairs, each of an offset, which
 -- is a stretch's first object, and a length. Which lessons are refused, and what is answered of a pair: what the call
 -- stretch answers of that stretch.
-use Rattle.std.specs.Prelude.{ℕ, ◌+◌, Bool, true, ◌&&◌, cond, List, [], ◌∷◌, eqb, ltb, leb, length, zip, Float, ℤ}
+use Rattle.std.specs.Prelude.{ℕ, ◌≡◌, ◌+◌, Bool, true, ◌&&◌, cond, List, [], ◌∷◌, eqb, ltb, leb, length, zip, Float, ℤ}
 use Rattle.std.specs.Prelude.{Err}
 use Rattle.grouping_chart.specs.Chart.{Chart}
 use Rattle.grouping_chart.specs.Outcome.{refused_then}
@@ -62,6 +62,10 @@ first_pair_refused kinds i (p ∷ ps) = refused_or (pair_refusal kinds p) i (fir
 -- what is refused of the set comes after what is refused of the chart, and what is refused of a pair comes last
 abbrev pub lesson_verdict : Verdict → List ℕ → Stretches → Verdict
 lesson_verdict v kinds l = and_then (refused_then v (set_refusal l)) (first_pair_refused kinds 0 (pairs l))
+
+-- a lesson of which nothing is refused, of a chart with these kinds
+abbrev pub GoodLesson : List ℕ → Stretches → Type 0
+GoodLesson kinds l = (count_refusal l ≡ passed) × (lesson_verdict accepted kinds l ≡ accepted)
 
 -- what a pair's stretch is answered
 abbrev pub pair_mean : Settings → Chart → Pair → Float

@@ -1,4 +1,4 @@
--- The colour half over the calls: what encode, colour and stretch answer on two accepted charts, from a colour landmark on. Each call leaves the definition's
+-- The colour half over the calls: what encode, colour, stretch and lesson answer on two accepted charts, from a colour landmark on. Each call leaves the definition's
 -- numbers, place by place, so that what is claimed of these is claimed of what it leaves.
 use mathlib.Core.Path.{◌≡◌, sym, ◌∙◌}
 use mathlib.Core.Logic.{◌⊎◌}
@@ -14,13 +14,18 @@ use Rattle.call_encode.specs.Call as encode
 use Rattle.call_encode.proofs.CallLaws.{hit-written, interval-written}
 use Rattle.call_colour.specs.Call.{Memory, judged, stretch_mean}
 use Rattle.call_colour.proofs.AnswerLaws.{value-written, stretch-answered}
+use Rattle.call_lesson.specs.Lesson.{Stretches}
+use Rattle.call_lesson.specs.Call as lesson
+use Rattle.call_lesson.proofs.CallLaws.{taken}
+use Rattle.call_lesson.proofs.AnswerLaws.{mean-written, tenths-written}
 use Rattle.agreement.specs.CommonTail.{Counterparts, SameLast}
 use Rattle.agreement.specs.SameGroups.{groups}
 use Rattle.agreement.specs.colour.Landmark.{ColourLandmark}
 use Rattle.agreement.specs.colour.Claim.{Settled, HitsClaim, ColourClaim}
-use Rattle.agreement.specs.colour.Calls.{EncodeClaim, CallsClaim}
+use Rattle.agreement.specs.colour.Calls.{EncodeClaim, CallsClaim, LessonClaim}
 use Rattle.agreement.proofs.GroupLaws.{SameNumbers, numbers_sym, opens-alike, groups-alike}
 use Rattle.agreement.proofs.colour.Claimed.{colour_claim}
+use Rattle.agreement.proofs.colour.LessonAgree.{pair_stretch}
 
 -- ---- the same numbers in other lists
 
@@ -68,4 +73,18 @@ module _ (s : Settings) (c c' : Chart) {m p p' : ℕ} (k : SameLast m c.kinds c'
             let same = claim.stretch a b a' b' y z from to in
             stretch-answered s c lent x a b z ∙ (λ i. Ok (stretch_mean (same.mean i) (same.tenths i)))
             ∙ sym (stretch-answered s c' lent' x' a' b' same.accepted);
+      }
+
+  pub lesson_claim : (l l' : Stretches) (lent lent' : lesson.Memory) → lesson.judged s c l lent ≡ accepted → lesson.judged s c' l' lent' ≡ accepted
+      → LessonClaim s c c' l l' lent lent' p
+  lesson_claim l l' lent lent' x x' =
+      let good = taken s c l lent x in
+      let claim = accepted_claim _ _ good.chart (taken s c' l' lent' x').chart in
+      record {
+        mean = λ i i' y.
+            let same = pair_stretch s c c' p claim.stretch l l' i i' y.same y.settled (good.lies.each i y.there) in
+            mean-written s c l lent x i y.there ∙ same.mean ∙ sym (mean-written s c' l' lent' x' i' y.there');
+        tenths = λ i i' y.
+            let same = pair_stretch s c c' p claim.stretch l l' i i' y.same y.settled (good.lies.each i y.there) in
+            tenths-written s c l lent x i y.there ∙ same.tenths ∙ sym (tenths-written s c' l' lent' x' i' y.there');
       }

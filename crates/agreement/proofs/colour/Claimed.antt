@@ -20,6 +20,7 @@ use Rattle.agreement.proofs.colour.HitsAgree.{colour-agree, landmark_late}
 use Rattle.agreement.proofs.colour.ValueAgree.{at_counterparts, value-agree}
 use Rattle.call_colour.proofs.StretchValues.{value_at}
 use Rattle.agreement.proofs.colour.StretchAgree.{settled-onwards, same_stretch}
+use Rattle.agreement.proofs.colour.LessonAgree.{StretchClaim, same_lesson}
 
 -- ---- one chart, cut between two hit patterns
 
@@ -92,13 +93,17 @@ module _ (s : Settings) (c c' : Chart) {a g b h : ℕ} (r : Agree s.search_limit
     same_value : (i i' : ℕ) → Settled s.search_limit (hit_patterns c) a i → Counterparts (size c) (size c') i i' → value_at s c i ≡ value_at s c' i'
     same_value i i' x e = value-agree r s.tolerance whole whole' t late i i' x.after e x.there (settled-counts c r.cut x)
 
+    stretches : StretchClaim s c c' a
+    stretches = same_stretch s c c' a same_kind same_value
+
     claimed : ColourClaim s c c' a b
     claimed = record {
       hits = hits_claim;
       value = λ i i' x e. value_of s.search_limit s.tolerance c.kinds c.ratios i x.there ∙ same_value i i' x e
           ∙ sym (value_of s.search_limit s.tolerance c'.kinds c'.ratios i' (omega (arith, x.there)));
       onwards = settled-onwards c;
-      stretch = same_stretch s c c' a same_kind same_value;
+      stretch = stretches;
+      lesson = λ l l' same each good. same_lesson s c c' a stretches l l' same each good;
     }
 
 -- ---- the theorem

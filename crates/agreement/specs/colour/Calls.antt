@@ -1,5 +1,5 @@
--- The colour claim of what the calls encode, colour and stretch leave and answer on two accepted charts.
-use Rattle.std.specs.Prelude.{ℕ, ◌≡◌, Ok}
+-- The colour claim of what the calls encode, colour, stretch and lesson leave and answer on two accepted charts.
+use Rattle.std.specs.Prelude.{ℕ, ◌≡◌, ◌<◌, get_or, pos, Ok}
 use Rattle.std.specs.Float.{nan}
 use Rattle.grouping_chart.specs.Chart.{Chart, size}
 use Rattle.grouping_chart.specs.Settings.{Settings}
@@ -7,9 +7,13 @@ use Rattle.call_encode.specs.Call as encode
 use Rattle.call_encode.specs.Call.{encode_outcome}
 use Rattle.call_colour.specs.Stretch.{GoodStretch, chart_mean, chart_tenths}
 use Rattle.call_colour.specs.Call.{Memory, stretch_mean, colour_outcome, stretch_outcome}
+use Rattle.call_lesson.specs.Lesson.{Stretches, pair_count}
+use Rattle.call_lesson.specs.Call as lesson
+use Rattle.call_lesson.specs.Call.{lesson_outcome}
 use Rattle.agreement.specs.CommonTail.{Counterparts}
 use Rattle.agreement.specs.SameGroups.{groups}
 use Rattle.agreement.specs.colour.Claim.{Settled, SettledSame, EncodedHits, HitsClaim, hit_patterns}
+use Rattle.agreement.specs.colour.Claim.{SamePair}
 
 -- hit patterns and intervals as encode writes them
 abbrev pub hits_written : Settings → Chart → encode.Memory → EncodedHits
@@ -34,3 +38,18 @@ pub record CallsClaim (s : Settings) (c c' : Chart) (lent lent' : Memory) (p p' 
   pub stretch : (a b a' b' : ℕ) → Settled s.search_limit (hit_patterns c) p a → GoodStretch c.kinds a b
       → Counterparts (size c) (size c') a a' → Counterparts (size c) (size c') b b'
       → (stretch_outcome s c a b lent).answer ≡ (stretch_outcome s c' a' b' lent').answer
+
+-- pair i and pair i' are there, their stretches are counterparts, and begin at such objects
+pub record SettledPair (limit : ℕ) (c : Chart) (l : Stretches) (i : ℕ) (c' : Chart) (l' : Stretches) (i' p : ℕ) : Type 0 where
+  pub there : i < pair_count l
+  pub there' : i' < pair_count l'
+  pub same : SamePair c l i c' l' i'
+  pub settled : Settled limit (hit_patterns c) p (get_or l.offsets i 0)
+
+-- lesson: two such pairs have one mean and one number of tenths, whatever other pairs either lesson has
+pub record LessonClaim (s : Settings) (c c' : Chart) (l l' : Stretches) (lent lent' : lesson.Memory) (p : ℕ) : Type 0 where
+  pub mean : (i i' : ℕ) → SettledPair s.search_limit c l i c' l' i' p
+      → get_or (lesson_outcome s c l lent).memory.mean i nan ≡ get_or (lesson_outcome s c' l' lent').memory.mean i' nan
+  pub tenths : (i i' : ℕ) → SettledPair s.search_limit c l i c' l' i' p
+      → get_or (lesson_outcome s c l lent).memory.tenths i (pos 0)
+      ≡ get_or (lesson_outcome s c' l' lent').memory.tenths i' (pos 0)

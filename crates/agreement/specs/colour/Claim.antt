@@ -1,12 +1,13 @@
 -- What is claimed of two charts from a colour landmark on (scope: "Landmarks"): of hit patterns, intervals, colour
--- values and stretches. M is the search limit, 16 in the base.
-use Rattle.std.specs.Prelude.{ℕ, ◌+◌, ◌≤◌, ◌<◌, ◌≡◌, ◌↔◌, List, get_or}
+-- values, stretches and lessons. M is the search limit, 16 in the base.
+use Rattle.std.specs.Prelude.{ℕ, ◌+◌, ◌≤◌, ◌<◌, ◌≡◌, ◌↔◌, List, length, get_or}
 use Rattle.std.specs.Float.{nan}
 use Rattle.grouping_chart.specs.Chart.{Chart, size}
 use Rattle.grouping_chart.specs.Settings.{Settings}
 use Rattle.grouping_preprocessor.specs.Preprocessor.{hit_of, interval_of}
 use Rattle.evaluator_values.specs.Colour.{values_of}
 use Rattle.call_colour.specs.Stretch.{GoodStretch, chart_mean, chart_tenths}
+use Rattle.call_lesson.specs.Lesson.{Stretches, pair_count, GoodLesson}
 use Rattle.agreement.specs.CommonTail.{Counterparts}
 use Rattle.agreement.specs.SameGroups.{Groups, groups, group_at, OpensAt, SameGroups}
 
@@ -53,6 +54,17 @@ pub record SameStretch (s : Settings) (c : Chart) (a b : ℕ) (c' : Chart) (a' b
   pub mean : chart_mean s c a b ≡ chart_mean s c' a' b'
   pub tenths : chart_tenths s c a b ≡ chart_tenths s c' a' b'
 
+-- pair i of the one lesson and pair i' of the other: their stretches are counterparts
+pub record SamePair (c : Chart) (l : Stretches) (i : ℕ) (c' : Chart) (l' : Stretches) (i' : ℕ) : Type 0 where
+  pub offset : Counterparts (size c) (size c') (get_or l.offsets i 0) (get_or l'.offsets i' 0)
+  pub length : get_or l.lengths i 0 ≡ get_or l'.lengths i' 0
+
+-- two lessons of as many pairs, of which each two are such
+pub record SameLesson (c : Chart) (l : Stretches) (c' : Chart) (l' : Stretches) : Type 0 where
+  pub offsets : length l'.offsets ≡ length l.offsets
+  pub lengths : length l'.lengths ≡ length l.lengths
+  pub each : (i : ℕ) → i < pair_count l → SamePair c l i c' l' i
+
 -- two charts, from a landmark on before which p objects stand in the one and p' in the other
 pub record ColourClaim (s : Settings) (c c' : Chart) (p p' : ℕ) : Type 0 where
   pub hits : HitsClaim s.search_limit (hits_of s c) p (hits_of s c') p'
@@ -64,3 +76,7 @@ pub record ColourClaim (s : Settings) (c c' : Chart) (p p' : ℕ) : Type 0 where
   -- an accepted stretch of such objects is accepted in both charts, with one mean and one number of tenths
   pub stretch : (a b a' b' : ℕ) → Settled s.search_limit (hit_patterns c) p a → GoodStretch c.kinds a b
       → Counterparts (size c) (size c') a a' → Counterparts (size c) (size c') b b' → SameStretch s c a b c' a' b'
+  -- and a lesson of such stretches alone is accepted in both
+  pub lesson : (l l' : Stretches) → SameLesson c l c' l'
+      → ((i : ℕ) → i < pair_count l → Settled s.search_limit (hit_patterns c) p (get_or l.offsets i 0))
+      → GoodLesson c.kinds l → GoodLesson c'.kinds l'
