@@ -50,7 +50,7 @@ pub fn stretch_refusal(kind: &[u8], offset: usize, length: usize) -> Result<(), 
 pub fn refusal_between(kind: &[u8], a: usize, b: usize) -> Result<(), Reason>
     ensures { result ≡ stretch_refusal kind.now a b }
 {
-    if b <= a {
+    if b < a {
         return Err(Reason::OutOfRange);
     }
     stretch_refusal(kind, a, b - a)
