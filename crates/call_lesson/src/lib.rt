@@ -15,7 +15,6 @@ use grouping_chart::chart::Chart;
 use grouping_chart::refusal::Refusal;
 use grouping_chart::settings::Settings;
 use lent::fill;
-use numeric::tenths::tenths;
 
 pub mod verdict;
 
@@ -27,10 +26,10 @@ pub struct Stretches<'a> {
 }
 
 // The mean of each pair's stretch, and its tenths.
-fn fill_answers(kind: &[u8], value: &[f64], marked: Stretches, mean: &mut [f64], told: &mut [i64])
-    requires { PairsRoom kind.now value.now (stretches_seen marked) mean.old told.old }
+fn fill_answers(kind: &[u8], value: &[f64], marked: Stretches, mean: &mut [f64], tenths: &mut [i64])
+    requires { PairsRoom kind.now value.now (stretches_seen marked) mean.old tenths.old }
     ensures mean { mean.new ≡ over (map (mean_in kind.now value.now) (pairs (stretches_seen marked.entry))) mean.old }
-    ensures told { told.new ≡ over (map (tenths_in kind.now value.now) (pairs (stretches_seen marked.entry))) told.old }
+    ensures tenths { tenths.new ≡ over (map (tenths_in kind.now value.now) (pairs (stretches_seen marked.entry))) tenths.old }
 {
     let pairs = marked.offset.len();
     fill::by_place(pairs, mean, |i| {
@@ -41,28 +40,29 @@ fn fill_answers(kind: &[u8], value: &[f64], marked: Stretches, mean: &mut [f64],
             marked.length[i] as usize,
         )
     });
-    fill::by_place(pairs, told, |i| tenths(mean[i]));
+    fill::by_place(pairs, tenths, |i| numeric::tenths::tenths(mean[i]));
 }
 
+// Fills the values once, and of each pair what stretch answers of it alone.
 pub fn lesson(
     chart: Chart,
     s: Settings,
     marked: Stretches,
     value: &mut [f64],
     mean: &mut [f64],
-    told: &mut [i64],
+    tenths: &mut [i64],
     work: &mut [u16],
     scratch: &mut [f64],
 ) -> Result<(), Refusal>
-    ensures { outcome result (memory value.new mean.new told.new work.new scratch.new)
+    ensures { outcome result (memory value.new mean.new tenths.new work.new scratch.new)
         ≡ lesson_outcome s (seen chart.entry) (stretches_seen marked.entry)
-        (memory value.old mean.old told.old work.old scratch.old) }
+        (memory value.old mean.old tenths.old work.old scratch.old) }
 {
     let n = chart.kind.len();
     let pairs = marked.offset.len();
-    let short = (value.len() < n) | ((mean.len() < pairs) | (told.len() < pairs));
+    let short = (value.len() < n) | ((mean.len() < pairs) | (tenths.len() < pairs));
     verdict::judge(chart, s, marked, short, work.len(), scratch.len())?;
     call_colour::fill_chart(chart, s, value, work, scratch);
-    fill_answers(chart.kind, value, marked, mean, told);
+    fill_answers(chart.kind, value, marked, mean, tenths);
     Ok(())
 }

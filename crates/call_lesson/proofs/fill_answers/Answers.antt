@@ -1,4 +1,4 @@
--- Each pair takes the mean of its own stretch; of each mean, read where it was written, the tenths can be told.
+-- Each pair takes the mean of its own stretch; of each mean, read where it was written, the tenths can be tenths.
 use Rattle.std.proofs.Common.{◌≡◌, ℕ, ◌<◌, ap, ◌∙◌, List, arith, rules, get_or, map}
 use lib.IntN.{pos}
 use lib.Ieee.{Float, nan}
@@ -50,10 +50,10 @@ by_place-requires-2-clause-callable c = λ i h.
 pub returns-clause-mean : goal.returns-clause-mean
 returns-clause-mean c = means (goal.at.returns-clause-mean c).After-by_place
 
-pub returns-clause-told : goal.returns-clause-told
-returns-clause-told c =
-    let x = (goal.at.returns-clause-told c).After-by_place in
+pub returns-clause-tenths : goal.returns-clause-tenths
+returns-clause-tenths c =
+    let x = (goal.at.returns-clause-tenths c).After-by_place in
     let a = c.args in
-    let tenths = tenths_in a.kind.now a.value.now in
-    c.by_place-2.ensures (λ i. tenths (pair_at (l x) i)) (λ i given h e. let is = mean_at x i h in search rules)
-    ∙ ap (λ xs. over xs a.told.now) (by_pair (l x) c.requires.paired tenths (pos 0))
+    let of_pair = tenths_in a.kind.now a.value.now in
+    c.by_place-2.ensures (λ i. of_pair (pair_at (l x) i)) (λ i given h e. let is = mean_at x i h in search rules)
+    ∙ ap (λ xs. over xs a.tenths.now) (by_pair (l x) c.requires.paired of_pair (pos 0))

@@ -14,7 +14,7 @@ use Rattle.call_lesson.proofs.lesson.Goals as goal
 module _ (c : In_ok-judge) where
   -- the slices as they are lent
   abbrev lent : Memory
-  lent = memory c.args.value.now c.args.mean.now c.args.told.now c.args.work.now c.args.scratch.now
+  lent = memory c.args.value.now c.args.mean.now c.args.tenths.now c.args.work.now c.args.scratch.now
 
   good : judged c.args.s (seen c.args.chart) (stretches_seen c.args.marked) lent ≡ accepted
   good = judged_told c.args.s (seen c.args.chart) (stretches_seen c.args.marked) lent c.judge.ensures c.in_ok-judge.was
@@ -27,7 +27,7 @@ unfolding lesson_outcome
 returns-in_err-judge c =
     let a = c.args in
     let l = stretches_seen a.marked in
-    let m = memory a.value.now a.mean.now a.told.now a.work.now a.scratch.now in
+    let m = memory a.value.now a.mean.now a.tenths.now a.work.now a.scratch.now in
     answered-refused tt (filled a.s (seen a.chart) l m) m (judged_told a.s (seen a.chart) l m c.judge.ensures c.in_err-judge.was) (search rules)
 
 pub fill_chart-requires : goal.fill_chart-requires
@@ -39,4 +39,4 @@ fill_answers-requires c = pairs_room (known (goal.at.fill_answers-requires c).In
 pub returns : goal.returns
 returns c =
     let x = (goal.at.returns c).In_ok-judge in
-    done _ _ _ _ (good x) (filled_is (known x) c.fill_chart.ensures c.fill_answers.ensures.mean c.fill_answers.ensures.told)
+    done _ _ _ _ (good x) (filled_is (known x) c.fill_chart.ensures c.fill_answers.ensures.mean c.fill_answers.ensures.tenths)
