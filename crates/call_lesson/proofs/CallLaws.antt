@@ -74,7 +74,11 @@ module _ (s : Settings) (c : Chart) (l : Stretches) (m : Memory) where
       let values : any_short (size c) (colour.answer_lengths m.colour) ≡ false =
       sym (short_joined (size c) (colour.answer_lengths m.colour)) ∙ le-ltb (length m.colour.value) (size c) r.long.0 in
       let answers : any_short (pair_count l) lengths ≡ false =
-      rw (← short_joined (pair_count l) lengths, le-ltb (length m.mean) (pair_count l) x.mean_room, le-ltb (length m.tenths) (pair_count l) x.tenths_room) refl in
+      rw (
+        ← short_joined (pair_count l) lengths,
+        le-ltb (length m.mean) (pair_count l) x.mean_room,
+        le-ltb (length m.tenths) (pair_count l) x.tenths_room,
+      ) refl in
       let room = room_passed (record { answered = λ i. values i || answers i; regions = r.regions; floats = r.floats }) in
       let good = good_accepted (record {
         few = r.chart.few;

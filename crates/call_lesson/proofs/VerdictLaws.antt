@@ -19,7 +19,8 @@ use Rattle.grouping_chart.proofs.AcceptedLaws.{test_passed, none_refused, both_p
 use Rattle.grouping_chart.proofs.OutcomeLaws.{chart-refused, nothing-refused, then-refused, neither-refused}
 use Rattle.grouping_chart.proofs.RefusalLaws.{by-places}
 use Rattle.call_colour.specs.Stretch.{GoodStretch}
-use Rattle.call_lesson.specs.Lesson.{Stretches, Pair, pair_count, pairs, rising, count_refusal, set_refusal, pair_refusal, first_pair_refused, lesson_verdict, GoodLesson}
+use Rattle.call_lesson.specs.Lesson.{Stretches, Pair, pair_count, pairs, rising, count_refusal, set_refusal, pair_refusal, first_pair_refused}
+use Rattle.call_lesson.specs.Lesson.{lesson_verdict, GoodLesson}
 use Rattle.call_lesson.specs.passes.Rooms.{Paired, pair_at}
 use Rattle.call_lesson.proofs.PairLaws.{length-pairs, get_or-pairs}
 

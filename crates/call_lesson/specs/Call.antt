@@ -25,9 +25,11 @@ memory value mean tenths work scratch =
 -- whether an answer slice is too short
 abbrev pub answers_short : Chart → Stretches → Memory → Bool
 answers_short c l m =
-    any_short (size c) (colour.answer_lengths m.colour) || any_short (pair_count l) (length m.mean ∷ length m.tenths ∷ [])
+    any_short (size c) (colour.answer_lengths m.colour)
+    || any_short (pair_count l) (length m.mean ∷ length m.tenths ∷ [])
 
--- what is refused beside the chart: first that offsets and lengths are not of one number, so that 2 comes whole before 3
+-- what is refused beside the chart: first that offsets and lengths are not of one number, so that all of 2 comes
+-- before 3
 abbrev pub beside : Settings → Chart → Stretches → Memory → Check
 beside s c l m =
     and_then (count_refusal l)

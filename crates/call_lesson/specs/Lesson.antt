@@ -1,6 +1,6 @@
--- A lesson: stretches that are marked as a set (change requests: 9/12). They are lent as pairs, each of an offset, which
--- is a stretch's first object, and a length. Which lessons are refused, and what is answered of a pair: what the call
--- stretch answers of that stretch.
+-- A lesson: stretches that are marked as a set (change requests: 9/12). They are lent as pairs, each of an offset,
+-- which is a stretch's first object, and a length. Which lessons are refused, and what is answered of a pair: what
+-- the call stretch answers of that stretch.
 use Rattle.std.specs.Prelude.{ℕ, ◌≡◌, ◌+◌, Bool, true, ◌&&◌, cond, List, [], ◌∷◌, eqb, ltb, leb, length, zip, Float, ℤ}
 use Rattle.std.specs.Prelude.{Err}
 use Rattle.grouping_chart.specs.Chart.{Chart}

@@ -29,7 +29,8 @@ pub struct Stretches<'a> {
 fn fill_answers(kind: &[u8], value: &[f64], marked: Stretches, mean: &mut [f64], tenths: &mut [i64])
     requires { PairsRoom kind.now value.now (stretches_seen marked) mean.old tenths.old }
     ensures mean { mean.new ≡ over (map (mean_in kind.now value.now) (pairs (stretches_seen marked.entry))) mean.old }
-    ensures tenths { tenths.new ≡ over (map (tenths_in kind.now value.now) (pairs (stretches_seen marked.entry))) tenths.old }
+    ensures tenths { tenths.new
+        ≡ over (map (tenths_in kind.now value.now) (pairs (stretches_seen marked.entry))) tenths.old }
 {
     let pairs = marked.offset.len();
     fill::by_place(pairs, mean, |i| {

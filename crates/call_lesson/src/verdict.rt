@@ -87,7 +87,8 @@ pub fn judge(
     work: usize,
     scratch: usize,
 ) -> Result<(), Refusal>
-    ensures { result ≡ lesson_verdict (verdict (seen chart.entry) (and_then (count_refusal (stretches_seen marked.entry))
+    ensures { result ≡ lesson_verdict (verdict (seen chart.entry)
+        (and_then (count_refusal (stretches_seen marked.entry))
         (and_then (short_refusal short (length chart.entry.kind.now) work scratch) (settings_refusal s))))
         chart.entry.kind.now (stretches_seen marked.entry) }
 {

@@ -1,8 +1,8 @@
 -- Why a call refuses, where, and the order of the tests for refusals 1 to 7 (scope: "Refused by number"): 1, 2, what is
 -- refused beside the chart, then 4 to 7 for one object after another. Room.antt alone says what is refused beside the
 -- chart, and when. Where a delta is known to within a range (change requests: 6/12), 15 is refused between 6 and 7.
--- A refusal has a reason, whose number C is told, and a place: the object's for 4 to 7 and 15, the pair's for 9 and 11 of
--- a lesson (change requests: 9/12), else 0.
+-- A refusal has a reason, whose number C is told, and a place: the object's for 4 to 7 and 15, the pair's for 9 and 11
+-- of a lesson (change requests: 9/12), else 0.
 use Rattle.std.specs.Prelude.{ℕ, ◌+◌, Bool, cond, List, [], ◌∷◌, leb, ltb, Float, Result, Ok, Err}
 use Rattle.numeric.specs.Range.{within, earliest, latest, least_ratio, greatest_ratio}
 use Rattle.grouping_chart.specs.Chart.{Chart, size, largest, equally_long}

@@ -1,5 +1,5 @@
--- The colour half over the calls: what encode, colour, stretch and lesson answer on two accepted charts, from a colour landmark on. Each call leaves the definition's
--- numbers, place by place, so that what is claimed of these is claimed of what it leaves.
+-- The colour half over the calls: what encode, colour, stretch and lesson answer on two accepted charts, from a colour landmark on. Each call leaves the
+-- definition's numbers, place by place, so that what is claimed of these is claimed of what it leaves.
 use mathlib.Core.Path.{◌≡◌, sym, ◌∙◌}
 use mathlib.Core.Logic.{◌⊎◌}
 use mathlib.Core.List.{List}

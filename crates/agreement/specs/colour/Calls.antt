@@ -40,14 +40,16 @@ pub record CallsClaim (s : Settings) (c c' : Chart) (lent lent' : Memory) (p p' 
       → (stretch_outcome s c a b lent).answer ≡ (stretch_outcome s c' a' b' lent').answer
 
 -- pair i and pair i' are there, their stretches are counterparts, and begin at such objects
-pub record SettledPair (limit : ℕ) (c : Chart) (l : Stretches) (i : ℕ) (c' : Chart) (l' : Stretches) (i' p : ℕ) : Type 0 where
+pub record SettledPair (limit : ℕ) (c : Chart) (l : Stretches) (i : ℕ) (c' : Chart) (l' : Stretches) (i' p : ℕ)
+    : Type 0 where
   pub there : i < pair_count l
   pub there' : i' < pair_count l'
   pub same : SamePair c l i c' l' i'
   pub settled : Settled limit (hit_patterns c) p (get_or l.offsets i 0)
 
 -- lesson: two such pairs have one mean and one number of tenths, whatever other pairs either lesson has
-pub record LessonClaim (s : Settings) (c c' : Chart) (l l' : Stretches) (lent lent' : lesson.Memory) (p : ℕ) : Type 0 where
+pub record LessonClaim (s : Settings) (c c' : Chart) (l l' : Stretches) (lent lent' : lesson.Memory) (p : ℕ)
+    : Type 0 where
   pub mean : (i i' : ℕ) → SettledPair s.search_limit c l i c' l' i' p
       → get_or (lesson_outcome s c l lent).memory.mean i nan ≡ get_or (lesson_outcome s c' l' lent').memory.mean i' nan
   pub tenths : (i i' : ℕ) → SettledPair s.search_limit c l i c' l' i' p

@@ -23,7 +23,8 @@ abbrev pub pair_at : Stretches → ℕ → Pair
 pair_at l i = (get_or l.offsets i 0, get_or l.lengths i 0)
 
 -- each pair's stretch is there, with a mean of which the tenths can be told, and a place for both
-pub record PairsRoom (kinds : List ℕ) (values : List Float) (l : Stretches) (mean : List Float) (tenths : List ℤ) : Type 0 where
+pub record PairsRoom (kinds : List ℕ) (values : List Float) (l : Stretches) (mean : List Float) (tenths : List ℤ)
+    : Type 0 where
   pub paired : Paired l
   pub there : (i : ℕ) → i < pair_count l → StretchRoom kinds values (get_or l.offsets i 0) (get_or l.lengths i 0)
   pub small : (i : ℕ) → i < pair_count l → InTenthsRange (mean_in kinds values (pair_at l i))

@@ -2,7 +2,8 @@
 -- where not is the first bad one looked for.
 use Rattle.std.specs.Prelude.{ℕ, zero, suc, ◌≡◌, Bool, true, ◌&&◌, List, [], ◌∷◌, length, Float}
 use Rattle.grouping_chart.specs.Chart.{Chart}
-use Rattle.grouping_chart.specs.Refusal.{Check, Verdict, accepted, and_then, refused_or, kind_good, time_good, ratio_good}
+use Rattle.grouping_chart.specs.Refusal.{Check, Verdict, accepted, and_then, refused_or}
+use Rattle.grouping_chart.specs.Refusal.{kind_good, time_good, ratio_good}
 
 -- the lists of starts, deltas (or of what is known of them) and ratios are n long
 pub record SameLengths {A : Type 0} (n : ℕ) (starts : List Float) (deltas : List A) (ratios : List Float) : Type 0 where
