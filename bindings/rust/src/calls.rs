@@ -1,13 +1,15 @@
-//! The eight calls as the library exports them, for a host that lends memory of its own. A
+//! The nine calls as the library exports them, for a host that lends memory of its own. A
 //! [`Workspace`](crate::Workspace) and a [`RawChart`] do the same with memory that they make.
 //!
-//! Each call takes a chart, then [`Settings`], then plain arguments, then the slices that it is lent to fill and to work
-//! in; [`taps`] takes a [`TapChart`], and [`build`] takes a raw chart, no settings, and has no slices to work in. It
-//! needs n places in each slice for n objects, and 8n in `work`; slices may be longer. The answer is a record of plain
-//! numbers: `refusal` is 0 and the first n places of each slice are filled, with `work` and `scratch` left 0; or
-//! `refusal` is the number of the first [`Refusal`] that applies, `place` is the object for 4 to 7 and 15 and 0 for the
-//! others, every other field is 0, and every slice is as it was lent. One answer slice may be left as it was where a
-//! call is accepted: the groups of [`taps`].
+//! Each call takes a chart, then [`Settings`], then plain arguments, then the slices that it is lent to fill and to
+//! work in; [`taps`] takes a [`TapChart`], [`lesson`] takes its pairs where others take arguments, and [`build`]
+//! takes a raw chart, no settings, and has no slices to work in. It needs n places in each slice for n objects, 8n in
+//! `work`, and in `mean` and `tenths` of [`lesson`] one for each pair; slices may be longer. The answer is a record
+//! of plain numbers: `refusal` is 0 and the first n places of each slice, or as many as there are pairs, are filled,
+//! with `work` and `scratch` left 0; or `refusal` is the number of the first [`Refusal`] that applies, `place` is the
+//! object for 4 to 7 and 15, the pair for 9 and 11 of [`lesson`] and 0 for the others, every other field is 0, and
+//! every slice is as it was lent. One answer slice may be left as it was where a call is accepted: the groups of
+//! [`taps`].
 //!
 //! ```
 //! use dresserduck::{calls, Chart, Settings};
@@ -88,6 +90,16 @@ pub struct Stretched {
     pub mean: f64,
     /// the whole number nearest to ten times the mean, of two as near the even one: of 0.25 it is 2, of 0.75 it is 8
     pub tenths: i64,
+}
+
+/// What [`lesson`] answers.
+#[repr(C)]
+#[derive(Clone, Copy, Debug, Default, PartialEq, Eq)]
+pub struct Lessoned {
+    /// 0, or the number of the first refusal that applies
+    pub refusal: u64,
+    /// the object that is refused by 4 to 7, the pair that is by 9 and 11, else 0
+    pub place: u64,
 }
 
 /// What [`rhythm`] answers.
@@ -196,12 +208,13 @@ pub fn build(
 }
 
 /// Declares exports on a chart, and each as a safe function over slices: the chart with its lists beside the kinds, the
-/// arguments that follow the settings, `;`, the lent slices.
+/// arguments that follow the settings, or in brackets slices that do, `;`, the lent slices.
 macro_rules! exports {
     ($(
         $(#[$doc:meta])*
         fn $name:ident = $export:ident(
-            $chart:ident[$($list:ident),*] $(, $argument:ident: $type:ty)*; $($slice:ident: $element:ty),*
+            $chart:ident[$($list:ident),*] $(, $argument:ident: $type:ty)* $(, [$($read:ident: $number:ty),*])?;
+            $($slice:ident: $element:ty),*
         ) -> $answer:ty;
     )*) => {
         extern "C" {
@@ -215,6 +228,7 @@ macro_rules! exports {
                     $($list: *const f64, _: usize,)*
                     settings: Settings,
                     $($argument: $type,)*
+                    $($($read: *const $number, _: usize,)*)?
                     $($slice: *mut $element, _: usize),*
                 ) -> $answer;
             )*
@@ -226,6 +240,7 @@ macro_rules! exports {
                 chart: &$chart,
                 settings: Settings,
                 $($argument: $type,)*
+                $($($read: &[$number],)*)?
                 $($slice: &mut [$element]),*
             ) -> $answer {
                 // SAFETY: each pointer and count is that of one slice, so it is aligned, valid for its count and not
@@ -238,6 +253,7 @@ macro_rules! exports {
                         $(chart.$list.as_ptr(), chart.$list.len(),)*
                         settings,
                         $($argument,)*
+                        $($($read.as_ptr(), $read.len(),)*)?
                         $($slice.as_mut_ptr(), $slice.len()),*
                     )
                 }
@@ -262,6 +278,11 @@ exports! {
     /// The same, and the mean over the notes from object a to b, b not included, with its tenths.
     fn stretch = dresserduck_stretch(Chart[start, delta, ratio], a: usize, b: usize; value: f64, work: u16,
         scratch: f64) -> Stretched;
+
+    /// The same as colour, and per pair the mean over its notes and that in tenths. A pair is an offset, its first
+    /// object, and a length; each offset is above the one before.
+    fn lesson = dresserduck_lesson(Chart[start, delta, ratio], [offset: u64, length: u64]; value: f64, mean: f64,
+        tenths: i64, work: u16, scratch: f64) -> Lessoned;
 
     /// Per object its rhythm group and that one's pattern group; [`NO_GROUP`](crate::NO_GROUP) for a NonHit.
     fn rhythm = dresserduck_rhythm(Chart[start, delta, ratio]; group: u16, pattern: u16, work: u16,

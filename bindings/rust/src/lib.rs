@@ -1,12 +1,13 @@
 //! How new each change of colour in a drum chart is, for trainers of players with one hand or a foot switch, and the chart's
 //! rhythm groups. The answers come from code that is proved to give them: they are the same in every build, bit for bit.
 //!
-//! A [`Chart`] borrows four slices. A [`Workspace`] has the memory that the calls work in; it grows as needed and can be
-//! used again and again. Every call answers every chart: with its result, or with the first [`Refusal`] that applies.
-//! [`Settings`] are the four numbers that may be other ones for another player.
-//! A [`RawChart`], of kinds and times as an editor holds them, builds a chart. Of a [`TapChart`], whose deltas are only
-//! known to within ranges, as a foot switch gives them, a call tells whether its rhythm groups are sure. A host that
-//! lends memory of its own finds the same calls in [`calls`].
+//! A [`Chart`] borrows four slices. A [`Workspace`] has the memory that the calls work in; it grows as needed and can
+//! be used again and again. Every call answers every chart: with its result, or with the first [`Refusal`] that
+//! applies. [`Settings`] are the four numbers that may be other ones for another player. What a player is to practise
+//! is one stretch of a chart, or a [`Lesson`] of several. A [`RawChart`], of kinds and times as an editor holds them,
+//! builds a chart. Of a [`TapChart`], whose deltas are only known to within ranges, as a foot switch gives them, a
+//! call tells whether its rhythm groups are sure. A host that lends memory of its own finds the same calls in
+//! [`calls`].
 //!
 //! ```
 //! use dresserduck::{Chart, Settings, Workspace, CENTER, RIM};
@@ -24,6 +25,8 @@
 //!
 //! let stretch = workspace.stretch(&chart, settings, 1..5)?;
 //! assert_eq!(stretch.tenths, 14);
+//! let lesson = workspace.lesson(&chart, settings, &[0..4, 1..5])?;
+//! assert_eq!(lesson.stretches[1], stretch);
 //! # Ok::<(), dresserduck::Refusal>(())
 //! ```
 //!
@@ -45,6 +48,7 @@
 
 pub mod calls;
 mod chart;
+mod pairs;
 mod raw_chart;
 mod refusal;
 mod result;
@@ -56,7 +60,8 @@ pub use chart::{Chart, CENTER, LARGEST_CHART, NON_HIT, RIM};
 pub use raw_chart::{BuiltChart, RawChart, LARGEST_RAW_CHART};
 pub use refusal::Refusal;
 pub use result::{
-    Encoding, GroupRecord, PairClass, Rhythm, Stretch, Taps, Turns, NO_GROUP, NO_PAIR, NO_TURN,
+    Encoding, GroupRecord, Lesson, PairClass, Rhythm, Stretch, Taps, Turns, MOST_PAIRS, NO_GROUP,
+    NO_PAIR, NO_TURN,
 };
 pub use settings::Settings;
 pub use tap_chart::TapChart;

@@ -2,8 +2,8 @@
 
 use crate::calls;
 use crate::chart::Chart;
-use crate::refusal::Refusal;
-use crate::workspace::{accepted, room};
+use crate::refusal::{accepted, Refusal};
+use crate::workspace::room;
 
 /// The most raw objects that a chart may be built of: two more than it may have.
 pub const LARGEST_RAW_CHART: usize = 16_386;

@@ -3,9 +3,9 @@
 use std::error::Error;
 use std::fmt;
 
-/// The first refusal that applies. The first three are the host programmer's, the next four and 15 the chart writer's,
-/// the others the player's settings'. They are tested in the order of their numbers, but 10 and 16 before 4, and 15
-/// between 6 and 7.
+/// The first refusal that applies. The first three are the host programmer's, the next four and 15 the chart
+/// writer's, the others the player's settings'. They are tested in the order of their numbers, but 10 and 16 before
+/// 4, 15 between 6 and 7, and 17 before 9; 9 and 11 of a lesson are tested for one pair after another.
 ///
 /// ```
 /// use dresserduck::{Chart, Settings, Workspace};
@@ -20,7 +20,7 @@ use std::fmt;
 pub enum Refusal {
     /// 1: more than 16,384 objects, or more than 16,386 raw ones.
     TooManyObjects,
-    /// 2: the chart's slices, or the two of the raw objects, are not of one length.
+    /// 2: the chart's slices, or the two of the raw objects or of the pairs, are not of one length.
     LengthsDiffer,
     /// 3: an answer or work slice is too short. A [`Workspace`](crate::Workspace) and a [`RawChart`](crate::RawChart) never
     /// lend one.
@@ -49,10 +49,20 @@ pub enum Refusal {
     BadWindow,
     /// 9: the stretch is empty or ends past the chart, or there is no group of this number.
     OutsideChart,
+    /// 9 of a lesson: a pair's stretch is empty or ends past the chart.
+    PairOutsideChart {
+        /// its number, counted from 0
+        pair: usize,
+    },
     /// 10: the rate lies outside 0.25 to 4.0, or is a NaN.
     BadRate,
     /// 11: the stretch has no note, only NonHits.
     NoNote,
+    /// 11 of a lesson: a pair's stretch has no note, only NonHits.
+    PairWithoutNote {
+        /// its number, counted from 0
+        pair: usize,
+    },
     /// 15: the least that an object's delta may be is above the most.
     LowestAboveHighest {
         /// its number, counted from 0
@@ -60,6 +70,8 @@ pub enum Refusal {
     },
     /// 16: a number of the [`Settings`](crate::Settings) lies outside its range, or is a NaN.
     BadSettings,
+    /// 17: the lesson has more than 32 pairs, or one that begins no later than the one before it.
+    BadLesson,
 }
 
 impl Refusal {
@@ -74,11 +86,12 @@ impl Refusal {
             Refusal::BadDelta { .. } => 6,
             Refusal::BadRatio { .. } => 7,
             Refusal::BadWindow => 8,
-            Refusal::OutsideChart => 9,
+            Refusal::OutsideChart | Refusal::PairOutsideChart { .. } => 9,
             Refusal::BadRate => 10,
-            Refusal::NoNote => 11,
+            Refusal::NoNote | Refusal::PairWithoutNote { .. } => 11,
             Refusal::LowestAboveHighest { .. } => 15,
             Refusal::BadSettings => 16,
+            Refusal::BadLesson => 17,
         }
     }
 
@@ -94,36 +107,17 @@ impl Refusal {
         }
     }
 
-    /// The refusal with this number and place; none for 0.
-    pub(crate) fn of(number: u64, place: u64) -> Option<Self> {
-        let object = place as usize;
-        match number {
-            0 => None,
-            1 => Some(Refusal::TooManyObjects),
-            2 => Some(Refusal::LengthsDiffer),
-            3 => Some(Refusal::SliceTooShort),
-            4 => Some(Refusal::BadKind { object }),
-            5 => Some(Refusal::BadStart { object }),
-            6 => Some(Refusal::BadDelta { object }),
-            7 => Some(Refusal::BadRatio { object }),
-            8 => Some(Refusal::BadWindow),
-            9 => Some(Refusal::OutsideChart),
-            10 => Some(Refusal::BadRate),
-            11 => Some(Refusal::NoNote),
-            15 => Some(Refusal::LowestAboveHighest { object }),
-            16 => Some(Refusal::BadSettings),
-            _ => unreachable!("the library has no refusal {number}"),
+    /// The pair of the lesson that is refused, where it is one.
+    pub const fn pair(self) -> Option<usize> {
+        match self {
+            Refusal::PairOutsideChart { pair } | Refusal::PairWithoutNote { pair } => Some(pair),
+            _ => None,
         }
     }
-}
 
-/// A sentence for whoever looks into it: it names the chart, the program or the settings, whichever is at fault.
-impl fmt::Display for Refusal {
-    fn fmt(&self, out: &mut fmt::Formatter<'_>) -> fmt::Result {
-        if let Some(object) = self.object() {
-            write!(out, "Object {object} of the chart, counted from 0, ")?;
-        }
-        out.write_str(match self {
+    /// What is wrong: a sentence, or the end of one that begins with the object or the pair.
+    const fn words(self) -> &'static str {
+        match self {
             Refusal::TooManyObjects => "The chart has more than 16,384 objects.",
             Refusal::LengthsDiffer => {
                 "The program gave a kind, a time, a start, a delta or a ratio for some objects only."
@@ -145,16 +139,78 @@ impl fmt::Display for Refusal {
             Refusal::OutsideChart => {
                 "The passage or rhythm group that was asked for is not in the chart."
             }
+            Refusal::PairOutsideChart { .. } => "is empty or ends past the chart.",
             Refusal::BadRate => "The clock rate in the settings is not from 0.25 to 4.",
             Refusal::NoNote => "The passage that was asked for has no note, only rolls and swells.",
-            Refusal::LowestAboveHighest { .. } => {
-                "has a lowest delta that is above its highest."
-            }
+            Refusal::PairWithoutNote { .. } => "has no note, only rolls and swells.",
+            Refusal::LowestAboveHighest { .. } => "has a lowest delta that is above its highest.",
             Refusal::BadSettings => {
                 "The margin in the settings is not from 0 to 50 milliseconds, the search limit not from 2 to 64, \
                  or the threshold or the tolerance not from 0 to 1."
             }
-        })
+            Refusal::BadLesson => {
+                "The lesson has more than 32 passages, or one that begins no later than the one before it."
+            }
+        }
+    }
+
+    /// The refusal with this number and place; none for 0.
+    pub(crate) fn of(number: u64, place: u64) -> Option<Self> {
+        let object = place as usize;
+        match number {
+            0 => None,
+            1 => Some(Refusal::TooManyObjects),
+            2 => Some(Refusal::LengthsDiffer),
+            3 => Some(Refusal::SliceTooShort),
+            4 => Some(Refusal::BadKind { object }),
+            5 => Some(Refusal::BadStart { object }),
+            6 => Some(Refusal::BadDelta { object }),
+            7 => Some(Refusal::BadRatio { object }),
+            8 => Some(Refusal::BadWindow),
+            9 => Some(Refusal::OutsideChart),
+            10 => Some(Refusal::BadRate),
+            11 => Some(Refusal::NoNote),
+            15 => Some(Refusal::LowestAboveHighest { object }),
+            16 => Some(Refusal::BadSettings),
+            17 => Some(Refusal::BadLesson),
+            _ => unreachable!("the library has no refusal {number}"),
+        }
+    }
+
+    /// What this one is where a lesson is refused with it, at this place: 9 and 11 are about a pair.
+    fn of_lesson(self, place: u64) -> Self {
+        let pair = place as usize;
+        match self {
+            Refusal::OutsideChart => Refusal::PairOutsideChart { pair },
+            Refusal::NoNote => Refusal::PairWithoutNote { pair },
+            other => other,
+        }
+    }
+}
+
+/// What a call answered, by its number and place.
+pub(crate) fn accepted(number: u64, place: u64) -> Result<(), Refusal> {
+    match Refusal::of(number, place) {
+        None => Ok(()),
+        Some(refusal) => Err(refusal),
+    }
+}
+
+/// The same of the call lesson.
+pub(crate) fn accepted_lesson(number: u64, place: u64) -> Result<(), Refusal> {
+    accepted(number, place).map_err(|refusal| refusal.of_lesson(place))
+}
+
+/// A sentence for whoever looks into it: it names the chart, the program or the settings, whichever is at fault.
+impl fmt::Display for Refusal {
+    fn fmt(&self, out: &mut fmt::Formatter<'_>) -> fmt::Result {
+        if let Some(object) = self.object() {
+            write!(out, "Object {object} of the chart, counted from 0, ")?;
+        }
+        if let Some(pair) = self.pair() {
+            write!(out, "Passage {pair} of the lesson, counted from 0, ")?;
+        }
+        out.write_str(self.words())
     }
 }
 

@@ -88,6 +88,18 @@ pub struct Stretch {
     pub tenths: i64,
 }
 
+/// The colour values of a chart, and what is told of each stretch that a lesson marks on it.
+#[derive(Clone, Debug, Default, PartialEq)]
+pub struct Lesson {
+    /// each object's colour value
+    pub values: Vec<f64>,
+    /// each stretch, as a call of its own tells it, in the order in which they were asked
+    pub stretches: Vec<Stretch>,
+}
+
+/// The most stretches that a lesson may have.
+pub const MOST_PAIRS: usize = 32;
+
 /// Per object its rhythm group and its pattern group.
 #[derive(Clone, Debug, Default, PartialEq, Eq)]
 pub struct Rhythm {

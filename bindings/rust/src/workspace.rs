@@ -4,8 +4,9 @@ use std::ops::Range;
 
 use crate::calls;
 use crate::chart::{Chart, LARGEST_CHART};
-use crate::refusal::Refusal;
-use crate::result::{Encoding, GroupRecord, Rhythm, Stretch, Taps, Turns};
+use crate::pairs::Pairs;
+use crate::refusal::{accepted, accepted_lesson, Refusal};
+use crate::result::{Encoding, GroupRecord, Lesson, Rhythm, Stretch, Taps, Turns};
 use crate::settings::Settings;
 use crate::tap_chart::TapChart;
 
@@ -30,13 +31,6 @@ pub struct Workspace {
     work: Vec<u16>,
     scratch: Vec<f64>,
     values: Vec<f64>,
-}
-
-pub(crate) fn accepted(number: u64, place: u64) -> Result<(), Refusal> {
-    match Refusal::of(number, place) {
-        None => Ok(()),
-        Some(refusal) => Err(refusal),
-    }
 }
 
 /// Makes room for n answers. Of a chart that is too large nothing is asked, since it is refused by its size.
@@ -197,6 +191,60 @@ impl Workspace {
             mean: answer.mean,
             tenths: answer.tenths,
         })
+    }
+
+    /// The same of several stretches at once, at most [`MOST_PAIRS`](crate::MOST_PAIRS). They may overlap; each
+    /// begins after the one before it.
+    ///
+    /// ```
+    /// use dresserduck::{Chart, Refusal, Settings, Workspace};
+    ///
+    /// // d, k, a roll, k
+    /// let chart = Chart::new(&[0, 1, 2, 1], &[0.0; 4], &[125.0; 4], &[1.0; 4]);
+    /// let (mut workspace, settings) = (Workspace::new(), Settings::default());
+    /// let lesson = workspace.lesson(&chart, settings, &[0..3, 1..4])?;
+    /// assert_eq!(lesson.stretches[1], workspace.stretch(&chart, settings, 1..4)?);
+    /// let refused = workspace.lesson(&chart, settings, &[0..3, 2..3]);
+    /// assert_eq!(refused, Err(Refusal::PairWithoutNote { pair: 1 }));
+    /// # Ok::<(), Refusal>(())
+    /// ```
+    pub fn lesson(
+        &mut self,
+        chart: &Chart,
+        settings: Settings,
+        stretches: &[Range<usize>],
+    ) -> Result<Lesson, Refusal> {
+        let mut lesson = Lesson::default();
+        self.lesson_into(chart, settings, stretches, &mut lesson)?;
+        Ok(lesson)
+    }
+
+    /// The same into a lesson whose memory is used again. What it holds after a refusal is of no use.
+    pub fn lesson_into(
+        &mut self,
+        chart: &Chart,
+        settings: Settings,
+        stretches: &[Range<usize>],
+        out: &mut Lesson,
+    ) -> Result<(), Refusal> {
+        self.grow(chart.len());
+        room(&mut out.values, chart.len());
+        let mut pairs = Pairs::of(stretches);
+        let answer = calls::lesson(
+            chart,
+            settings,
+            &pairs.offset[..pairs.count],
+            &pairs.length[..pairs.count],
+            &mut out.values,
+            &mut pairs.mean,
+            &mut pairs.tenths,
+            &mut self.work,
+            &mut self.scratch,
+        );
+        accepted_lesson(answer.refusal, answer.place)?;
+        out.stretches.clear();
+        out.stretches.extend(pairs.told());
+        Ok(())
     }
 
     /// Rhythm groups and pattern groups.

@@ -3,7 +3,7 @@
 use std::error::Error;
 use std::ops::Range;
 
-use dresserduck::{Chart, Refusal, Settings, TapChart, Turns, Workspace, LARGEST_CHART};
+use dresserduck::{Chart, Lesson, Refusal, Settings, TapChart, Turns, Workspace, LARGEST_CHART};
 
 const BASE: Settings = Settings::DEFAULT;
 
@@ -40,14 +40,15 @@ fn sure<'a>(chart: &Chart<'a>) -> TapChart<'a> {
     )
 }
 
-/// What each of the seven calls on a chart says.
-fn refusals(chart: &Chart, settings: Settings) -> [Option<Refusal>; 7] {
-    let mut workspace = Workspace::new();
+/// What each of the eight calls on a chart says.
+fn refusals(chart: &Chart, settings: Settings) -> [Option<Refusal>; 8] {
+    let (mut workspace, whole) = (Workspace::new(), 0..chart.len());
     [
         workspace.encode(chart, settings).err(),
         workspace.turns(chart, settings).err(),
         workspace.colour(chart, settings).err(),
-        workspace.stretch(chart, settings, 0..chart.len()).err(),
+        workspace.stretch(chart, settings, whole.clone()).err(),
+        workspace.lesson(chart, settings, &[whole]).err(),
         workspace.rhythm(chart, settings).err(),
         workspace.taps(&sure(chart), settings).err(),
         workspace.record(chart, settings, 0, 50.0).err(),
@@ -56,15 +57,15 @@ fn refusals(chart: &Chart, settings: Settings) -> [Option<Refusal>; 7] {
 
 #[track_caller]
 fn all_refused(lists: &Lists, refusal: Refusal) {
-    assert_eq!(refusals(&lists.chart(), BASE), [Some(refusal); 7]);
+    assert_eq!(refusals(&lists.chart(), BASE), [Some(refusal); 8]);
 }
 
 #[test]
 fn charts_are_refused_by_every_call() {
     all_refused(&Lists::of(LARGEST_CHART + 1), Refusal::TooManyObjects);
-    assert_eq!(refusals(&Lists::of(LARGEST_CHART).chart(), BASE), [None; 7]);
+    assert_eq!(refusals(&Lists::of(LARGEST_CHART).chart(), BASE), [None; 8]);
     let mut lists = Lists::of(7);
-    assert_eq!(refusals(&lists.chart(), BASE), [None; 7]);
+    assert_eq!(refusals(&lists.chart(), BASE), [None; 8]);
     lists.ratio[5] = f64::NAN;
     all_refused(&lists, Refusal::BadRatio { object: 5 });
     lists.delta[5] = f64::INFINITY;
@@ -88,20 +89,20 @@ fn numbers_out_of_range_are_refused_by_every_call() {
         BASE.with_threshold(-1.0),
         BASE.with_tolerance(1.0f64.next_up()),
     ] {
-        let all = [Some(Refusal::BadSettings); 7];
+        let all = [Some(Refusal::BadSettings); 8];
         assert_eq!(refusals(&lists.chart(), settings), all, "{settings:?}");
         assert_eq!(
             refusals(&Lists::of(0).chart(), settings),
             all,
             "{settings:?}"
         );
-        let all = [Some(Refusal::TooManyObjects); 7];
+        let all = [Some(Refusal::TooManyObjects); 8];
         assert_eq!(refusals(&huge.chart(), settings), all, "{settings:?}");
     }
     lists.kind[5] = 0;
     let widest = BASE.with_margin(50.0).with_search_limit(64);
     let widest = widest.with_threshold(1.0).with_tolerance(1.0);
-    assert_eq!(refusals(&lists.chart(), widest), [None; 7]);
+    assert_eq!(refusals(&lists.chart(), widest), [None; 8]);
 }
 
 #[test]
@@ -145,6 +146,13 @@ fn settings_are_refused_by_the_call_that_has_them() {
     assert_eq!(past, Err(Refusal::OutsideChart));
 }
 
+#[track_caller]
+fn check_sentence(refusal: Refusal, begins: &str) {
+    let error: Box<dyn Error> = refusal.into();
+    let text = error.to_string();
+    assert!(text.starts_with(begins) && text.ends_with('.'), "{text:?}");
+}
+
 #[test]
 fn refusals_read_as_sentences_and_have_their_numbers() {
     let all = [
@@ -161,16 +169,24 @@ fn refusals_read_as_sentences_and_have_their_numbers() {
         Refusal::NoNote,
         Refusal::LowestAboveHighest { object: 4 },
         Refusal::BadSettings,
+        Refusal::BadLesson,
     ];
-    for (number, refusal) in (1..=11).chain([15, 16]).zip(all) {
+    for (number, refusal) in (1..=11).chain([15, 16, 17]).zip(all) {
         assert_eq!(refusal.number(), number);
         let of_object = (4..=7).contains(&number) || number == 15;
-        assert_eq!(refusal.object().is_some(), of_object);
-        let error: Box<dyn Error> = refusal.into();
-        let text = error.to_string();
-        let begins = text.starts_with("The ") || text.starts_with("Object 4 of the chart, ");
-        assert!(begins, "{text:?}");
-        assert!(text.ends_with('.'), "{text:?}");
+        let found = (refusal.object().is_some(), refusal.pair());
+        assert_eq!(found, (of_object, None), "{number}");
+        let begins = ["The ", "Object 4 of the chart, "][usize::from(of_object)];
+        check_sentence(refusal, begins);
+    }
+    let pair = 4;
+    for (number, refusal) in [
+        (9, Refusal::PairOutsideChart { pair }),
+        (11, Refusal::PairWithoutNote { pair }),
+    ] {
+        assert_eq!(refusal.number(), number);
+        assert_eq!((refusal.object(), refusal.pair()), (None, Some(4)));
+        check_sentence(refusal, "Passage 4 of the lesson, ");
     }
     let text = Refusal::BadSettings.to_string();
     for name in ["margin", "search limit", "threshold", "tolerance"] {
@@ -190,6 +206,12 @@ fn a_chart_without_objects_is_accepted() {
     assert_eq!(
         workspace.stretch(&chart, BASE, 0..0),
         Err(Refusal::OutsideChart)
+    );
+    assert_eq!(workspace.lesson(&chart, BASE, &[]), Ok(Lesson::default()));
+    let pair = 0;
+    assert_eq!(
+        workspace.lesson(&chart, BASE, &[0..0, 1..1]),
+        Err(Refusal::PairOutsideChart { pair })
     );
     let record = workspace.record(&chart, BASE, 0, 50.0);
     assert_eq!(record, Err(Refusal::OutsideChart));
@@ -223,6 +245,8 @@ fn a_workspace_is_as_good_as_new() {
             fresh.rhythm(&chart, BASE),
             "{n}"
         );
+        let of = |workspace: &mut Workspace| workspace.lesson(&chart, BASE, &[0..n, 1..n]);
+        assert_eq!(of(&mut workspace), of(&mut fresh), "{n}");
         let of = |workspace: &mut Workspace| workspace.taps(&sure(&chart), BASE);
         assert_eq!(of(&mut workspace), of(&mut fresh), "{n}");
         let of = |workspace: &mut Workspace| workspace.record(&chart, BASE, 0, 50.0);

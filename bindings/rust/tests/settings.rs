@@ -57,8 +57,8 @@ const LISTS: Lists = Lists {
     ratio: [1.0, 1.0, 1.2, 1.2, 1.0, 1.0, 1.2, 1.2, 1.0],
 };
 
-/// All that the seven calls say of it, as text.
-fn told(settings: Settings) -> [String; 7] {
+/// All that the eight calls say of it, as text.
+fn told(settings: Settings) -> [String; 8] {
     let Lists {
         kind,
         start,
@@ -73,16 +73,17 @@ fn told(settings: Settings) -> [String; 7] {
         format!("{:?}", workspace.turns(&chart, settings)),
         format!("{:?}", workspace.colour(&chart, settings)),
         format!("{:?}", workspace.stretch(&chart, settings, 0..9)),
+        format!("{:?}", workspace.lesson(&chart, settings, &[0..9, 5..7])),
         format!("{:?}", workspace.rhythm(&chart, settings)),
         format!("{:?}", workspace.taps(&ranges, settings)),
         format!("{:?}", workspace.record(&chart, settings, 2, 1000.0)),
     ]
 }
 
-/// Of encode, turns, colour, stretch, rhythm, taps and record those that say something else than by default.
-fn changed(settings: Settings) -> [bool; 7] {
+/// Of encode, turns, colour, stretch, lesson, rhythm, taps and record those that say something else than by default.
+fn changed(settings: Settings) -> [bool; 8] {
     let (base, other) = (told(BASE), told(settings));
-    [0, 1, 2, 3, 4, 5, 6].map(|call| base[call] != other[call])
+    [0, 1, 2, 3, 4, 5, 6, 7].map(|call| base[call] != other[call])
 }
 
 /// None of them moves what turns says.
@@ -91,11 +92,11 @@ fn each_number_reaches_the_library() {
     assert!(told(BASE).iter().all(|text| text.starts_with("Ok(")));
     let [no, yes] = [false, true];
     let margin = changed(BASE.with_margin(0.5));
-    assert_eq!(margin, [no, no, no, no, yes, yes, yes], "margin");
+    assert_eq!(margin, [no, no, no, no, no, yes, yes, yes], "margin");
     let limit = changed(BASE.with_search_limit(2));
-    assert_eq!(limit, [yes, no, yes, yes, no, no, no], "limit");
+    assert_eq!(limit, [yes, no, yes, yes, yes, no, no, no], "limit");
     let threshold = changed(BASE.with_threshold(0.0));
-    assert_eq!(threshold, [no, no, no, no, no, no, yes], "threshold");
+    assert_eq!(threshold, [no, no, no, no, no, no, no, yes], "threshold");
     let tolerance = changed(BASE.with_tolerance(0.25));
-    assert_eq!(tolerance, [no, no, yes, yes, no, no, no], "tolerance");
+    assert_eq!(tolerance, [no, no, yes, yes, yes, no, no, no], "tolerance");
 }

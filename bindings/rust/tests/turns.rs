@@ -1,30 +1,14 @@
 //! The call turns: each note in its field, charts in which there is none, and memory that is used again.
 
-use dresserduck::{calls, Chart, Refusal, Settings, Turns, Workspace, LARGEST_CHART, NO_TURN};
+mod lists;
+
+use dresserduck::{calls, Refusal, Settings, Turns, Workspace, LARGEST_CHART, NO_TURN};
+use lists::Lists;
 
 const BASE: Settings = Settings::DEFAULT;
 
-/// The chart's slices, by its kinds.
-struct Lists {
-    kind: Vec<u8>,
-    ones: Vec<f64>,
-}
-
-impl Lists {
-    fn of(kind: &[u8]) -> Self {
-        Lists {
-            kind: kind.to_vec(),
-            ones: vec![1.0; kind.len()],
-        }
-    }
-
-    fn chart(&self) -> Chart<'_> {
-        Chart::new(&self.kind, &self.ones, &self.ones, &self.ones)
-    }
-
-    fn turns(&self) -> Result<Turns, Refusal> {
-        Workspace::new().turns(&self.chart(), BASE)
-    }
+fn told(lists: &Lists) -> Result<Turns, Refusal> {
+    Workspace::new().turns(&lists.chart(), BASE)
 }
 
 /// The streaks d, kk, n, then n with the two k behind it, and d.
@@ -35,7 +19,7 @@ const PLACES: [usize; 9] = [0, 1, 2, 3, 4, 5, 6, 7, 8];
 
 #[test]
 fn turns_have_each_note_in_its_field() {
-    let turns = Lists::of(&KINDS).turns().unwrap();
+    let turns = told(&Lists::of(&KINDS)).unwrap();
     let previous = PLACES.map(|object| turns.previous(object));
     let (d, none) = (Some(0), None);
     assert_eq!(
@@ -50,7 +34,7 @@ fn turns_have_each_note_in_its_field() {
 #[test]
 fn with_no_note_beside_its_streak_an_object_has_none() {
     for kind in [&[][..], &[0], &[2, 2], &[2, 1, 2], &[1; 9]] {
-        let turns = Lists::of(kind).turns().unwrap();
+        let turns = told(&Lists::of(kind)).unwrap();
         let both = PLACES.map(|object| [turns.previous(object), turns.next(object)]);
         assert_eq!(both, [[None; 2]; 9], "{kind:?}");
     }
@@ -71,7 +55,7 @@ fn none_has_a_number() {
         &mut scratch,
     );
     assert_eq!(answer, calls::Turned::default());
-    let turns = lists.turns().unwrap();
+    let turns = told(&lists).unwrap();
     let number = |note: Option<usize>| note.map_or(NO_TURN, |note| note as u16);
     for object in 0..8 {
         let both = [turns.previous(object), turns.next(object)].map(number);
@@ -90,16 +74,16 @@ fn turns_are_used_again() {
     let (small, bad) = (Lists::of(&KINDS), Lists::of(&[0, 1, 3]));
     for lists in [&small, &largest, &bad, &Lists::of(&[]), &longer, &small] {
         let got = workspace.turns_into(&lists.chart(), BASE, &mut turns);
-        match lists.turns() {
+        match told(lists) {
             Ok(fresh) => assert_eq!((got, &turns), (Ok(()), &fresh)),
             Err(refusal) => assert_eq!(got, Err(refusal)),
         }
     }
-    assert_eq!(longer.turns(), Err(Refusal::TooManyObjects));
-    assert_eq!(bad.turns(), Err(Refusal::BadKind { object: 2 }));
+    assert_eq!(told(&longer), Err(Refusal::TooManyObjects));
+    assert_eq!(told(&bad), Err(Refusal::BadKind { object: 2 }));
     // the last object's streak is the last
     let last = LARGEST_CHART - 1;
-    let turns = largest.turns().unwrap();
+    let turns = told(&largest).unwrap();
     let before = turns.previous(last).expect("a note before it");
     assert_eq!(turns.next(last), None);
     assert_eq!(turns.next(last - 1), Some(before + 1));
