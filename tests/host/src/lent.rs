@@ -33,6 +33,17 @@ impl Element for u16 {
     }
 }
 
+// Far below any tenths.
+impl Element for i64 {
+    fn sentinel(slice: usize, place: usize) -> Self {
+        i64::MIN | (slice << 32 | place) as i64
+    }
+
+    fn bits(self) -> u64 {
+        self as u64
+    }
+}
+
 // NaNs with different payloads.
 impl Element for f64 {
     fn sentinel(slice: usize, place: usize) -> Self {

@@ -6,15 +6,18 @@ pub mod check;
 pub mod check_colour;
 pub mod check_rhythm;
 pub mod colour;
+pub mod eight;
 pub mod faults;
 pub mod heard;
 pub mod landmark;
 pub mod lent;
+pub mod lesson;
 pub mod order;
 pub mod pairs;
 pub mod plain;
 pub mod plain_build;
 pub mod plain_colour;
+pub mod plain_lesson;
 #[path = "../../plain_normalizer.rs"]
 pub mod plain_normalizer;
 pub mod plain_rhythm;
@@ -25,7 +28,6 @@ pub mod plain_turns;
 pub mod rhythm;
 pub mod samples;
 pub mod sets;
-pub mod seven;
 pub mod taps;
 pub mod turns;
 #[path = "../../xorshift.rs"]

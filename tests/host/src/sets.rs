@@ -1,9 +1,9 @@
 //! Sets of the four settings, and charts on which each number of a set decides something.
 
 use crate::chart::Chart;
+use crate::eight::Asked;
 use crate::faults::{BOUND, TINY};
 use crate::samples::{biased_chart, ranges_above, rounds, Xorshift};
-use crate::seven::Asked;
 use dresserduck::Settings;
 
 const FIVE: f64 = Settings::DEFAULT.margin;

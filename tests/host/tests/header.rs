@@ -142,10 +142,10 @@ fn the_header_declares_what_is_exported() {
     let (exported_records, exported_calls) = in_source(&exporting());
     assert_eq!(records, exported_records);
     assert_eq!(calls, exported_calls);
-    assert_eq!((records.len(), calls.len()), (9, 8), "{:?}", calls.keys());
+    assert_eq!((records.len(), calls.len()), (10, 9), "{:?}", calls.keys());
     let fields: usize = records.values().map(Vec::len).sum();
     let arguments: usize = calls.values().map(|call| call.len() - 1).sum();
-    assert_eq!((fields, arguments), (37, 138), "fields and arguments");
+    assert_eq!((fields, arguments), (39, 161), "fields and arguments");
 }
 
 /// The names in the header's enums without what all begin with, and their numbers.
@@ -179,6 +179,7 @@ fn the_headers_numbers_are_those_of_the_rust_crate() {
         ("NO_PAIR", dresserduck::NO_PAIR.into()),
         ("LARGEST_CHART", dresserduck::LARGEST_CHART as u64),
         ("LARGEST_RAW_CHART", dresserduck::LARGEST_RAW_CHART as u64),
+        ("MOST_PAIRS", dresserduck::MOST_PAIRS as u64),
         ("ACCEPTED", 0),
         ("TOO_MANY_OBJECTS", Refusal::TooManyObjects.number()),
         ("LENGTHS_DIFFER", Refusal::LengthsDiffer.number()),
@@ -194,6 +195,7 @@ fn the_headers_numbers_are_those_of_the_rust_crate() {
         ("NO_NOTE", Refusal::NoNote.number()),
         ("LOWEST_ABOVE_HIGHEST", turned.number()),
         ("BAD_SETTINGS", Refusal::BadSettings.number()),
+        ("BAD_LESSON", Refusal::BadLesson.number()),
     ];
     let want = want.map(|(name, number)| (name.to_string(), number));
     assert_eq!(numbers(&texts_in("include")), BTreeMap::from(want));

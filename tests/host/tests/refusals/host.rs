@@ -1,6 +1,6 @@
 //! Refusals 1, 2 and 3: how long the slices are.
 
-use crate::{accepted, refused, roomy, Encode, OnChart, Turns};
+use crate::{accepted, refused, roomy, Encode, Lesson, OnChart, Turns};
 use host_tests::chart::Chart;
 use host_tests::LARGEST_CHART;
 
@@ -100,6 +100,7 @@ fn one_lent_slice_too_short() {
         accepted(&Chart::of_size(n));
         each_too_short::<Encode>(n);
         each_too_short::<Turns>(n);
+        each_too_short::<Lesson>(n);
         refused(&Chart::of_size(n), n - 1, 3, 0);
     }
 }
@@ -120,6 +121,7 @@ fn work_of_a_wrapped_count() {
     for work in [0, 1, n, 7 * n, 8 * n - 1] {
         refused_for_work::<Encode>(&chart, work);
         refused_for_work::<Turns>(&chart, work);
+        refused_for_work::<Lesson>(&chart, work);
     }
 }
 
@@ -139,5 +141,6 @@ fn lent_slices_with_room() {
     for n in [0, 1, 2, 9, LARGEST_CHART] {
         accepted_with_room::<Encode>(n);
         accepted_with_room::<Turns>(n);
+        accepted_with_room::<Lesson>(n);
     }
 }

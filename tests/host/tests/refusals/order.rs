@@ -1,6 +1,6 @@
 //! Which refusal goes first: of the whole chart 1 to 3, then 16, and then the first object that has one of 4 to 7.
 
-use crate::{accepted, refused, Encode, OnChart, Turns};
+use crate::{accepted, refused, Encode, Lesson, OnChart, Turns};
 use host_tests::chart::Chart;
 use host_tests::faults::{some_bad, some_bad_settings};
 use host_tests::order::{each_alone, every_pair, first_of_many, of_two_objects, Input};
@@ -73,19 +73,25 @@ fn each_refusal_alone() {
     accepted(&Lent::<Turns>::new(false).chart);
     each_alone::<Lent<Encode>>();
     each_alone::<Lent<Turns>>();
+    each_alone::<Lent<Lesson>>();
 }
 
 /// Every pair can apply together, as the object refusals read different fields of one object.
 #[test]
 fn every_pair_in_order() {
-    let pairs = [every_pair::<Lent<Encode>>(), every_pair::<Lent<Turns>>()];
-    assert_eq!(pairs, [28; 2], "pairs of eight");
+    let pairs = [
+        every_pair::<Lent<Encode>>(),
+        every_pair::<Lent<Turns>>(),
+        every_pair::<Lent<Lesson>>(),
+    ];
+    assert_eq!(pairs, [28; 3], "pairs of eight");
 }
 
 #[test]
 fn the_first_of_many() {
     first_of_many::<Lent<Encode>>();
     first_of_many::<Lent<Turns>>();
+    first_of_many::<Lent<Lesson>>();
 }
 
 /// Faults in two objects: the earlier object's is named, whatever its number.

@@ -1,10 +1,10 @@
-//! All seven calls under random sets, on charts on which the numbers decide: what the plain versions answer.
+//! All eight calls under random sets, on charts on which the numbers decide: what the plain versions answer.
 
 use std::collections::BTreeMap;
 
+use host_tests::eight::{accepted, Asked, Told, CALLS};
 use host_tests::samples::Xorshift;
 use host_tests::sets::{drawn_chart, drawn_settings, LIMITS, MARGINS, THRESHOLDS, TOLERANCES};
-use host_tests::seven::{accepted, Asked, Told, CALLS};
 
 use dresserduck::Settings;
 
@@ -13,9 +13,9 @@ const NUMBERS: [&str; 4] = ["margin", "search limit", "threshold", "tolerance"];
 /// The calls whose answers each of them decides, and no others: none decides what turns answers.
 const DECIDED: [&[&str]; 4] = [
     &["rhythm", "taps", "record"],
-    &["encode", "colour", "stretch"],
+    &["encode", "colour", "stretch", "lesson"],
     &["record"],
-    &["colour", "stretch"],
+    &["colour", "stretch", "lesson"],
 ];
 
 /// The four numbers, floats by their bits.
@@ -59,12 +59,12 @@ fn with_default(settings: Settings, number: usize) -> Settings {
 /// How often a number decided: with the default in its place something else was answered.
 #[derive(Default)]
 struct Counts {
-    by_call: [[usize; 7]; 4],
+    by_call: [[usize; 8]; 4],
     by_value: [BTreeMap<u64, usize>; 4],
 }
 
 impl Counts {
-    fn add(&mut self, number: usize, value: u64, unlike: [bool; 7]) {
+    fn add(&mut self, number: usize, value: u64, unlike: [bool; 8]) {
         for (count, is_other) in self.by_call[number].iter_mut().zip(unlike) {
             *count += usize::from(is_other);
         }

@@ -1,9 +1,9 @@
 //! Each number at its bounds, and outside them: 16, which every call tells.
 
+use host_tests::eight::{accepted, refused, Asked};
 use host_tests::faults::{bad_settings, settings_at_bounds, some_bad_settings};
 use host_tests::samples::{biased_chart, rhythmic_chart, rounds, Xorshift};
 use host_tests::sets::{drawn_chart, drawn_settings};
-use host_tests::seven::{accepted, refused, Asked};
 use host_tests::taps::TapChart;
 use host_tests::LARGEST_CHART;
 

@@ -1,8 +1,8 @@
 //! A zero's sign says nothing.
 
+use host_tests::eight::accepted;
 use host_tests::samples::Xorshift;
 use host_tests::sets::{drawn_chart, drawn_settings};
-use host_tests::seven::accepted;
 
 use dresserduck::Settings;
 
@@ -23,7 +23,7 @@ fn with_zeros(settings: Settings, zero: f64, which: [bool; 3]) -> Settings {
     }
 }
 
-/// What all seven calls answer is the same, every bit: `accepted` tells it as it found it in the lent memory.
+/// What all eight calls answer is the same, every bit: `accepted` tells it as it found it in the lent memory.
 #[test]
 fn minus_zero_answers_as_zero_does() {
     let mut random = Xorshift::new(0x2E805);
