@@ -1,9 +1,12 @@
 //! Two charts with a common tail agree from the colour landmarks of the scope on: demand 3 through the calls, under one set of settings.
 
+use std::collections::BTreeSet;
+
 use host_tests::chart::Chart;
 use host_tests::colour::{stretch, Memory, Stretched};
 use host_tests::heard::{heard, Heard};
 use host_tests::landmark::colour_landmarks;
+use host_tests::lesson::{exact_sizes, lesson, Lessoned, Marked, Memory as LessonMemory};
 use host_tests::pairs::{random_pair, Pair};
 use host_tests::samples::Xorshift;
 
@@ -100,12 +103,48 @@ fn check_stretch(pair: &Pair, bounds: [usize; 2]) -> bool {
     x.refusal == 0
 }
 
+/// Up to 32 stretches from this tail object on, each by its first object and the one behind its last.
+fn drawn_lesson(random: &mut Xorshift, from: usize, tail: usize) -> Vec<[usize; 2]> {
+    let draws = random.between(2, 32);
+    let firsts: BTreeSet<usize> = (0..draws).map(|_| random.between(from, tail - 1)).collect();
+    let bounds = |a| [a, random.between(a + 1, tail)];
+    firsts.into_iter().map(bounds).collect()
+}
+
+/// What the call lesson answers of these stretches in the tail, and the bits of every mean and the tenths as they
+/// then stand.
+fn taught(chart: &Chart, tail: usize, stretches: &[[usize; 2]]) -> (Lessoned, [Vec<u64>; 2]) {
+    let (n, count) = (chart.size(), stretches.len());
+    let before = (n - tail) as u64;
+    let pair = |&[a, b]: &[usize; 2]| (before + a as u64, (b - a) as u64);
+    let marked = Marked::new(chart, &stretches.iter().map(pair).collect::<Vec<_>>());
+    let mut memory = LessonMemory::of_sizes(exact_sizes(n, count), n, count);
+    let got = lesson(&marked, &mut memory);
+    (got, [memory.mean.bits(), memory.tenths.bits()])
+}
+
+/// Whether the lesson is accepted, as it is where each stretch has a note, and has several.
+fn check_lesson(pair: &Pair, stretches: &[[usize; 2]]) -> bool {
+    let charts = pair.charts.each_ref();
+    let [x, y] = charts.map(|chart| taught(chart, pair.tail, stretches));
+    assert_eq!(x, y, "lesson {stretches:?} in the tail of {pair}");
+    let chart = &pair.charts[0];
+    let in_tail = &chart.kind[chart.size() - pair.tail..];
+    let silent = |&[a, b]: &[usize; 2]| in_tail[a..b].iter().all(|&kind| kind == 2);
+    let first = stretches.iter().position(silent);
+    let want = first.map_or((0, 0), |first| (11, first as u64));
+    assert_eq!((x.0.refusal, x.0.place), want, "{stretches:?} of {chart}");
+    first.is_none() && stretches.len() > 1
+}
+
 /// How often the pairs had something to say; no claim may be an empty one.
 #[derive(Debug, Default)]
 struct Counts {
     landmark: usize,
     settled: usize,
     stretches: usize,
+    // lessons of two stretches or more that are accepted
+    lessons: usize,
     // pairs whose openings tell: hit patterns differ before the first landmark, intervals behind it
     other_openings: usize,
     other_intervals: usize,
@@ -134,6 +173,8 @@ fn check_pair(random: &mut Xorshift, pair: &Pair, counts: &mut Counts) {
             let noted = check_stretch(pair, bounds);
             counts.stretches += usize::from(noted);
         }
+        let lesson = drawn_lesson(random, from, pair.tail);
+        counts.lessons += usize::from(check_lesson(pair, &lesson));
     }
 }
 
@@ -153,6 +194,7 @@ fn charts_agree_from_colour_landmarks_on() {
         let enough = 2 * counts.landmark >= pairs
             && 13 * counts.settled >= pairs
             && 4 * counts.stretches >= pairs
+            && counts.lessons >= pairs
             && 13 * counts.other_openings >= pairs
             && (40 * counts.other_intervals >= pairs || !far);
         assert!(enough, "of {pairs} pairs under {settings:?}: {counts:?}");
