@@ -13,7 +13,7 @@ import random
 import re
 import sys
 
-from library import DEFAULT, GUIDE, ROOT, Chart, Settings, build, colour, encode, open_library, record, rhythm, starts, stretch, taps, turns
+from library import DEFAULT, GUIDE, ROOT, Chart, Settings, build, colour, encode, lesson, open_library, record, rhythm, starts, stretch, taps, turns
 
 # the searches go through every chart of up to ALL objects, and through RANDOM longer ones of up to LONG
 ALL, RANDOM, LONG, SEED = 9, 3000, 60, 1
@@ -133,7 +133,14 @@ def repeated_changes(library):
 
 
 def whole(library):
-    return stretch(library, GUIDE, 0, len(GUIDE.letters))
+    """Mean and tenths of the guide's chart; a lesson tells them, too, beside those of other stretches."""
+    end = len(GUIDE.letters)
+    stretches = [(0, end), (1, end), (2, end - 1)]
+    alone = [stretch(library, GUIDE, a, b) for a, b in stretches]
+    told = lesson(library, GUIDE, stretches)
+    demand(told.values == colour(library, GUIDE), "a lesson on the guide's chart has other values")
+    demand([*zip(told.means, told.tenths)] == alone, "a lesson on the guide's chart has other means or tenths")
+    return alone[0]
 
 
 def with_roll(library):

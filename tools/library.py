@@ -19,6 +19,7 @@ Chart = collections.namedtuple("Chart", "letters deltas ratios")
 Built = collections.namedtuple("Built", "letters starts deltas ratios")
 Encoding = collections.namedtuple("Encoding", "streak streak_place pattern pattern_place hit interval")
 Turns = collections.namedtuple("Turns", "previous next")
+Lesson = collections.namedtuple("Lesson", "values means tenths")
 Rhythm = collections.namedtuple("Rhythm", "group pattern groups pattern_groups")
 Taps = collections.namedtuple("Taps", "pair group groups open")
 
@@ -60,6 +61,7 @@ ANSWERS = {
     "turns": answer("Turned"),
     "colour": answer("Coloured"),
     "stretch": answer("Stretched", ("mean", ctypes.c_double), ("tenths", ctypes.c_int64)),
+    "lesson": answer("Lessoned"),
     "rhythm": answer("Grouped", "groups", "pattern_groups"),
     "record": answer("Recorded", "first_note", "note_count", "has_own", "own_bits", "ratio_bits", "interval_bits",
                      "penalty_bits", "pattern_group", "pattern_ratio_bits"),
@@ -96,7 +98,7 @@ def asked(library, name, letters, *slices):
     """Calls dresserduck_`name` with these slices, which are to be accepted."""
     returned = getattr(library, "dresserduck_" + name)(*slices)
     if returned.refusal:
-        sys.exit(f"{name} refuses {''.join(letters)}: {returned.refusal} at object {returned.place}")
+        sys.exit(f"{name} refuses {''.join(letters)}: {returned.refusal} at {returned.place}")
     return returned
 
 
@@ -150,6 +152,16 @@ def stretch(library, chart, a, b):
     value = lent(ctypes.c_double, [0.0] * len(chart.letters))
     returned = call(library, "stretch", chart, ctypes.c_size_t(a), ctypes.c_size_t(b), *value)
     return returned.mean, returned.tenths
+
+
+def lesson(library, chart, stretches):
+    """The colour value of each object, and mean and tenths of each stretch, a list of each; a stretch is (a, b)."""
+    pairs = [[a for a, _ in stretches], [b - a for a, b in stretches]]
+    filled = [lent(ctypes.c_double, [0.0] * count) for count in (len(chart.letters), len(stretches))]
+    filled.append(lent(ctypes.c_int64, [0] * len(stretches)))
+    marked = [lent(ctypes.c_uint64, numbers) for numbers in pairs]
+    call(library, "lesson", chart, *sum(marked + filled, []))
+    return Lesson(*[list(numbers) for numbers, _ in filled])
 
 
 def rhythm(library, chart, settings=DEFAULT):
