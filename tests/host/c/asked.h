@@ -1,14 +1,15 @@
-/* What the programs about the settings and about turns share: the seven calls on a chart, each of which is asked about what stands in the
- * variables here. N, the most objects of a chart, is defined before this is included. */
+/* What the programs about the settings, turns and lesson share: the eight calls on a chart, each of which is asked about what stands in
+ * the variables here. N, the most objects of a chart, is defined before this is included. */
 #include "lent.h"
 
-/* A chart of n objects, whose deltas are the lowest for taps, with its settings; stretch's ends; record's group and window; and how many
- * places the answer slices and the larger work slice have. */
+/* A chart of n objects, whose deltas are the lowest for taps, with its settings; stretch's ends; lesson's pairs, with room for one more
+ * than it may have; record's group and window; and how many places the slices of n answers and the larger work slice have. */
 static size_t n;
 static uint8_t kind[N];
 static double start[N], delta[N], highest[N], ratio[N];
 static dresserduck_settings settings;
-static size_t from, to, group;
+static size_t from, to, pairs, group;
+static uint64_t offsets[DRESSERDUCK_MOST_PAIRS + 1], lengths[DRESSERDUCK_MOST_PAIRS + 1];
 static double window;
 static size_t places, work_places;
 
@@ -17,7 +18,15 @@ static inline uint8_t kind_of(char letter)
     return letter == 'k' ? DRESSERDUCK_RIM : letter == 'n' ? DRESSERDUCK_NON_HIT : DRESSERDUCK_CENTER;
 }
 
-/* These kinds, d, k or n, in an even rhythm of known deltas, under the default settings. */
+/* One more pair of the lesson. */
+static inline void mark(uint64_t offset, uint64_t length)
+{
+    offsets[pairs] = offset;
+    lengths[pairs] = length;
+    pairs += 1;
+}
+
+/* These kinds, d, k or n, in an even rhythm of known deltas, under the default settings; the lesson marks all of them and the last. */
 static inline void ask_about(const char *letters)
 {
     n = strlen(letters);
@@ -28,8 +37,10 @@ static inline void ask_about(const char *letters)
         ratio[i] = 1.0;
     }
     settings = default_settings;
-    from = group = 0;
+    from = pairs = group = 0;
     to = n;
+    mark(0, n);
+    mark((uint64_t)n - 1, 1);
     window = 1000.0;
     places = PLACES;
     work_places = WORK_PLACES;
@@ -37,6 +48,7 @@ static inline void ask_about(const char *letters)
 
 #define CHART kind, n, start, n, delta, n, ratio, n, settings
 #define TAP_CHART kind, n, start, n, delta, n, highest, n, ratio, n, settings
+#define PAIRS offsets, pairs, lengths, pairs
 #define WORK lent.work, work_places, lent.scratch, PLACES
 
 static inline dresserduck_encoded encode(void)
@@ -62,6 +74,12 @@ static inline dresserduck_stretched stretch(void)
 {
     lend();
     return dresserduck_stretch(CHART, from, to, lent.value, places, WORK);
+}
+
+static inline dresserduck_lessoned lesson(void)
+{
+    lend();
+    return dresserduck_lesson(CHART, PAIRS, lent.value, places, lent.mean, PAIR_PLACES, lent.tenths, PAIR_PLACES, WORK);
 }
 
 static inline dresserduck_grouped rhythm(void)

@@ -30,6 +30,12 @@ static inline double opening_value(double t)
     return mono + alt + hit;
 }
 
+/* The same of an object whose interval is 17. */
+static inline double new_value(void)
+{
+    return opening_value(dresserduck_double(0x3C4210F50A27FC81u));
+}
+
 static inline int finish(void)
 {
     if (failures > 0) {

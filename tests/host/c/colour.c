@@ -12,12 +12,6 @@ static const double start[N] = {0.0, 100.0, 200.0};
 static const double delta[N] = {100.0, 100.0, 100.0};
 static double ratio[N] = {4.0, 1.0, 4.0};
 
-/* of an object whose interval is 17 */
-static double new_value(void)
-{
-    return opening_value(dresserduck_double(0x3C4210F50A27FC81u));
-}
-
 static void check_values(void)
 {
     double value = new_value();

@@ -1,4 +1,4 @@
-/* All eight calls on heap memory of exactly the size that they need, for a tool that watches the heap's bounds. Those on a chart have
+/* All nine calls on heap memory of exactly the size that they need, for a tool that watches the heap's bounds. Those on a chart have
  * the default settings, the narrowest and the widest. Prints `ok`, or each line that fails. */
 #include "dresserduck.h"
 
@@ -17,7 +17,7 @@ struct chart {
 /* At least a byte, so that it isn't null. */
 static void *block(size_t count, size_t size)
 {
-    void *memory = malloc(count * size > 0 ? count * size : 1);
+    void *memory = count * size > 0 ? malloc(count * size) : calloc(1, 1);
     if (memory == NULL) {
         abort();
     }
@@ -86,15 +86,21 @@ static void turn_exactly(const struct chart *c, uint16_t *work, double *scratch)
     free(next);
 }
 
+/* How many objects there are up to the last note. */
+static size_t through_last_note(const struct chart *c)
+{
+    size_t count = c->n;
+    for (; count > 0 && c->kind[count - 1] == DRESSERDUCK_NON_HIT; count--) {}
+    return count;
+}
+
 /* What is refused of the whole chart as a stretch. */
 static uint64_t whole_refusal(const struct chart *c)
 {
-    for (size_t i = 0; i < c->n; i++) {
-        if (c->kind[i] != DRESSERDUCK_NON_HIT) {
-            return DRESSERDUCK_ACCEPTED;
-        }
+    if (c->n == 0) {
+        return DRESSERDUCK_BAD_STRETCH;
     }
-    return c->n == 0 ? DRESSERDUCK_BAD_STRETCH : DRESSERDUCK_NO_NOTE;
+    return through_last_note(c) == 0 ? DRESSERDUCK_NO_NOTE : DRESSERDUCK_ACCEPTED;
 }
 
 static void score_exactly(const struct chart *c, uint16_t *work, double *scratch)
@@ -103,6 +109,37 @@ static void score_exactly(const struct chart *c, uint16_t *work, double *scratch
     CHECK(dresserduck_colour(CHART, value, c->n, work, 8 * c->n, scratch, c->n).refusal == DRESSERDUCK_ACCEPTED);
     CHECK(dresserduck_stretch(CHART, 0, c->n, value, c->n, work, 8 * c->n, scratch, c->n).refusal == whole_refusal(c));
     free(value);
+}
+
+/* Of so many pairs, each marks the chart from one object to its end. */
+static void mark_exactly(const struct chart *c, size_t pairs, uint16_t *work, double *scratch)
+{
+    const size_t noted = through_last_note(c);
+    double *value = (double *)block(c->n, sizeof *value);
+    double *mean = (double *)block(pairs, sizeof *mean);
+    int64_t *tenths = (int64_t *)block(pairs, sizeof *tenths);
+    uint64_t *offset = (uint64_t *)block(pairs, sizeof *offset);
+    uint64_t *length = (uint64_t *)block(pairs, sizeof *length);
+    for (size_t i = 0; i < pairs; i++) {
+        offset[i] = i;
+        length[i] = c->n - i;
+    }
+    dresserduck_lessoned got = dresserduck_lesson(
+        CHART, offset, pairs, length, pairs, value, c->n, mean, pairs, tenths, pairs, work, 8 * c->n, scratch, c->n);
+    CHECK(got.refusal == (noted < pairs ? DRESSERDUCK_NO_NOTE : DRESSERDUCK_ACCEPTED) && got.place == (noted < pairs ? noted : 0));
+    free(value);
+    free(mean);
+    free(tenths);
+    free(offset);
+    free(length);
+}
+
+/* Without a pair, and with as many as there may be. */
+static void teach_exactly(const struct chart *c, uint16_t *work, double *scratch)
+{
+    const size_t most = DRESSERDUCK_MOST_PAIRS;
+    mark_exactly(c, 0, work, scratch);
+    mark_exactly(c, c->n < most ? c->n : most, work, scratch);
 }
 
 static void group_exactly(const struct chart *c, uint16_t *work, double *scratch)
@@ -137,7 +174,7 @@ static void tap_exactly(const struct chart *c, double width, uint16_t *work, dou
     free(group);
 }
 
-/* The seven calls on a chart, under its settings. */
+/* The eight calls on a chart, under its settings. */
 static void ask_exactly(const struct chart *c)
 {
     uint16_t *work = (uint16_t *)block(8 * c->n, sizeof *work);
@@ -145,6 +182,7 @@ static void ask_exactly(const struct chart *c)
     encode_exactly(c, work, scratch);
     turn_exactly(c, work, scratch);
     score_exactly(c, work, scratch);
+    teach_exactly(c, work, scratch);
     group_exactly(c, work, scratch);
     tap_exactly(c, 0.0, work, scratch);
     tap_exactly(c, c->settings.margin + 10.0, work, scratch);

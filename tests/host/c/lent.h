@@ -1,10 +1,11 @@
-/* The memory that a program lends for the N objects that it defines before it includes this: in each slice one place more than
- * needed, and in every byte a sentinel. */
+/* The memory that a program lends for the N objects that it defines before it includes this, and for a pair more than a lesson may have:
+ * in each slice one place more than needed, and in every byte a sentinel. */
 #include "check.h"
 
 #define SENTINEL 0xA5
 #define PLACES (N + 1)
 #define WORK_PLACES (8 * N + 1)
+#define PAIR_PLACES (DRESSERDUCK_MOST_PAIRS + 2)
 
 static struct {
     uint16_t numbers[5][PLACES]; /* encode's, in the order of the call; turns and rhythm fill the first two, taps the first */
@@ -13,6 +14,8 @@ static struct {
     uint8_t built_kind[PLACES];
     double built[3][PLACES]; /* starts, deltas and ratios */
     double value[PLACES];
+    double mean[PAIR_PLACES];
+    int64_t tenths[PAIR_PLACES];
     uint16_t work[WORK_PLACES];
     double scratch[PLACES];
 } lent;

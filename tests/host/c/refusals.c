@@ -29,10 +29,11 @@ static void good_chart(void)
 #define CHART kind, n, start, n, delta, n, ratio, ratios, settings
 #define TAP_CHART kind, n, start, n, delta, n, delta, n, ratio, ratios, settings
 
-/* All seven refuse it, taps with the delta for the lowest and the highest, with this many places to work in. */
+/* All eight refuse it, taps with the delta for the lowest and the highest, with this many places to work in. */
 static void expect(uint64_t refusal, uint64_t place, size_t n, size_t ratios, size_t places)
 {
 #define WORK lent.work, places, lent.scratch, n
+    static const uint64_t offset[1] = {0}, length[1] = {1};
     uint16_t(*numbers)[PLACES] = lent.numbers;
     dresserduck_encoded encoded = dresserduck_encode(CHART, numbers[0], n, numbers[1], n, numbers[2], n, numbers[3], n, numbers[4], n,
         lent.interval, n, WORK);
@@ -43,6 +44,9 @@ static void expect(uint64_t refusal, uint64_t place, size_t n, size_t ratios, si
     CHECK(coloured.refusal == refusal && coloured.place == place);
     dresserduck_stretched stretched = dresserduck_stretch(CHART, 0, 1, lent.value, n, WORK);
     CHECK(stretched.refusal == refusal && stretched.place == place && stretched.mean == 0.0 && stretched.tenths == 0);
+    dresserduck_lessoned lessoned = dresserduck_lesson(
+        CHART, offset, 1, length, 1, lent.value, n, lent.mean, 1, lent.tenths, 1, WORK);
+    CHECK(lessoned.refusal == refusal && lessoned.place == place);
     dresserduck_grouped grouped = dresserduck_rhythm(CHART, numbers[0], n, numbers[1], n, WORK);
     CHECK(grouped.refusal == refusal && grouped.place == place && grouped.groups == 0 && grouped.pattern_groups == 0);
     dresserduck_recorded recorded = dresserduck_record(CHART, 0, 50.0, WORK);
@@ -95,10 +99,31 @@ static void by_the_settings(void)
     CHECK(untouched());
 }
 
+/* Of these four objects the first and the last are notes. */
+static void expect_of_lesson(uint64_t refusal, uint64_t place, const uint64_t *offset, const uint64_t *length, size_t pairs)
+{
+    const size_t n = FEW, ratios = FEW;
+    good_chart();
+    kind[1] = kind[2] = DRESSERDUCK_NON_HIT;
+    dresserduck_lessoned got = dresserduck_lesson(CHART, offset, pairs, length, pairs, lent.value, n, lent.mean, pairs, lent.tenths,
+        pairs, lent.work, 8 * n, lent.scratch, n);
+    CHECK(got.refusal == refusal && got.place == place);
+    CHECK(untouched());
+}
+
+static void by_the_lesson(void)
+{
+    static const uint64_t equal[2] = {1, 1}, rising[2] = {0, 1}, whole[2] = {4, 4}, noteless[2] = {4, 2};
+    expect_of_lesson(DRESSERDUCK_BAD_LESSON, 0, equal, whole, 2);
+    expect_of_lesson(DRESSERDUCK_BAD_STRETCH, 1, rising, whole, 2);
+    expect_of_lesson(DRESSERDUCK_NO_NOTE, 1, rising, noteless, 2);
+}
+
 int main(void)
 {
     by_the_host();
     by_the_chart();
     by_the_settings();
+    by_the_lesson();
     return finish();
 }

@@ -1,4 +1,4 @@
-/* The settings from C and from C++, in the program's own struct and by each of the seven calls on a chart: what is answered under the
+/* The settings from C and from C++, in the program's own struct and by each of the eight calls on a chart: what is answered under the
  * default ones, and what each number changes. Prints `ok`, or each line that fails. */
 #include "dresserduck.h"
 
@@ -89,15 +89,19 @@ static int is_last(double value)
     return lent.value[n - 1] == value && all_sentinels(&lent.value[n], sizeof lent.value - n * sizeof value) && cleared_for(n);
 }
 
-/* colour has this value for the last object, and so does stretch for it alone. */
+/* colour has this value for the last object, and so do stretch and the lesson's second pair for it alone. */
 static void check_last(double value)
 {
+    const int64_t tenths = (int64_t)(10.0 * value + (value < 0.0 ? -0.5 : 0.5));
     dresserduck_coloured coloured = colour();
     CHECK(coloured.refusal == DRESSERDUCK_ACCEPTED && coloured.place == 0 && is_last(value));
     from = n - 1;
     dresserduck_stretched stretched = stretch();
     CHECK(stretched.refusal == DRESSERDUCK_ACCEPTED && stretched.place == 0 && is_last(value));
-    CHECK(stretched.mean == value && stretched.tenths == (int64_t)(10.0 * value + (value < 0.0 ? -0.5 : 0.5)));
+    CHECK(stretched.mean == value && stretched.tenths == tenths);
+    dresserduck_lessoned lessoned = lesson();
+    CHECK(lessoned.refusal == DRESSERDUCK_ACCEPTED && lessoned.place == 0 && is_last(value));
+    CHECK(pairs == 2 && lent.mean[1] == value && lent.tenths[1] == tenths);
 }
 
 /* By T(2), and by T(3) where the limit is 2. */
@@ -119,7 +123,7 @@ static void search_limit_in_values(void)
 /* The last ratio is 1.1 times that of two objects before. */
 static void tolerance_in_values(void)
 {
-    const double value = opening_value(dresserduck_double(0x3C4210F50A27FC81u));
+    const double value = new_value();
     ask_about("ddk");
     ratio[0] = 4.0;
     ratio[2] = 4.4;

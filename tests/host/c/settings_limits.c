@@ -1,4 +1,4 @@
-/* Refusal 16 from C and from C++, by each of the seven calls on a chart: which numbers it is for and which not, -0.0, and its place in the
+/* Refusal 16 from C and from C++, by each of the eight calls on a chart: which numbers it is for and which not, -0.0, and its place in the
  * order of the refusals. Prints `ok`, or each line that fails. */
 #include "dresserduck.h"
 
@@ -27,13 +27,14 @@ KEEPING(encode, dresserduck_encoded)
 KEEPING(turns, dresserduck_turned)
 KEEPING(colour, dresserduck_coloured)
 KEEPING(stretch, dresserduck_stretched)
+KEEPING(lesson, dresserduck_lessoned)
 KEEPING(rhythm, dresserduck_grouped)
 KEEPING(record, dresserduck_recorded)
 KEEPING(taps, dresserduck_tapped)
 
-enum { ENCODE, TURNS, COLOUR, STRETCH, RHYTHM, RECORD, TAPS, CALLS };
+enum { ENCODE, TURNS, COLOUR, STRETCH, LESSON, RHYTHM, RECORD, TAPS, CALLS };
 static void (*const calls[CALLS])(void) = {
-    keep_encode, keep_turns, keep_colour, keep_stretch, keep_rhythm, keep_record, keep_taps};
+    keep_encode, keep_turns, keep_colour, keep_stretch, keep_lesson, keep_rhythm, keep_record, keep_taps};
 
 /* By this call: every other field is 0, and nothing is written. */
 static void expect_of(size_t call, uint64_t refusal)
@@ -199,9 +200,12 @@ static void before_each_calls_own(void)
     for (size_t number = 0; number <= REALS; number++) {
         ask_about("dkkddk");
         to = from;
+        offsets[1] = offsets[0];
+        lengths[0] = 0;
         window = NAN;
         highest[0] = 99.0;
         expect_of(STRETCH, DRESSERDUCK_BAD_STRETCH);
+        expect_of(LESSON, DRESSERDUCK_BAD_LESSON);
         expect_of(RECORD, DRESSERDUCK_BAD_WINDOW);
         expect_of(TAPS, DRESSERDUCK_LOWEST_ABOVE_HIGHEST);
         spoil(number);
