@@ -1,10 +1,13 @@
 //! One chart, all calls: every bit of every answer and of every lent place.
 
+use std::ops::AddAssign;
+
 use host_tests::chart::Chart;
 use host_tests::lent::{exact_four, exact_sizes, Lent, TwoNumbers};
 use host_tests::samples::{known_about, Xorshift};
 use host_tests::{colour, encode, plain_colour, plain_tenths, rhythm, taps, turns, Encoded};
 
+use crate::lessons::compare_lesson;
 use crate::original::Original;
 
 #[track_caller]
@@ -124,12 +127,29 @@ fn compare_record(chart: &Chart, original: &Original, group: usize, window: f64)
     assert_eq!(memory.bits(), cleared.bits(), "record {group} of {chart}");
 }
 
-/// How many objects all calls together were asked about, how many stretches had no note, and how many charts of ranges had their groups
-/// given.
+/// What was asked.
+#[derive(Default)]
 pub struct Asked {
+    /// how many objects all calls together were asked about
     pub objects: usize,
+    /// how many stretches had no note
     pub noteless: usize,
+    /// how many charts of ranges had their groups given
     pub grouped: usize,
+    /// how many pairs all lessons together had
+    pub pairs: usize,
+    /// how many lessons had a pair without a note
+    pub noteless_lessons: usize,
+}
+
+impl AddAssign for Asked {
+    fn add_assign(&mut self, other: Asked) {
+        self.objects += other.objects;
+        self.noteless += other.noteless;
+        self.grouped += other.grouped;
+        self.pairs += other.pairs;
+        self.noteless_lessons += other.noteless_lessons;
+    }
 }
 
 /// A difference panics.
@@ -140,7 +160,8 @@ pub fn compare(chart: &Chart, original: &Original, random: &mut Xorshift) -> Ask
     let values = compare_colour(chart, original, spare);
     compare_rhythm(chart, original, spare);
     let grouped = usize::from(compare_taps(chart, original, random));
-    let (mut calls, mut noteless) = (5, 0);
+    let lesson = compare_lesson(chart, &values, random);
+    let (mut calls, mut noteless) = (5 + lesson.calls, 0);
     if n > 0 {
         let a = random.below(n);
         let b = a + 1 + random.below(n - a);
@@ -162,5 +183,7 @@ pub fn compare(chart: &Chart, original: &Original, random: &mut Xorshift) -> Ask
         objects: calls * n,
         noteless,
         grouped,
+        pairs: lesson.pairs,
+        noteless_lessons: usize::from(lesson.noteless),
     }
 }

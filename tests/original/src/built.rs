@@ -16,8 +16,7 @@ pub fn compare_built(raw: &Raw, random: &mut Xorshift) -> Asked {
         refused(raw, sizes, number, place);
         return Asked {
             objects: n,
-            noteless: 0,
-            grouped: 0,
+            ..Asked::default()
         };
     }
     let original = Original::built(raw);

@@ -2,4 +2,5 @@
 
 pub mod answers;
 pub mod built;
+pub mod lessons;
 pub mod original;

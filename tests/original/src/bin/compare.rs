@@ -46,18 +46,23 @@ fn argument(place: usize, name: &str) -> u64 {
 fn main() {
     let (seed, wanted) = (argument(1, "SEED"), argument(2, "OBJECTS"));
     let mut random = Xorshift::new(seed);
-    let (mut charts, mut built, mut objects, mut noteless, mut grouped) = (0, 0, 0, 0, 0);
-    while objects < wanted {
+    let (mut charts, mut built, mut all) = (0, 0, Asked::default());
+    while (all.objects as u64) < wanted {
         let raw = random.once_in(3);
-        let asked = asked(&mut random, raw);
-        objects += asked.objects as u64;
-        noteless += asked.noteless;
-        grouped += asked.grouped;
+        all += asked(&mut random, raw);
         charts += 1;
         built += u64::from(raw);
     }
+    let Asked {
+        objects,
+        noteless,
+        grouped,
+        pairs,
+        noteless_lessons,
+    } = all;
     println!(
         "seed {seed}: {charts} charts, {built} of them built of raw objects, {objects} objects over all calls, {noteless} \
-         stretches without a note, {grouped} charts of ranges with groups, no difference"
+         stretches without a note, {grouped} charts of ranges with groups, lessons of {pairs} pairs together, \
+         {noteless_lessons} lessons with a pair without a note, no difference"
     );
 }
