@@ -2,5 +2,7 @@
 
 pub mod answers;
 pub mod built;
+pub mod lesson_times;
 pub mod lessons;
 pub mod original;
+pub mod timing;

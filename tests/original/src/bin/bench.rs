@@ -1,12 +1,13 @@
-//! How many times as fast as the original the library is, on the same charts in one run.
+//! How many times as fast as the original the library is, and what a lesson saves, on the same charts in one run.
 
 use std::array;
 use std::hint::black_box;
-use std::time::Instant;
 
 use dresserduck::{
     BuiltChart, Chart, Encoding, RawChart, Refusal, Rhythm, Settings, Turns, Workspace,
 };
+use original_tests::lesson_times::lesson_ratios;
+use original_tests::timing::medians;
 
 const SIZES: [usize; 3] = [100, 1_000, 16_384];
 const CALLS: [&str; 5] = ["encode", "turns", "colour", "rhythm", "record"];
@@ -87,27 +88,6 @@ fn charts_and_most_hits(n: usize) -> Sets {
     let mut charts = charts(n);
     charts.push(("streaks of 1 to 3", vec![streaks_up_to(3, n)]));
     charts
-}
-
-/// One run's time in nanoseconds; it repeats the work so that it takes a while.
-fn timed(work: &mut dyn FnMut(), times: u32) -> f64 {
-    let start = Instant::now();
-    (0..times).for_each(|_| work());
-    start.elapsed().as_nanos() as f64 / f64::from(times)
-}
-
-fn median(mut runs: Vec<f64>) -> f64 {
-    runs.sort_by(f64::total_cmp);
-    runs[runs.len() / 2]
-}
-
-/// The medians of some runs of either, in turn, so that what else the machine does falls on both.
-fn medians(one: &mut dyn FnMut(), other: &mut dyn FnMut()) -> [f64; 2] {
-    let times = |work: &mut dyn FnMut()| (1e6 / timed(work, 1)).clamp(1.0, 10_000.0) as u32;
-    let counts = [times(one), times(other)];
-    let run = |_| [timed(one, counts[0]), timed(other, counts[1])];
-    let runs: Vec<[f64; 2]> = (0..21).map(run).collect();
-    [0, 1].map(|k| median(runs.iter().map(|pair| pair[k]).collect()))
 }
 
 /// A chart of the original's, its groups, and the number of the last one.
@@ -345,4 +325,12 @@ fn main() {
     print_growth();
     let title = "The library's time under a search limit of 64 over that under 16";
     print_by_size(title, LIMITED, charts_and_most_hits, limit_ratios);
+    let title = "One lesson of 32 pairs, beside a stretch for each and one colour";
+    let columns = [
+        "times as fast as 32 stretches",
+        "time in percent of colour's",
+    ];
+    print_by_size(title, columns, charts, |set| {
+        lesson_ratios(&set.iter().map(Lists::chart).collect::<Vec<_>>())
+    });
 }
