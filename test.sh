@@ -37,7 +37,7 @@ tests/grouping/memory.sh
 tests/host/run.sh
 (cd bindings/rust && cargo test --release --offline --quiet)
 tests/examples/run.sh
-tests/original/run.sh compare 7 300000
+tests/original/run.sh compare 7 500000
 (cd tests/letters && cargo test --release --offline --quiet)
 tests/letters/run.sh
 tests/replay/run.sh

@@ -133,14 +133,18 @@ def repeated_changes(library):
 
 
 def whole(library):
-    """Mean and tenths of the guide's chart; a lesson tells them, too, beside those of other stretches."""
-    end = len(GUIDE.letters)
-    stretches = [(0, end), (1, end), (2, end - 1)]
-    alone = [stretch(library, GUIDE, a, b) for a, b in stretches]
+    """Mean and tenths of the guide's chart."""
+    return stretch(library, GUIDE, 0, len(GUIDE.letters))
+
+
+def in_a_lesson(library):
+    """The offset and the length of the guide's two pairs, and the tenths that a lesson of both tells of each."""
+    stretches = [(0, GUIDE.letters.index("n") + 3), (GUIDE.letters.index("n"), 15)]
     told = lesson(library, GUIDE, stretches)
     demand(told.values == colour(library, GUIDE), "a lesson on the guide's chart has other values")
+    alone = [stretch(library, GUIDE, a, b) for a, b in stretches]
     demand([*zip(told.means, told.tenths)] == alone, "a lesson on the guide's chart has other means or tenths")
-    return alone[0]
+    return [number for a, b in stretches for number in (a, b - a)] + told.tenths
 
 
 def with_roll(library):
@@ -281,6 +285,7 @@ FIGURES = [
     ("docs/GUIDE.md", "the note after it is note {}, the `d` at 11", behind(8)),
     ("docs/GUIDE.md", "the `kk` at 6 and 7 has note {} after it, the `k` at 9", behind(6)),
     ("docs/GUIDE.md", "The whole chart has mean {:.3f} and tenths {}", whole),
+    ("docs/GUIDE.md", "The pairs {} and {}, {} and {}, asked about together, have the tenths {} and {}", in_a_lesson),
     ("docs/GUIDE.md", "a value of its own, {:.2f}, but is no note: with it the mean would be {:.3f}", with_roll),
     ("docs/GUIDE.md", "lowers the sum to {:.2f}", at(13)),
     ("docs/GUIDE.md", "lowers it to {:.2f}", at(14)),
