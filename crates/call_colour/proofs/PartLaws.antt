@@ -1,9 +1,7 @@
 -- The objects of a stretch and their values: as many of both, of known kinds, and few.
-use mathlib.Core.Path.{◌≡◌}
 use mathlib.Core.List.{List}
-use Prim.Native.Nat.{ℕ, ◌+◌, ◌≤◌, ◌<◌}
+use Prim.Native.Nat.{ℕ, ◌+◌, ◌<◌}
 use native.Mathlib.Omega.{arith}
-use lib.ListN.{get_or}
 use lib.Ieee.{Float}
 use Rattle.lent.specs.Over.{part}
 use Rattle.lent.proofs.OverLaws.{length-part, get_or-part}

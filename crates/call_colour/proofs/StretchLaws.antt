@@ -5,7 +5,7 @@ use Prim.Native.Nat.{ℕ, ◌+◌, ◌-◌, ◌≤◌}
 use native.Mathlib.Omega.{arith}
 use lib.ListN.{length}
 use lib.Ieee.{Float, nan}
-use Rattle.numeric.specs.Tenths.{InTenthsRange}
+use Rattle.numeric.specs.Tenths.{InTenthsRange, tenths_of}
 use Rattle.lent.specs.Over.{over}
 use Rattle.lent.proofs.PieceLaws.{get_or-over}
 use Rattle.lent.proofs.OverLaws.{length-over, part-alike}
@@ -16,7 +16,7 @@ use Rattle.grouping_interval.specs.Notes.{of_notes}
 use Rattle.evaluator_values.specs.Colour.{values_of}
 use Rattle.grouping_chart.proofs.AcceptedLaws.{accepted_good}
 use Rattle.evaluator_values.proofs.StandingLaws.{length-values}
-use Rattle.call_colour.specs.Stretch.{from_to, GoodStretch, stretch_values, average_of, chart_mean}
+use Rattle.call_colour.specs.Stretch.{from_to, GoodStretch, stretch_values, average_of, chart_mean, chart_tenths}
 use Rattle.call_colour.specs.Call.{Memory, judged, filled}
 use Rattle.call_colour.specs.passes.Rooms.{StretchRoom}
 use Rattle.call_colour.proofs.CallLaws.{chart_room}
@@ -68,6 +68,10 @@ module _ {s : Settings} {c : Chart} {m : Memory} {a b : ℕ} {new : Memory} (x :
   pub mean_is : {mean : Float} → mean ≡ averaged → mean ≡ chart_mean s c a b
   unfolding chart_mean stretch_values
   mean_is h = h ∙ ap (λ (all : List Float). average_of (of_notes (from_to a b c.kinds) all)) values_there
+
+  pub tenths_is : {mean : Float} → mean ≡ averaged → tenths_of mean ≡ chart_tenths s c a b
+  unfolding chart_tenths
+  tenths_is h = ap tenths_of (mean_is h)
 
   pub mean_in_range : {mean : Float} → mean ≡ averaged → InTenthsRange mean
   mean_in_range h = rw (mean_is h) (mean-tenths s c _ x.taken a b x.good)

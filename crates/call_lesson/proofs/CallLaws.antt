@@ -3,10 +3,9 @@
 use mathlib.Core.Path.{◌≡◌, refl, sym, ap, ◌∙◌}
 use mathlib.Core.Bool.{false, ◌||◌}
 use mathlib.Core.List.{List, [], ◌∷◌}
-use Prim.Native.Nat.{ℕ, ◌+◌, ◌≤◌, ◌<◌}
-use native.Mathlib.Omega.{arith}
+use Prim.Native.Nat.{ℕ, ◌≤◌}
 use borrow.Author.Tests.{le-ltb}
-use lib.ListN.{length, get_or}
+use lib.ListN.{length}
 use Rattle.std.specs.Prelude.{Ok}
 use Rattle.std.proofs.lemmas.Bool.{or_parts}
 use Rattle.grouping_chart.specs.Chart.{Chart, size}
@@ -17,12 +16,9 @@ use Rattle.grouping_chart.specs.Refusal.{Check, Verdict, accepted, and_then, ver
 use Rattle.grouping_chart.proofs.AcceptedLaws.{accepted_good, good_accepted, both_passed}
 use Rattle.grouping_chart.proofs.OutcomeLaws.{neither-refused, answered-done, accommodated}
 use Rattle.grouping_chart.proofs.RoomLaws.{joined, short_joined, roomy, room_passed, all_long}
-use Rattle.call_colour.specs.Stretch.{GoodStretch}
 use Rattle.call_colour.specs.Call as colour
 use Rattle.call_lesson.specs.Lesson.{Stretches, pair_count, pairs, count_refusal, set_refusal, first_pair_refused, lesson_verdict}
 use Rattle.call_lesson.specs.Call.{Memory, beside, judged, filled, lesson_outcome}
-use Rattle.call_lesson.specs.passes.Rooms.{Paired}
-use Rattle.call_lesson.proofs.PairLaws.{length-pairs, get_or-pairs}
 use Rattle.call_lesson.proofs.VerdictLaws.{set_good, counted, count_good, pairs-last, LessonLies, none_lies, lies_none}
 
 -- an accepted lesson

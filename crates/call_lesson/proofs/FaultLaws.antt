@@ -1,6 +1,6 @@
 -- A lesson that is refused for a pair: the place is that of the first pair whose stretch is refused, and the reason is that stretch's. The call stretch refuses
 -- it so too, and none of those before it.
-use mathlib.Core.Path.{◌≡◌, refl, sym}
+use mathlib.Core.Path.{◌≡◌, refl}
 use mathlib.Core.List.{List, [], ◌∷◌}
 use Prim.Native.Nat.{ℕ, zero, suc, ◌+◌, ◌<◌}
 use native.Mathlib.Omega.{arith}
@@ -12,9 +12,9 @@ use Rattle.grouping_chart.specs.Settings.{Settings}
 use Rattle.grouping_chart.specs.Refusal.{Check, passed, Verdict, accepted, refused_or, at_0}
 use Rattle.grouping_chart.specs.declared.refusal.Reason.{Reason}
 use Rattle.grouping_chart.specs.declared.refusal.Refusal.{Refusal}
-use Rattle.grouping_chart.proofs.OutcomeLaws.{then-refused, answered-refused}
 use Rattle.call_colour.specs.Call as colour
 use Rattle.call_colour.specs.Call.{stretch_outcome}
+use Rattle.call_colour.proofs.AnswerLaws.{stretch-refused}
 use Rattle.call_lesson.specs.Lesson.{Pair, pair_end, pair_refusal, first_pair_refused}
 
 -- pair i is the first whose stretch is refused, and this is why
@@ -62,5 +62,4 @@ module _ (kinds : List ℕ) where
 pub faulty_stretch : (s : Settings) (c : Chart) (m : colour.Memory) → colour.judged s c m ≡ accepted → {ps : List Pair} {i : ℕ} {why : Reason}
     → FirstFaulty c.kinds ps i why → (d : Pair)
     → stretch_outcome s c (get_or ps i d).0 (pair_end (get_or ps i d)) m ≡ outcome (Err (at_0 why)) m
-unfolding stretch_outcome
-faulty_stretch s c m taken x d = sym (answered-refused _ _ m (then-refused _ taken (x.refused d)) refl)
+faulty_stretch s c m taken x d = stretch-refused s c m taken _ _ (x.refused d)

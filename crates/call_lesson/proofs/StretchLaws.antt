@@ -6,16 +6,15 @@ use native.Mathlib.Omega.{arith}
 use lib.ListN.{get_or}
 use lib.IntN.{ℤ, pos}
 use lib.Ieee.{Float, nan}
-use Rattle.numeric.specs.Tenths.{tenths_of}
 use Rattle.lent.specs.Over.{over}
 use Rattle.grouping_chart.specs.Chart.{Chart}
 use Rattle.grouping_chart.specs.Settings.{Settings}
 use Rattle.grouping_interval.specs.Notes.{of_notes}
-use Rattle.call_colour.specs.Stretch.{from_to, average_of, chart_tenths}
+use Rattle.call_colour.specs.Stretch.{from_to, average_of}
 use Rattle.call_colour.specs.Call as colour
 use Rattle.call_colour.specs.passes.Rooms.{StretchRoom}
 use Rattle.call_colour.proofs.StretchCases.{from_to-sum}
-use Rattle.call_colour.proofs.StretchLaws.{Stretched, stretch_room, mean_is, mean_in_range}
+use Rattle.call_colour.proofs.StretchLaws.{Stretched, stretch_room, mean_is, tenths_is, mean_in_range}
 use Rattle.call_lesson.specs.Lesson.{Stretches, pair_count, pairs, pair_mean, pair_tenths}
 use Rattle.call_lesson.specs.Call.{Memory, filled}
 use Rattle.call_lesson.specs.passes.Rooms.{PairsRoom, pair_at, mean_in, tenths_in}
@@ -45,8 +44,7 @@ module _ {s : Settings} {c : Chart} {l : Stretches} {m : Memory} {new : colour.M
     mean_there = mean_is stretched by_ends
 
     tenths_there : tenths_in c.kinds new.value (pair_at l i) ≡ pair_tenths s c (pair_at l i)
-    unfolding chart_tenths
-    tenths_there = ap tenths_of mean_there
+    tenths_there = tenths_is stretched by_ends
 
   pub pairs_room : PairsRoom c.kinds new.value l m.mean m.tenths
   pairs_room = record {

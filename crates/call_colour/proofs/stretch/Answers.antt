@@ -1,15 +1,13 @@
 -- `stretch` meets its contract: the verdict of the definition is the one that the tests gave, each case leaves its outcome, and the mean of an accepted
 -- stretch is small enough for its tenths.
-use Rattle.std.proofs.Common.{sym, ap, ◌∙◌, arith, rules}
+use Rattle.std.proofs.Common.{sym, ◌∙◌, arith, rules}
 use mir.Facts.{to_z-of_z}
 use mir.Syntax.{w64}
-use Rattle.numeric.specs.Tenths.{tenths_of}
 use Rattle.grouping_chart.specs.Lent.{seen}
 use Rattle.grouping_chart.proofs.OutcomeLaws.{judged-told, chart-refused, then-refused, answered-refused}
-use Rattle.call_colour.specs.Stretch.{chart_tenths}
 use Rattle.call_colour.specs.Call.{memory, stretch_outcome}
 use Rattle.call_colour.proofs.CallLaws.{chart_room, stretch-done}
-use Rattle.call_colour.proofs.StretchLaws.{Stretched, stretch_room, mean_is, mean_in_range}
+use Rattle.call_colour.proofs.StretchLaws.{Stretched, stretch_room, mean_is, tenths_is, mean_in_range}
 use Rattle.call_colour.proofs.StretchCases.{good_lies}
 use Rattle.call_colour.proofs.stretch.Goals.{After-fill_chart}
 use Rattle.call_colour.proofs.stretch.Goals as goal
@@ -49,9 +47,8 @@ pub tenths-requires : goal.tenths-requires
 tenths-requires c = mean_in_range (stretched (goal.at.tenths-requires c).After-fill_chart) c.mean-mean.ensures
 
 pub returns : goal.returns
-unfolding chart_tenths
 returns c =
     let x = stretched (goal.at.returns c).After-fill_chart in
     let mean = mean_is x c.mean-mean.ensures in
-    let tenths = to_z-of_z {w = w64} (record { sfits = c.tenths.type_inv }) ∙ c.tenths.ensures ∙ ap tenths_of mean in
+    let tenths = to_z-of_z {w = w64} (record { sfits = c.tenths.type_inv }) ∙ c.tenths.ensures ∙ tenths_is x c.mean-mean.ensures in
     stretch-done _ _ _ x.taken x.made _ _ x.good mean tenths

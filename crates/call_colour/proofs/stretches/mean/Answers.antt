@@ -1,6 +1,4 @@
 -- `mean` has what `average` asks: the objects of the stretch are as many as their values, and their kinds are known.
-use Rattle.std.proofs.Common.{arith, ap, ◌∙◌, sym}
-use lib.ListN.{length}
 use Rattle.call_colour.proofs.PartLaws.{part_room}
 use Rattle.call_colour.proofs.stretches.mean.Goals as goal
 

@@ -1,6 +1,6 @@
 -- Each test that refuses is the definition's; where all pass, the notes decide.
-use Rattle.std.proofs.Common.{arith, ap, ◌∙◌, ◌≡◌, sym, ◌+◌, ◌<◌, ◌≤◌, length}
-use Rattle.call_colour.specs.Stretch.{has_note, from_to}
+use Rattle.std.proofs.Common.{arith, ap, ◌∙◌, sym, ◌+◌, ◌<◌, ◌≤◌, length}
+use Rattle.call_colour.specs.Stretch.{has_note}
 use Rattle.call_colour.proofs.StretchCases.{none_refused, past_refused, noteless_refused, lies_good, from_to-sum}
 use Rattle.call_colour.proofs.stretches.stretch_refusal.Goals as goal
 
