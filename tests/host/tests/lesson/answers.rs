@@ -96,7 +96,7 @@ fn from_none_to_the_most_pairs_are_answered() {
     for n in [32, 33, 64, 200, LARGEST_CHART] {
         let chart = repeated("dkkdd", n);
         for count in [0, 1, 2, 16, 31, 32] {
-            // one object each; each over the next two; up to the end; all that begin farther back than so many objects
+            // one object each; each over the next two, where there is room; each up to the end; the last objects
             let to_end = (0..count as u64).map(|offset| (offset, n as u64 - offset));
             let last = (n - count..n).map(|offset| (offset as u64, 1));
             let (single, over) = (
