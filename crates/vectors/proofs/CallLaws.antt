@@ -2,7 +2,7 @@
 use Rattle.std.proofs.Common.{◌≡◌, ◌∙◌, sym, ap, refl, true, false, Option, Some, None, eq-eqb, ne_eqb}
 use Rattle.vectors.specs.Call.{call_number, call_of, is_call}
 use Rattle.vectors.specs.declared.call.Call.{Call}
-use Rattle.vectors.specs.declared.call.Call.TheVariants.{Encode, Colour, Stretch, Rhythm, Record, Build, Turns}
+use Rattle.vectors.specs.declared.call.Call.TheVariants.{Encode, Colour, Stretch, Rhythm, Record, Build, Turns, Lesson}
 
 -- the number of a call gives the call back
 pub call_of-call_number : (call : Call) → call_of (call_number call) ≡ Some call
@@ -13,6 +13,7 @@ call_of-call_number Rhythm = refl
 call_of-call_number Record = refl
 call_of-call_number Build = refl
 call_of-call_number Turns = refl
+call_of-call_number Lesson = refl
 
 pub asked : (own : Option Call) (call : Call) → own ≡ Some call → is_call own call ≡ true
 unfolding is_call

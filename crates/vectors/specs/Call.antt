@@ -1,7 +1,7 @@
 -- The calls whose answers are stored, and their numbers.
 use Rattle.std.specs.Prelude.{◌≡◌, ℕ, Bool, false, ◌==◌, if◌then◌else◌, Option, Some, None, Result, Ok, Err}
 use Rattle.vectors.specs.declared.call.Call.{Call}
-use Rattle.vectors.specs.declared.call.Call.TheVariants.{Encode, Colour, Stretch, Rhythm, Record, Build, Turns}
+use Rattle.vectors.specs.declared.call.Call.TheVariants.{Encode, Colour, Stretch, Rhythm, Record, Build, Turns, Lesson}
 use Rattle.vectors.specs.declared.call.UnknownCall.{UnknownCall}
 
 -- the number that stands for a call in a stored case
@@ -13,6 +13,7 @@ call_number Rhythm = 4
 call_number Record = 5
 call_number Build = 6
 call_number Turns = 7
+call_number Lesson = 8
 
 -- the call that a number stands for, if there is one
 abbrev pub call_of : ℕ → Option Call
@@ -23,7 +24,8 @@ call_of number =
     (if number == 4 then Some Rhythm else
     (if number == 5 then Some Record else
     (if number == 6 then Some Build else
-    (if number == 7 then Some Turns else None))))))
+    (if number == 7 then Some Turns else
+    (if number == 8 then Some Lesson else None)))))))
 
 -- a number gives the call that it stands for, or itself where it stands for none
 abbrev pub Named : ℕ → Result Call UnknownCall → Type 0

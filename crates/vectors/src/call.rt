@@ -11,6 +11,7 @@ pub enum Call {
     Record,
     Build,
     Turns,
+    Lesson,
 }
 
 // A number that names no call.
@@ -33,6 +34,7 @@ impl TryFrom<u8> for Call {
             5 => Ok(Call::Record),
             6 => Ok(Call::Build),
             7 => Ok(Call::Turns),
+            8 => Ok(Call::Lesson),
             _ => Err(UnknownCall(number)),
         }
     }

@@ -1,6 +1,6 @@
 // A column of a stored case, which contracts see as the list of its values.
 ghost use Rattle.std.specs.Prelude.{◌≡◌, ◌+◌, ◌*◌, ◌^◌, ◌<◌, ◌≤◌, replicate, slice_get, length};
-ghost use Rattle.lent.specs.Over.{part};
+ghost use Rattle.lent.specs.Over.{over, part};
 ghost use Rattle.vectors.specs.Case.{column, words};
 
 use crate::case;
@@ -125,5 +125,13 @@ impl<'a> Column<'a> {
             Width::Two => u64::from(case::pair_at(self.bytes, self.at + 2 * i)),
             Width::Eight => case::word_at(self.bytes, self.at + 8 * i),
         })
+    }
+
+    // Reads the values into a slice.
+    pub fn read(&self, out: &mut [u64])
+        requires { length self.now ≤ length out.old }
+        ensures { out.new ≡ over self.now out.old }
+    {
+        lent::fill::by_place(self.count(), out, |i| self.get(i).unwrap_or(0));
     }
 }

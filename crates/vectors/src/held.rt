@@ -3,12 +3,14 @@
 ghost use Rattle.std.specs.Prelude.{◌≡◌, List, ℕ, map, refl};
 ghost use Rattle.std.specs.Float.Ieee as Ieee;
 ghost use Rattle.std.specs.Float.{binary64};
+ghost use Rattle.std.specs.Int.{w64, cast_unsigned};
 ghost use Rattle.std.proofs.lemmas.List.{map-id};
 ghost use Rattle.vectors.specs.Held.{Tells, FrontHeld};
 
 use crate::column::Column;
 
-// What a place of a slice holds: the number that it is compared by, which of a float is its bits.
+// What a place of a slice holds: the number that it is compared by, which of a float or a number with a sign is its
+// bits.
 // u8 and u16 have an impl each: one over `Into<u64>` would be no plainer, with f64 to be kept out of it.
 pub trait Place: Copy {
     ghost bits_of: { Self → ℕ };
@@ -54,6 +56,18 @@ impl Place for f64 {
 
     fn bits(&self) -> u64 {
         numeric::canonical::bits(*self)
+    }
+}
+
+impl Place for i64 {
+    ghost bits_of = { cast_unsigned w64 };
+
+    ghost all_bits = { map (cast_unsigned w64) };
+
+    ghost each_place = { λ xs. refl };
+
+    fn bits(&self) -> u64 {
+        self.cast_unsigned()
     }
 }
 
