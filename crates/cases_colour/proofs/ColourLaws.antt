@@ -1,32 +1,30 @@
 -- What the call that is asked hands back on the lent slices is what its definition gives on slices full of sentinels;
 -- and each of its parts is held to the case.
-use mathlib.Core.Path.{◌≡◌, refl, ap, ◌∙◌}
+use mathlib.Core.Path.{◌≡◌, refl, ap}
 use mathlib.Core.List.{List}
 use Rattle.std.specs.Prelude.{Some, Result, Ok, Err, is_ok}
 use mathlib.Core.Bool.{Bool}
-use Prim.Native.Nat.{ℕ, ◌+◌, ◌-◌, ◌*◌}
-use lib.ListN.{take, drop, replicate}
-use lib.Ieee.{Float, binary64, of_bits}
+use Prim.Native.Nat.{ℕ, ◌+◌, ◌*◌}
+use lib.ListN.{take, replicate}
+use lib.Ieee.{Float}
 use Rattle.lent.specs.Over.{over}
-use Rattle.lent.proofs.OverLaws.{lent-part}
 use Rattle.lent.proofs.NeverLaws.{never}
-use Rattle.grouping_chart.specs.Chart.{Chart, largest}
+use Rattle.grouping_chart.specs.Chart.{Chart}
 use Rattle.grouping_chart.specs.Outcome.{Outcome}
 use Rattle.grouping_chart.specs.Settings.{base_settings}
 use Rattle.grouping_chart.specs.declared.refusal.Refusal.{Refusal}
 use Rattle.call_colour.specs.Call.{Memory, colour_outcome, stretch_outcome}
 use Rattle.call_colour.specs.declared.StretchMean.{StretchMean}
-use Rattle.vectors.specs.Case.{pair_at, column, words}
+use Rattle.vectors.specs.Case.{pair_at, words}
 use Rattle.vectors.specs.Held.{Tells}
-use Rattle.vectors.specs.Table.{entries}
 use Rattle.vectors.specs.declared.call.Call.TheVariants.{Colour as ColourCall, Stretch}
 use Rattle.vectors.specs.declared.case.Head.{Head}
 use Rattle.vectors.specs.Sentinel.{number_sentinel, float_sentinel}
 use Rattle.vectors.specs.passes.Room.{most_places, most_work, Few}
 use Rattle.vectors.proofs.TableLaws.{entries_front}
 use Rattle.vectors.proofs.TellsLaws.{denied, granted, tells_of}
-use Rattle.vectors.proofs.SentinelLaws.{code_one, ones_lent, work-lent, floats-lent}
-use Rattle.cases_colour.specs.Colour.{colour_chart, colour_lent, MeanIs, Answers, leaves, CallStored}
+use Rattle.vectors.proofs.SentinelLaws.{work-lent, floats-lent}
+use Rattle.cases_colour.specs.Colour.{stored_ratios, colour_lent, MeanIs, Answers, leaves, CallStored}
 use Rattle.cases_colour.specs.Colour.{ColourForm, ColourHolds, StretchHolds}
 use Rattle.cases_colour.specs.passes.Told.{CallTold}
 use Rattle.cases_colour.specs.declared.StoredStretch.{StoredStretch}
@@ -54,40 +52,29 @@ module _ {call : Asked} {c : Chart} {m : Memory} {r : Bool} where
       let told = tells_of (λ (x : Outcome (Result StretchMean Refusal) Memory). MeanIs s x.answer) e t in
       rw a (record { told = told; memory = ap (λ (x : Outcome (Result StretchMean Refusal) Memory). x.memory) e })
 
--- ---- the chart and the slices, as fronts of what the code makes
+-- ---- the ratios and the slices, as fronts of what the code makes
 
--- the table's floats, read over zeros
-abbrev read_ratios : ℕ → ℕ → ℕ → List ℕ → List Float
-read_ratios size width n body =
-    over (entries (words body (2 + n + size + 8 * n) (pair_at body 0)) (column body (2 + n) width n)) (replicate largest (of_bits binary64 0))
+-- the ratios that were read stand in front
+pub ratios_front : (size width n : ℕ) (body : List ℕ) (old : List Float) → take n (over (stored_ratios size width n body) old) ≡ stored_ratios size width n body
+unfolding stored_ratios
+ratios_front size width n body old = entries_front body (2 + n) n old (words body (2 + n + size + 8 * n) (pair_at body 0)) width
 
-abbrev made_chart : ℕ → List ℕ → List Float → Chart
-made_chart n body ratios =
-    let ones : List Float = take n (replicate largest code_one) in
-    record { kinds = take (2 + n - 2) (drop 2 body); starts = ones; deltas = ones; ratios = take n ratios }
-
-abbrev made_memory : ℕ → ℕ → Memory
+abbrev pub made_memory : ℕ → ℕ → Memory
 made_memory n spare = record {
   value = take (n + spare) (replicate most_places float_sentinel);
   work = take (8 * n + spare) (replicate most_work number_sentinel);
   scratch = take (n + spare) (replicate most_places float_sentinel);
 }
 
-module _ {n spare : ℕ} (few : Few n spare) (size width : ℕ) (body : List ℕ) {ratios : List Float} (e : ratios ≡ read_ratios size width n body) where
-  chart_is : made_chart n body ratios ≡ colour_chart size width n body
-  unfolding colour_chart
-  chart_is =
-      let read : take n ratios ≡ entries (words body (2 + n + size + 8 * n) (pair_at body 0)) (column body (2 + n) width n) =
-      ap (take n) e ∙ entries_front body (2 + n) n _ _ width in
-      rw (lent-part 2 n body, ones_lent few, read)
-
-  memory_is : made_memory n spare ≡ colour_lent n spare
+module _ {n spare : ℕ} (few : Few n spare) where
+  pub memory_is : made_memory n spare ≡ colour_lent n spare
   unfolding colour_lent
   memory_is = rw (floats-lent few, work-lent few)
 
-  pub made_told : {call : Asked} {r : Bool} → Tells r (CallStored call size n body (made_chart n body ratios) (made_memory n spare))
-      → Tells r (CallStored call size n body (colour_chart size width n body) (colour_lent n spare))
-  made_told {call} t = tells_of (λ (p : Chart × Memory). CallStored call size n body p.0 p.1) (λ i. (chart_is i, memory_is i)) t
+  pub made_told : (size : ℕ) (body : List ℕ) {call : Asked} {r : Bool} {made chart : Chart} → made ≡ chart
+      → Tells r (CallStored call size n body made (made_memory n spare))
+      → Tells r (CallStored call size n body chart (colour_lent n spare))
+  made_told size body {call} e t = tells_of (λ (p : Chart × Memory). CallStored call size n body p.0 p.1) (λ i. (e i, memory_is i)) t
 
 -- ---- the cases
 

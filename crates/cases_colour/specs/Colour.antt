@@ -1,6 +1,6 @@
 -- When a stored case of colour, or of a stretch of its chart, holds: on the chart that its bytes say and slices
 -- full of sentinels the call's definition gives the original's answer.
-use Rattle.std.specs.Prelude.{◌≡◌, cond, List, map, ℕ, ◌+◌, ◌-◌, ◌*◌, ltb, ℤ, pos, neg_ℤ, length, replicate}
+use Rattle.std.specs.Prelude.{◌≡◌, cond, List, map, ℕ, ◌+◌, ◌-◌, ◌*◌, ltb, ℤ, pos, neg_ℤ, length, replicate, Float}
 use Rattle.std.specs.Prelude.{Result, Ok, Err}
 use Rattle.std.specs.Float.{binary64}
 use Rattle.std.specs.Float.Ieee.{to_bits}
@@ -26,12 +26,16 @@ use Rattle.cases_colour.specs.declared.Asked.TheVariants as asked
 
 -- behind a number and the kinds stand a column of so many bytes, the values, and the table of ratios that the column
 -- names, which has as many as the number says; starts and deltas are not stored, since no value looks at them
+unfoldable pub stored_ratios : ℕ → ℕ → ℕ → List ℕ → List Float
+stored_ratios size width n body =
+    entries (words body (2 + n + size + 8 * n) (pair_at body 0)) (column body (2 + n) width n)
+
 unfoldable pub colour_chart : ℕ → ℕ → ℕ → List ℕ → Chart
 colour_chart size width n body = record {
   kinds = part 2 n body;
   starts = replicate n one64;
   deltas = replicate n one64;
-  ratios = entries (words body (2 + n + size + 8 * n) (pair_at body 0)) (column body (2 + n) width n);
+  ratios = stored_ratios size width n body;
 }
 
 -- four bytes as a number with a sign

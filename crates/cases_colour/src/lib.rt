@@ -1,12 +1,14 @@
 // A stored case of colour, and of a stretch of its chart.
 #![tactic(auto)]
 
-ghost use Rattle.std.specs.Prelude.{◌≡◌, ◌+◌, ◌≤◌, length, Ok};
+ghost use Rattle.std.specs.Prelude.{◌≡◌, ◌+◌, ◌≤◌, length, replicate, Ok};
+ghost use Rattle.lent.specs.Over.{over};
+ghost use Rattle.numeric.specs.Constants.{one64};
 ghost use Rattle.grouping_chart.specs.Lent.{seen};
 ghost use Rattle.call_colour.specs.Call.{memory};
 ghost use Rattle.vectors.specs.Case.{column_size};
 ghost use Rattle.vectors.specs.Held.{Tells};
-ghost use Rattle.cases_colour.specs.Colour.{colour_chart, colour_lent, signed_of, stretch_of, FoundIs, MeanIs};
+ghost use Rattle.cases_colour.specs.Colour.{stored_ratios, colour_chart, colour_lent, signed_of, stretch_of, FoundIs, MeanIs};
 ghost use Rattle.cases_colour.specs.Colour.{ValuesHeld, CallStored, ColourForm, ColourHolds, StretchHolds};
 ghost use Rattle.cases_colour.specs.passes.Told.{CallTold};
 
@@ -97,7 +99,7 @@ fn answer_holds(
 }
 
 // Whether the values are those of the body, and the work slices are cleared.
-fn values_hold(room: Room, value: &[f64], work: &[u16], scratch: &[f64]) -> bool
+pub fn values_hold(room: Room, value: &[f64], work: &[u16], scratch: &[f64]) -> bool
     ensures { let h = room.entry.case.head in let size = column_size h.objects h.width in
         Tells result (ValuesHeld size h.objects room.entry.case.bytes.now (memory value.now work.now scratch.now)) }
 {
@@ -123,6 +125,39 @@ fn lent_holds(
     answer_holds(asked, chart, value, work, scratch) && values_hold(room, value, work, scratch)
 }
 
+// Reads the ratio of each object, by its number in the case's table.
+#[tactic(auto, unfolding(crate::specs::Colour::stored_ratios))]
+pub fn read_ratios(room: Room, ratios: &mut [f64])
+    requires { room.case.head.objects ≤ length ratios.old }
+    ensures { let h = room.entry.case.head in let size = column_size h.objects h.width in
+        ratios.new ≡ over (stored_ratios size h.width h.objects room.entry.case.bytes.now) ratios.old }
+{
+    let body = room.case.bytes;
+    let n = room.case.head.objects;
+    let at = 2 + n + room.column_size() + 8 * n;
+    let table = Column::words(body, at, usize::from(case::pair_at(body, 0)));
+    let names = Column::numbers(body, 2 + n, room.case.head.width, n);
+    vectors::table::read_named(&table, &names, ratios);
+}
+
+// The chart of a colour case whose ratios were read. Its starts and deltas are 1.0 throughout.
+#[tactic(auto, unfolding(crate::specs::Colour::colour_chart))]
+pub fn chart_with<'a>(room: Room<'a>, ones: &'a [f64], ratios: &'a [f64]) -> Chart<'a>
+    requires kinds { 2 + room.case.head.objects ≤ length room.case.bytes.now }
+    requires ones { ones.now ≡ replicate room.case.head.objects one64 }
+    requires ratios { let h = room.case.head in
+        ratios.now ≡ stored_ratios (column_size h.objects h.width) h.width h.objects room.case.bytes.now }
+    ensures { let h = room.entry.case.head in let size = column_size h.objects h.width in
+        seen result ≡ colour_chart size h.width h.objects room.entry.case.bytes.now }
+{
+    Chart {
+        kind: &room.case.bytes[2..2 + room.case.head.objects],
+        start: ones,
+        delta: ones,
+        ratio: ratios,
+    }
+}
+
 // The call that is asked, in slices full of sentinels, held to the body, whose column of ratios has so many bytes.
 fn call_holds(asked: Asked, room: Room) -> bool
     requires { 2 + room.case.head.objects ≤ length room.case.bytes.now }
@@ -131,21 +166,12 @@ fn call_holds(asked: Asked, room: Room) -> bool
         Tells result (CallStored asked size n body
         (colour_chart size h.width n body) (colour_lent n room.entry.spare)) }
 {
-    let body = room.case.bytes;
     let n = room.case.head.objects;
     let places = room.places();
-    let at = 2 + n + room.column_size() + 8 * n;
-    let table = Column::words(body, at, usize::from(case::pair_at(body, 0)));
-    let names = Column::numbers(body, 2 + n, room.case.head.width, n);
     let mut ratios = [0.0; MOST_OBJECTS];
-    vectors::table::read_named(&table, &names, &mut ratios);
+    read_ratios(room, &mut ratios);
     let ones = [1.0; MOST_OBJECTS];
-    let chart = Chart {
-        kind: &body[2..2 + n],
-        start: &ones[..n],
-        delta: &ones[..n],
-        ratio: &ratios[..n],
-    };
+    let chart = chart_with(room, &ones[..n], &ratios[..n]);
     lent_holds(
         asked,
         room,
@@ -158,7 +184,7 @@ fn call_holds(asked: Asked, room: Room) -> bool
 
 // Whether the bytes have the form of a colour case.
 #[tactic(auto, unfolding(crate::specs::Colour::ColourForm))]
-fn colour_formed(room: Room) -> bool
+pub fn colour_formed(room: Room) -> bool
     ensures { let h = room.entry.case.head in
         Tells result (ColourForm (column_size h.objects h.width) h room.entry.case.bytes.now) }
 {
