@@ -1,0 +1,2 @@
+-- The definitions that this crate's promises and laws cite.
+pub mod Lesson
