@@ -8,7 +8,8 @@ ghost use Rattle.grouping_chart.specs.Lent.{seen};
 ghost use Rattle.call_colour.specs.Call.{memory};
 ghost use Rattle.vectors.specs.Case.{column_size};
 ghost use Rattle.vectors.specs.Held.{Tells};
-ghost use Rattle.cases_colour.specs.Colour.{stored_ratios, colour_chart, colour_lent, signed_of, stretch_of, FoundIs, MeanIs};
+ghost use Rattle.cases_colour.specs.Colour.{stored_ratios, colour_chart, colour_lent, signed_of};
+ghost use Rattle.cases_colour.specs.Colour.{stretch_of, FoundIs, MeanIs};
 ghost use Rattle.cases_colour.specs.Colour.{ValuesHeld, CallStored, ColourForm, ColourHolds, StretchHolds};
 ghost use Rattle.cases_colour.specs.passes.Told.{CallTold};
 
