@@ -2,7 +2,7 @@
 use Rattle.std.proofs.Common.{◌≡◌, ℕ, Bool, true, false, List, Some}
 use Rattle.vectors.specs.Held.{Tells}
 use Rattle.vectors.proofs.TellsLaws.{denied}
-use Rattle.vectors.specs.declared.call.Call.TheVariants.{Encode, Turns, Colour, Stretch, Rhythm, Record, Build}
+use Rattle.vectors.specs.declared.call.Call.TheVariants.{Encode, Turns, Colour, Stretch, Lesson, Rhythm, Record, Build}
 use Rattle.vectors.specs.declared.case.Head.{Head}
 use Rattle.cases_build.specs.Build.{BuildHolds}
 use Rattle.cases_build.proofs.BuildLaws.{build_call}
@@ -12,11 +12,13 @@ use Rattle.cases_turns.specs.Turns.{TurnsHolds}
 use Rattle.cases_turns.proofs.TurnsLaws.{turns_call}
 use Rattle.cases_colour.specs.Colour.{ColourHolds, StretchHolds}
 use Rattle.cases_colour.proofs.ColourLaws.{colour_call, stretch_call}
+use Rattle.cases_lesson.specs.Lesson.{LessonHolds}
+use Rattle.cases_lesson.proofs.LessonLaws.{lesson_call}
 use Rattle.cases_rhythm.specs.Rhythm.{RhythmHolds}
 use Rattle.cases_rhythm.proofs.RhythmLaws.{rhythm_call}
 use Rattle.cases_record.specs.Record.{RecordHolds}
 use Rattle.cases_record.proofs.RecordLaws.{record_call}
-use Rattle.replay_cases.specs.Cases.{ChartHolds, build, encode, colour, rhythm, PartHolds, turns, stretch, group}
+use Rattle.replay_cases.specs.Cases.{ChartHolds, build, encode, colour, rhythm, PartHolds, turns, stretch, lesson, group}
 
 module _ (h : Head) (body : List ℕ) (spare : ℕ) {r : Bool} where
   pub of_build : h.call ≡ Some Build → Tells r (BuildHolds h body spare) → Tells r (ChartHolds h body spare)
@@ -73,6 +75,7 @@ module _ (chart : Head) (body : List ℕ) (h : Head) (part : List ℕ) (spare : 
       back : PartHolds chart body h part spare → r ≡ true
       back (turns p) = t.1 p
       back (stretch p) = let x = stretch_call chart body h part spare p in cc
+      back (lesson p) = let x = lesson_call chart body h part spare p in cc
       back (group p) = let x = record_call chart body h part spare p in cc
 
   pub of_stretch : h.call ≡ Some Stretch → Tells r (StretchHolds chart body h part spare) → Tells r (PartHolds chart body h part spare)
@@ -81,6 +84,16 @@ module _ (chart : Head) (body : List ℕ) (h : Head) (part : List ℕ) (spare : 
       back : PartHolds chart body h part spare → r ≡ true
       back (turns p) = let x = turns_call chart body h part spare p in cc
       back (stretch p) = t.1 p
+      back (lesson p) = let x = lesson_call chart body h part spare p in cc
+      back (group p) = let x = record_call chart body h part spare p in cc
+
+  pub of_lesson : h.call ≡ Some Lesson → Tells r (LessonHolds chart body h part spare) → Tells r (PartHolds chart body h part spare)
+  of_lesson e t = (λ q. lesson (t.0 q), back)
+    where
+      back : PartHolds chart body h part spare → r ≡ true
+      back (turns p) = let x = turns_call chart body h part spare p in cc
+      back (stretch p) = let x = stretch_call chart body h part spare p in cc
+      back (lesson p) = t.1 p
       back (group p) = let x = record_call chart body h part spare p in cc
 
   pub of_record : h.call ≡ Some Record → Tells r (RecordHolds chart body h part spare) → Tells r (PartHolds chart body h part spare)
@@ -89,14 +102,16 @@ module _ (chart : Head) (body : List ℕ) (h : Head) (part : List ℕ) (spare : 
       back : PartHolds chart body h part spare → r ≡ true
       back (turns p) = let x = turns_call chart body h part spare p in cc
       back (stretch p) = let x = stretch_call chart body h part spare p in cc
+      back (lesson p) = let x = lesson_call chart body h part spare p in cc
       back (group p) = t.1 p
 
 module _ (chart : Head) (body : List ℕ) (h : Head) (part : List ℕ) (spare : ℕ) where
-  pub no_part : (h.call ≡ Some Turns → ⊥) → (h.call ≡ Some Stretch → ⊥) → (h.call ≡ Some Record → ⊥)
+  pub no_part : (h.call ≡ Some Turns → ⊥) → (h.call ≡ Some Stretch → ⊥) → (h.call ≡ Some Lesson → ⊥) → (h.call ≡ Some Record → ⊥)
       → Tells false (PartHolds chart body h part spare)
-  no_part t s r = denied back
+  no_part t s l r = denied back
     where
       back : PartHolds chart body h part spare → ⊥
       back (turns p) = t (turns_call chart body h part spare p)
       back (stretch p) = s (stretch_call chart body h part spare p)
+      back (lesson p) = l (lesson_call chart body h part spare p)
       back (group p) = r (record_call chart body h part spare p)

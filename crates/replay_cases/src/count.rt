@@ -1,34 +1,46 @@
 // Where the replay of a file stands.
 ghost use Rattle.std.specs.Prelude.{◌≡◌, ◌<◌};
-ghost use Rattle.replay_cases.specs.Count.{at_start, ended_with, After, spare_of};
+ghost use Rattle.vectors.specs.Call.{is_call};
+ghost use Rattle.vectors.specs.declared.call.Call.TheVariants.{Lesson};
+ghost use Rattle.replay_cases.specs.Count.{at_start, ended_with, after_part, After, spare_of};
 
 use crate::tally::Tally;
+use vectors::call::Call;
 use vectors::case::Head;
 use vectors::room::Spare;
 
 // The most cases of a file.
 const MOST_CASES: u64 = 1_000_000;
 
-// How many cases may follow, the objects of the charts, a tally of the cases with a chart and of those on one, and the
-// head of the last chart. That `left` is 0 at the end too is how the promise of a whole file says that it was read; a
-// `for` with a `break` would be no plainer beside it.
+// How many cases may follow, the objects of the charts, a tally of the cases with a chart, of those on one that are no
+// lessons, and of lessons, and the head of the last chart. That `left` is 0 at the end too is how the promise of a
+// whole file says that it was read; a `for` with a `break` would be no plainer beside it.
 #[derive(Clone, Copy)]
 pub struct Replay {
     pub left: u64,
     pub objects: u64,
     pub charts: Tally,
     pub parts: Tally,
+    pub lessons: Tally,
     pub chart: Head,
 }
 
-// What became of a case: whether it held, and for one with a chart its head. A `Result` of an `Option` would be no
-// plainer, since all four are counted, in one match.
+// What became of a case: its head, and whether it held. A `Result` of an `Option` would be no plainer, since all four
+// are counted, in one match.
 #[derive(Clone, Copy)]
 pub enum Replayed {
     Chart(Head, bool),
-    Part(bool),
+    Part(Head, bool),
     Broken,
     End,
+}
+
+// Whether the case with this head is a lesson.
+#[tactic(auto, using(vectors::proofs::CallLaws::asked, vectors::proofs::CallLaws::not_asked))]
+fn is_lesson(h: Head) -> bool
+    ensures { result ≡ is_call h.call Lesson }
+{
+    h.call == Some(Call::Lesson)
 }
 
 impl Replay {
@@ -42,6 +54,7 @@ impl Replay {
             objects: 0,
             charts: Tally::default(),
             parts: Tally::default(),
+            lessons: Tally::default(),
             chart: vectors::case::read_head(b""),
         }
     }
@@ -54,6 +67,27 @@ impl Replay {
         Replay {
             left: 0,
             charts,
+            ..self
+        }
+    }
+
+    // After a part, by whether it is a lesson.
+    #[tactic(auto, unfolding(crate::specs::Count::after_part))]
+    fn after_part(self, h: Head, held: bool) -> Replay
+        requires { 0 < self.left }
+        ensures { result ≡ after_part self h held }
+    {
+        let left = self.left - 1;
+        if is_lesson(h) {
+            return Replay {
+                left,
+                lessons: self.lessons.counted(held),
+                ..self
+            };
+        }
+        Replay {
+            left,
+            parts: self.parts.counted(held),
             ..self
         }
     }
@@ -73,18 +107,14 @@ impl Replay {
                 chart: h,
                 ..self
             },
-            Replayed::Part(held) => Replay {
-                left: self.left - 1,
-                parts: self.parts.counted(held),
-                ..self
-            },
+            Replayed::Part(h, held) => self.after_part(h, held),
             Replayed::Broken => self.ended(self.charts.counted(false)),
             Replayed::End => self.ended(self.charts),
         }
     }
 
-    // How many places the next case's slices have to spare: 0 to 7, by the cases before it. A part counts twice, so
-    // that charts with a part each, and their parts, take all eight in turn.
+    // How many places the next case's slices have to spare: 0 to 7, by the cases before it that are no lessons. A part
+    // counts twice, so that charts with a part each, and their parts, take all eight in turn.
     #[tactic(auto, unfolding(crate::specs::Count::spare_of))]
     pub fn spare(self) -> Spare
         ensures { result.places ≡ spare_of self }

@@ -34,7 +34,7 @@ pub fn follows(call: Call, h: Head) -> Next
     match (call, h.call) {
         (asked, Some(own)) if asked == own => Next::Body,
         (Call::Encode, Some(Call::Turns))
-        | (Call::Colour, Some(Call::Stretch))
+        | (Call::Colour, Some(Call::Stretch | Call::Lesson))
         | (Call::Rhythm, Some(Call::Record)) => Next::Part,
         _ => Next::Nothing,
     }
@@ -68,6 +68,7 @@ pub fn part_holds(chart: Case, part: Case, spare: Spare) -> bool
     match call {
         Call::Turns => cases_turns::holds(chart, part, spare),
         Call::Stretch => cases_colour::stretch_holds(chart, part, spare),
+        Call::Lesson => cases_lesson::holds(chart, part, spare),
         Call::Record => cases_record::holds(chart, part, spare),
         _ => false,
     }

@@ -22,7 +22,7 @@ pub data ChartRead (h : Head) (spare : ℕ) (body : List ℕ) : Replayed → Typ
 pub data PartRead (chart : Head) (body : List ℕ) (h : Head) (spare : ℕ) (part : List ℕ) : Replayed → Type 0 where
   told : {held : Bool} → chart.size ≤ length body → h.size ≤ length part
       → Tells held (PartHolds chart (take chart.size body) h (take h.size part) spare)
-      → PartRead chart body h spare part (Part held)
+      → PartRead chart body h spare part (Part h held)
   broken : PartRead chart body h spare part Broken
 
 -- the next case of the file of this call's charts: `head` was read, then `body`, or `part` while `body` stayed

@@ -65,7 +65,7 @@ fn part_case(
         bytes: &part[..size],
     };
     let held = replay_cases::part_holds(on, case, spare);
-    Replayed::Part(held)
+    Replayed::Part(h, held)
 }
 
 // Reads and replays the next case of the file of this call's charts. `body` has the last chart's body.
