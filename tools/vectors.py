@@ -2,7 +2,7 @@
 """Writes crates/replay/data/encode and crates/replay/data/colour, whose cases crates/replay replays: charts, and what the original answers on them.
 
 usage: vectors.py ORACLE OUT           the cases of encode and turns
-       vectors.py ORACLE OUT colour    those of colour and stretch
+       vectors.py ORACLE OUT colour    those of colour, stretch and lesson
 (ORACLE as in oracle.py)
 
 Numbers have their low byte first; a float is the number of its bits. A case is a head of 8 bytes and a body:
@@ -13,8 +13,8 @@ Numbers have their low byte first; a float is the number of its bits. A case is 
                   (n numbers of `width` bytes each), values (8n), the table of ratios (8m)
   call 3, stretch, on the chart of the colour case before it: a (2), b (2), mean (8), tenths (4, signed)
   call 7, turns, on the chart of the encode case before it: previous, next (n numbers of two bytes each, 65535 for none)
+  call 8, lesson, on the chart of the colour case before it: as in stretches.py
 """
-import fractions
 import itertools
 import math
 import random
@@ -22,12 +22,14 @@ import struct
 import sys
 
 from oracle import ask, bits, float_of, words
+from stretches import check_lessons, lesson_body, lessons, spans, stretch
 
 SEED = 1
 ENCODE = 1
 COLOUR = 2
 STRETCH = 3
 TURNS = 7
+LESSON = 8
 NO_TURN = 65535
 LONGEST = 300
 MOST = 16384
@@ -142,7 +144,7 @@ def check_turns(all_kinds, answers):
     assert any(later != NO_TURN and kind == notes[later] for _, later, kind, notes in noted), "no next note has its streak's kind"
 
 
-# ---- colour and stretch
+# ---- colour, stretch and lesson
 
 
 TYPICAL = [0.25, 1 / 3, 0.5, 2 / 3, 0.75, 1.0, 4 / 3, 1.5, 2.0, 3.0, 4.0]
@@ -206,23 +208,6 @@ def drawn(rng, style, n):
     return made
 
 
-def struck(kinds, a, b):
-    """The notes from object a up to b."""
-    return [i for i in range(a, b) if kinds[i] != "2"]
-
-
-def spans(rng, kinds):
-    """Of six stretches those that have a note: the whole, one object, one from the start, one to the end, any, and from the first NonHit to the last."""
-    n = len(kinds)
-    if n == 0:
-        return []
-    i, a = rng.randrange(n), rng.randrange(n)
-    parts = [(0, n), (i, i + 1), (0, rng.randrange(n) + 1), (rng.randrange(n), n), (a, rng.randrange(a, n) + 1)]
-    if "2" in kinds:
-        parts.append((kinds.index("2"), kinds.rindex("2") + 1))
-    return [part for part in parts if struck(kinds, *part)]
-
-
 def colour_charts():
     """Kinds, ratios and stretches of the charts."""
     rng = random.Random(SEED)
@@ -239,16 +224,6 @@ def colour_charts():
 def colour_request(kinds, ratios):
     ones = words([1.0] * len(kinds))
     return f"chart {len(kinds)}\n{kinds}\n{ones}\n{ones}\n{words(ratios)}\ncolour\n"
-
-
-def stretch(kinds, values, a, b):
-    """Mean and tenths of a stretch by the original's values, which has no mean of notes itself. Python's floats are f64."""
-    notes, total = struck(kinds, a, b), 0.0
-    for i in notes:
-        total += values[i]
-    mean = total / len(notes)
-    # of a fraction Python rounds exactly, a half to the even number
-    return mean, round(10 * fractions.Fraction(mean))
 
 
 def ask_colour(oracle, charts):
@@ -326,19 +301,44 @@ def check_tenths(answers):
     return len(off)
 
 
-def main_colour(oracle, out):
-    charts = [*colour_charts(), *half_charts(oracle)]
-    answers = list(ask_colour(oracle, charts))
-    check_values(charts, answers)
-    check_parts(charts, answers)
-    off = check_tenths(answers)
+def marked_stretches(drawn, charts):
+    """For each chart its lessons. Those that are sought for one mean have none."""
+    return [*lessons(kinds for kinds, _, _ in drawn), *([] for _ in charts[len(drawn):])]
+
+
+def lesson_answers(charts, marked, answers):
+    """For each lesson the answers of its stretches, and how many places its slices have to spare (replay_cases/specs/Count.antt)."""
+    stretches = itertools.accumulate(len(parts) for _, _, parts in charts)
+    for i, ((kinds, _, _), drawn, (values, _), before) in enumerate(zip(charts, marked, answers, stretches)):
+        for parts in drawn:
+            yield [stretch(kinds, values, *part) for part in parts], (i + 1 + 2 * before) % 8
+
+
+def write_colour(out, charts, answers, marked, told):
+    """Each colour case, its stretches, then its lessons."""
     with open(out, "wb") as file:
-        for (kinds, ratios, parts), (values, stretches) in zip(charts, answers):
+        for (kinds, ratios, parts), (values, stretches), drawn in zip(charts, answers, marked):
             file.write(colour_case(kinds, ratios, values))
             for part, answer in zip(parts, stretches):
                 file.write(stretch_case(len(kinds), part, answer))
+            for lesson in drawn:
+                file.write(head(LESSON, 2, len(kinds), lesson_body(lesson, next(told))))
+
+
+def main_colour(oracle, out):
+    drawn = list(colour_charts())
+    charts = [*drawn, *half_charts(oracle)]
+    answers = list(ask_colour(oracle, charts))
+    marked = marked_stretches(drawn, charts)
+    told, spares = zip(*lesson_answers(charts, marked, answers))
+    check_values(charts, answers)
+    check_parts(charts, answers)
+    check_lessons([kinds for kinds, _, _ in charts], marked, told, set(spares))
+    off = check_tenths(answers)
+    write_colour(out, charts, answers, marked, iter(told))
     print(f"colour: {len(charts)} cases, {sum(len(c[0]) for c in charts)} values")
     print(f"stretch: {sum(len(c[2]) for c in charts)} cases, {off} whose tenths a rounded product would miss")
+    print(f"lesson: {len(told)} cases, {sum(map(len, told))} pairs")
 
 
 def main():

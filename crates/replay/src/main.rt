@@ -1,6 +1,6 @@
-// Replays the original's stored answers: calls build, encode, turns, colour, stretch, rhythm or record on each case of
-// data/build, data/encode, data/colour and data/rhythm, compares all that it hands back, and prints how many cases
-// there are and how many differ.
+// Replays the original's stored answers: calls build, encode, turns, colour, stretch, lesson, rhythm or record on each
+// case of data/build, data/encode, data/colour and data/rhythm, compares all that it hands back, and prints how many
+// cases there are and how many differ.
 // What is counted `replay` promises. Of what is printed no promise can speak: tests/replay sees that it is the count.
 #![tactic(auto)]
 
@@ -59,10 +59,10 @@ fn charts<'a>(call: &'a str, r: Replay, name: &'a str) -> Line<'a> {
 }
 
 // Of a call whose cases are parts of such a chart.
-fn parts(call: &str, r: Replay) -> Line<'_> {
+fn parts(call: &str, tally: Tally) -> Line<'_> {
     Line {
         call,
-        tally: r.parts,
+        tally,
         objects: None,
     }
 }
@@ -72,11 +72,12 @@ fn main(rt: HostRuntime) -> io::Result<()> {
     println!(&rt; "{}", charts("build", build, "objects"))?;
     let encode = replay(&rt, "encode", Call::Encode);
     println!(&rt; "{}", charts("encode", encode, "objects"))?;
-    println!(&rt; "{}", parts("turns", encode))?;
+    println!(&rt; "{}", parts("turns", encode.parts))?;
     let colour = replay(&rt, "colour", Call::Colour);
     println!(&rt; "{}", charts("colour", colour, "values"))?;
-    println!(&rt; "{}", parts("stretch", colour))?;
+    println!(&rt; "{}", parts("stretch", colour.parts))?;
+    println!(&rt; "{}", parts("lesson", colour.lessons))?;
     let rhythm = replay(&rt, "rhythm", Call::Rhythm);
     println!(&rt; "{}", charts("rhythm", rhythm, "objects"))?;
-    println!(&rt; "{}", parts("record", rhythm))
+    println!(&rt; "{}", parts("record", rhythm.parts))
 }
