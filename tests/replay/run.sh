@@ -107,16 +107,29 @@ turned 'the width of turns' encode 7 0 -7 "$(differ turns 1 0)"
 turned 'the call of turns' encode 7 0 -8 's/10764 cases, 276742/2 cases, 0/; s/10764/0/;'"$(differ encode 1 1)"
 
 # colour: distinct ratios (2), kinds, places in the table, values, the table; the last is ddddk, with one stretch.
-# What a colour case stores its stretches fill again, so they differ too.
+# What a colour case stores its stretches and lessons fill again, so they differ too.
 last_colour="$(differ colour 1 1010)$(differ stretch 1 5209)"
 turned 'a kind of a colour case' colour 2 1010 3 "$last_colour"
 turned 'a colour value' colour 2 1010 24 "$last_colour"
-turned 'a ratio' colour 2 904 -1 "$(differ colour 1 904)$(differ stretch 6 5098)"
+turned 'a ratio' colour 2 904 -1 "$(differ colour 1 904)$(differ stretch 6 5098)$(differ lesson 1 904)"
 
 # stretch: both ends (2, 2), mean (8), tenths (4)
 turned 'an end of a stretch' colour 3 5209 0 "$(differ stretch 1 5209)"
 turned 'a mean' colour 3 0 4 "$(differ stretch 1 0)"
 turned 'tenths' colour 3 5209 12 "$(differ stretch 1 5209)"
+
+# lesson: pairs (2), offsets, lengths (2 each), means (8 each), tenths (8 each); case 0 has no pairs, case 12 the offsets 0, 2, 3 and the
+# lengths 2, 1, 1
+turned 'the number of pairs of a lesson without any' colour 8 0 0 "$(differ lesson 1 0)"
+turned 'the number of pairs' colour 8 12 0 "$(differ lesson 1 12)"
+turned 'an offset' colour 8 12 2 "$(differ lesson 1 12)"
+turned 'an offset, to the one behind it' colour 8 12 4 "$(differ lesson 1 12)"
+turned 'a length' colour 8 12 8 "$(differ lesson 1 12)"
+turned 'a mean of a lesson' colour 8 12 14 "$(differ lesson 1 12)"
+turned 'tenths of a lesson' colour 8 12 38 "$(differ lesson 1 12)"
+turned 'the highest byte of tenths' colour 8 904 -1 "$(differ lesson 1 904)"
+turned 'the width of a lesson' colour 8 0 -9 "$(differ lesson 1 0)"
+turned 'the call of a lesson' colour 8 0 -10 's/1011 cases, 168748/2 cases, 0/; s/5210/0/; s/lesson: 905/lesson: 0/;'"$(differ colour 1 1)"
 
 # rhythm: both counts (2, 2), kinds, starts, deltas, groups, pattern groups; case 42 has the deltas 102, 102, 150, 75, 75 and two records
 turned 'the last delta' rhythm 4 42 88 "$(differ rhythm 1 42)$(differ record 1 39)"
@@ -135,6 +148,10 @@ ends 'turns without their last byte' encode 1 's/10764 cases, 276742/10765 cases
 ends 'a file without its last turns' encode 65544 's/turns: 10764/turns: 10763/'
 ends 'a chart without its last byte' encode 65545 's/276742/260358/; s/turns: 10764/turns: 10763/;'"$(differ encode 1 10763)"
 ends 'a stretch without its last byte' colour 1 's/1011/1012/; s/5210/5209/;'"$(differ colour 1 1011)"
+# behind the last lesson, of 650 bytes, stand 106 charts of 5 objects with a stretch each
+without='s/1011 cases, 168748/905 cases, 168218/; s/5210/5104/; s/lesson: 905/lesson: 904/;'
+ends 'a lesson without its last byte' colour 9753 "$without"'s/colour: 905/colour: 906/;'"$(differ colour 1 905)"
+ends 'a file that ends before its last lesson' colour 10402 "$without"
 ends 'a head without its last byte' rhythm 59 's/465/466/; s/3673/3672/;'"$(differ rhythm 1 465)"
 ends 'a file without its last case' rhythm 66 's/3673/3672/'
 
