@@ -33,7 +33,7 @@ fn offsets_and_lengths_of_two_numbers_are_refused_2() {
     }
 }
 
-/// The two slices with a place for each pair, one short and empty, whatever the other has.
+/// The means or the tenths lack one place, or have none, whatever the other slice has.
 #[test]
 fn slices_with_too_few_places_for_the_pairs_are_refused_3() {
     for n in [80, LARGEST_CHART] {
