@@ -17,6 +17,7 @@ use grouping_chart::refusal::{Reason, Refusal};
 use grouping_chart::room::refusal_beside;
 use grouping_chart::settings::Settings;
 
+// The most pairs of a lesson.
 pub const MOST_PAIRS: usize = 32;
 
 // Whether there are as many lengths as offsets.

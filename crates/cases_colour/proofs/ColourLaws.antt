@@ -4,8 +4,9 @@ use mathlib.Core.Path.{◌≡◌, refl, ap}
 use mathlib.Core.List.{List}
 use Rattle.std.specs.Prelude.{Some, Result, Ok, Err, is_ok}
 use mathlib.Core.Bool.{Bool}
-use Prim.Native.Nat.{ℕ, ◌+◌, ◌*◌}
-use lib.ListN.{take, replicate}
+use Prim.Native.Nat.{ℕ, ◌+◌, ◌*◌, ◌≤◌}
+use native.Mathlib.Omega.{arith}
+use lib.ListN.{length, take, replicate}
 use lib.Ieee.{Float}
 use Rattle.lent.specs.Over.{over}
 use Rattle.lent.proofs.NeverLaws.{never}
@@ -77,6 +78,11 @@ module _ {n spare : ℕ} (few : Few n spare) where
   made_told size body {call} e t = tells_of (λ (p : Chart × Memory). CallStored call size n body p.0 p.1) (λ i. (e i, memory_is i)) t
 
 -- ---- the cases
+
+-- the kinds lie in a body of this form
+pub form_room : (size : ℕ) (h : Head) (body : List ℕ) → ColourForm size h body → 2 + h.objects ≤ length body
+unfolding ColourForm
+form_room size h body f = omega (arith, f.whole)
 
 pub colour_call : (h : Head) (body : List ℕ) (spare : ℕ) → ColourHolds h body spare → h.call ≡ Some ColourCall
 unfolding ColourHolds ColourForm

@@ -151,7 +151,7 @@ fn lesson_formed(part: Case, n: usize) -> bool
 }
 
 // Whether lesson answers on the chart of a colour case as the part has it, in slices with so many places to spare.
-#[tactic(auto, unfolding(crate::specs::Lesson::LessonHolds, cases_colour::specs::Colour::ColourForm))]
+#[tactic(auto, unfolding(crate::specs::Lesson::LessonHolds), using(cases_colour::proofs::ColourLaws::form_room))]
 pub fn holds(chart: Case, part: Case, spare: Spare) -> bool
     ensures { Tells result (LessonHolds chart.entry.head chart.entry.bytes.now
         part.entry.head part.entry.bytes.now spare.places) }
