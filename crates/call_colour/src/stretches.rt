@@ -19,7 +19,6 @@ fn has_note(kind: &[u8]) -> bool
 }
 
 // The objects of a stretch, or what there is of each of them.
-#[tactic(auto, using(lent::proofs::PieceLaws::part_pieces))]
 fn objects_of<T>(items: &[T], offset: usize, n: usize) -> &[T]
     requires { offset + n ≤ length items.now }
     ensures { result.now ≡ part offset n items.now }

@@ -1,17 +1,16 @@
 -- The verdict on a call, what it refuses after its chart, and the two cases of what it comes to. The calls cite these.
-use mathlib.Core.Path.{◌≡◌, refl, sym, ◌∙◌}
+use mathlib.Core.Path.{◌≡◌, sym, ◌∙◌}
 use mathlib.Core.Bool.{false}
 use mathlib.Core.List.{List}
 use Prim.Native.Nat.{ℕ, ◌*◌, ◌≤◌}
 use Rattle.std.specs.Prelude.{Result, Ok, Err}
 use Rattle.grouping_chart.specs.Chart.{Chart, size}
-use Rattle.grouping_chart.specs.Refusal.{Check, passed, Verdict, accepted, refused, and_then, verdict}
+use Rattle.grouping_chart.specs.Refusal.{Check, passed, Verdict, accepted, refused, refused_or, and_then, verdict}
 use Rattle.grouping_chart.specs.Room.{short_refusal, refusal_beside}
 use Rattle.grouping_chart.specs.Settings.{Settings, settings_refusal, Permitted}
 use Rattle.grouping_chart.specs.Outcome.{Outcome, outcome, refused_then, answered}
 use Rattle.grouping_chart.specs.declared.refusal.Reason.{Reason}
 use Rattle.grouping_chart.specs.declared.refusal.Refusal.{Refusal}
-use Rattle.lent.proofs.NeverLaws.{never}
 use Rattle.grouping_chart.proofs.AcceptedLaws.{GoodChart, accepted_good, none_refused, both_passed}
 use Rattle.grouping_chart.proofs.RoomLaws.{AllLong, roomy, all_long, joined, short_joined}
 
@@ -52,11 +51,12 @@ module _ {v : Verdict} (asked : Check) where
   unfolding refused_then
   then-refused h e = rw (h, e)
 
--- where neither is refused, the call is accepted, and only there
+-- and where all is accepted, nothing is refused of either
 pub neither-refused : (v : Verdict) (asked : Check) → refused_then v asked ≡ accepted → (v ≡ accepted) × (asked ≡ passed)
 unfolding refused_then
-neither-refused (Ok done) asked e = (refl, (none_refused asked 0 accepted e).0)
-neither-refused (Err first) asked e = never (cc)
+neither-refused v asked e =
+    let both = both_passed v (refused_or asked 0 accepted) e in
+    (both.0, (none_refused asked 0 accepted both.1).0)
 
 -- ---- what a call comes to
 

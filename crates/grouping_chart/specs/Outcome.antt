@@ -2,7 +2,7 @@
 -- lent (demand 1; scope: "Refused by number").
 use Rattle.std.specs.Prelude.{ℕ, List, length, Float, Result, Ok, Err}
 use Rattle.grouping_chart.specs.Chart.{Chart, size}
-use Rattle.grouping_chart.specs.Refusal.{Check, Verdict, accepted, refused_or, verdict}
+use Rattle.grouping_chart.specs.Refusal.{Check, Verdict, accepted, and_then, refused_or, verdict}
 use Rattle.grouping_chart.specs.Room.{refusal_beside}
 use Rattle.grouping_chart.specs.Settings.{Settings}
 use Rattle.grouping_chart.specs.declared.refusal.Refusal.{Refusal}
@@ -21,8 +21,7 @@ judged_by s c answers work scratch = verdict c (refusal_beside s (size c) answer
 
 -- what a call refuses of what it is asked beside the chart comes after what is refused of the chart
 unfoldable pub refused_then : Verdict → Check → Verdict
-refused_then (Ok done) asked = refused_or asked 0 accepted
-refused_then (Err first) asked = Err first
+refused_then v asked = and_then v (refused_or asked 0 accepted)
 
 -- what a call with this verdict comes to, where it comes to an answer and memory if accepted: a refusal leaves all as
 -- lent

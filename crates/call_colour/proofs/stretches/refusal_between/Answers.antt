@@ -1,4 +1,4 @@
--- A stretch that does not begin before its end is refused; any other has as many objects as its ends are apart.
+-- A stretch that ends before it begins is refused; any other has as many objects as its ends are apart.
 use Rattle.std.proofs.Common.{arith, ap, ◌∙◌, ◌≡◌, ℕ, ◌+◌, ◌-◌}
 use Rattle.call_colour.specs.Stretch.{stretch_refusal}
 use Rattle.call_colour.proofs.StretchCases.{none_refused}
