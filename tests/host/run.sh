@@ -1,11 +1,18 @@
 #!/usr/bin/env bash
-# Compiles and runs the C programs as C99 and as C++17 against libdresserduck.a, then runs the Rust tests.
+# Looks at what libdresserduck.a needs from outside, compiles and runs the C programs as C99 and as C++17 against it, then runs the Rust tests.
 set -eu
 root=$(cd "$(dirname "$0")/../.." && pwd)
 . "$root/tests/archive.sh"
 
 made=$(mktemp -d)
 trap 'rm -rf "$made"' EXIT
+# a host without a C library brings this one function: the compiler makes calls of it where zeros are written
+needed=$(nm -u "$archive" | awk '$1 == "U" { print $2 }' | sort -u)
+if [ "$needed" != memset ]; then
+    printf 'libdresserduck.a needs from outside:\n%s\nwhere memset alone may be\n' "$needed" >&2
+    exit 1
+fi
+
 strict=(-Wall -Wextra -Wpedantic -Werror -I "$root/include")
 
 # valgrind finds a read or write outside a block of the heap, in the library too

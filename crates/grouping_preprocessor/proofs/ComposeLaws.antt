@@ -6,7 +6,7 @@ use native.Mathlib.Omega.{arith}
 use lib.ListN.{length, take, drop, length-append, length-take, length-drop}
 use lib.Seq.{length-take-le}
 use Rattle.lent.specs.Over.{over}
-use Rattle.lent.proofs.OverLaws.{front, length-over}
+use Rattle.lent.proofs.OverLaws.{front, length-over, drop-over, over-agree}
 use Rattle.lent.proofs.PieceLaws.{over_pieces, over-back}
 use Rattle.grouping_marks.specs.Marks.{group_count, group_numbers, group_places, group_sizes, group_firsts}
 use Rattle.grouping_marks.proofs.MarksLaws.{count_le, length-numbers, length-places}
@@ -222,10 +222,23 @@ module _ (kinds : List ℕ) (s p : ℕ) {marks streak types₀ types lengths₀ 
             over-back s (streak_firsts kinds) (counts₃ ++ drop p (counts ++ drop s counts₀)) firsts (omega (arith, length-streak_firsts kinds, S.count))
             (omega (arith, counts-long, S.few)) E.firsts_are
 
-        -- all eight regions, put together again
-        pub encoded : (streak₀ numbers₀ places₀ marks₀ rest w₀ : List ℕ)
-            → Laid limit kinds streak₀ lengths₀ types₀ numbers₀ places₀ counts₀ hits₀ marks₀ rest (length kinds) w₀
-            (before limit kinds streak₀ lengths₀ types₀ numbers₀ places₀ counts₀ hits₀ marks₀ rest)
+        -- of what the sizes' region held before, only what is behind the streaks' first objects is left
+        left : (old : List ℕ) → drop s counts₀ ≡ drop s old
+            → over (streak_firsts kinds) (over (hit_sizes kinds) (over (streak_counts kinds) counts₀))
+            ≡ over (streak_firsts kinds) (over (hit_sizes kinds) (over (streak_counts kinds) old))
+        left old e =
+            let sizes : length (hit_sizes kinds) ≤ s = omega (arith, length-hit_sizes kinds, h-is, h_few, p_few) in
+            let counted : length (streak_counts kinds) ≤ s = omega (arith, length-streak_counts kinds, p-is, p_few) in
+            let behind : (l : List ℕ) → drop s (over (hit_sizes kinds) (over (streak_counts kinds) l)) ≡ drop s l =
+            λ l. drop-over (hit_sizes kinds) (over (streak_counts kinds) l) s sizes ∙ drop-over (streak_counts kinds) l s counted in
+            over-agree (streak_firsts kinds) (over (hit_sizes kinds) (over (streak_counts kinds) counts₀))
+            (over (hit_sizes kinds) (over (streak_counts kinds) old)) s (omega (arith, length-streak_firsts kinds, S.count))
+            (behind counts₀ ∙ e ∙ sym (behind old))
+
+        -- all eight regions, put together again; what was written over the front of the sizes' region before is nothing to them
+        pub encoded : (streak₀ numbers₀ places₀ sizes₀ marks₀ rest w₀ : List ℕ) → drop s counts₀ ≡ drop s sizes₀
+            → Laid limit kinds streak₀ lengths₀ types₀ numbers₀ places₀ sizes₀ hits₀ marks₀ rest (length kinds) w₀
+            (before limit kinds streak₀ lengths₀ types₀ numbers₀ places₀ sizes₀ hits₀ marks₀ rest)
             → Encodes limit kinds w₀
             (streak
             ++ ((lengths₃ ++ drop p (lengths₁ ++ drop s lengths))
@@ -235,12 +248,12 @@ module _ (kinds : List ℕ) (s p : ℕ) {marks streak types₀ types lengths₀ 
             ++ ((firsts ++ drop s (counts₃ ++ drop p (counts ++ drop s counts₀)))
             ++ ((lasts ++ drop s (hits ++ drop p hits₀)) ++ ((found ++ drop p (marks₁ ++ drop s marks)) ++ rest))))))))
             (record { streaks = s; patterns = p; hits = h; limit = limit })
-        encoded streak₀ numbers₀ places₀ marks₀ rest w₀ k =
+        encoded streak₀ numbers₀ places₀ sizes₀ marks₀ rest w₀ behind k =
             let l = lengths₄ ∙ ap (over (group_numbers (hits_open kinds))) (lengths₂ ∙ ap (over (first_lengths kinds)) S.lengths_are) in
             let t = types₄ ∙ ap (over (group_places (hits_open kinds))) (types₂ ∙ ap (over (pattern_types kinds)) S.types_are) in
-            let c = firsts₅ ∙ ap (over (streak_firsts kinds)) (counts₄ ∙ ap (over (hit_sizes kinds)) counts₂) in
+            let c = firsts₅ ∙ ap (over (streak_firsts kinds)) (counts₄ ∙ ap (over (hit_sizes kinds)) counts₂) ∙ left sizes₀ behind in
             let o = lasts₅ k.each.1.1.1.1.1.1.0 ∙ ap (over (streak_lasts kinds)) (hits₄ hits₀) in
             let m = found₄ ∙ ap (over (hit_intervals limit kinds)) (marks₂ ∙ ap (over (patterns_open kinds)) S.marks_are) in
-            all_levels limit kinds streak₀ lengths₀ types₀ numbers₀ places₀ counts₀ hits₀ marks₀ rest k
+            all_levels limit kinds streak₀ lengths₀ types₀ numbers₀ places₀ sizes₀ hits₀ marks₀ rest k
             (λ i. S.streak_is i ++ (l i ++ (t i ++ (numbers₂ numbers₀ i ++ (places₂ places₀ i ++ (c i ++ (o i ++ (m i ++ rest))))))))
             s p h S.count p-is h-is

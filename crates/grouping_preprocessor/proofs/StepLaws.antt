@@ -1,18 +1,18 @@
 -- What each pass left in its regions, by what its calls ensure: every mark is written, so the marks are those of the definition, and whatever
 -- is made of them follows.
 use mathlib.Core.Path.{◌≡◌, sym, ap, ◌∙◌}
-use mathlib.Core.List.{List, ◌++◌}
+use mathlib.Core.List.{List}
 use Prim.Native.Nat.{ℕ}
 use native.Mathlib.Omega.{arith}
-use lib.ListN.{length, take, drop}
+use lib.ListN.{length, take}
 use lib.Seq.{length-take-le}
 use Rattle.lent.specs.Over.{over}
-use Rattle.lent.proofs.OverLaws.{front, drop-over, over-agree}
-use Rattle.lent.proofs.PieceLaws.{over_pieces, over_whole}
+use Rattle.lent.proofs.OverLaws.{front}
+use Rattle.lent.proofs.PieceLaws.{over_whole}
 use Rattle.grouping_marks.specs.Marks.{group_count, group_sizes, group_firsts}
 use Rattle.grouping_marks.proofs.MarksLaws.{count_le, length-sizes, length-firsts}
 use Rattle.grouping_hits.specs.RepeatingHitPatterns.{hit_marks, second_lengths, intervals}
-use Rattle.grouping_hits.proofs.LengthLaws.{length-second_lengths, length-intervals}
+use Rattle.grouping_hits.proofs.LengthLaws.{length-second_lengths}
 use Rattle.grouping_colour.specs.MonoStreak.{streak_marks}
 use Rattle.grouping_colour.specs.AlternatingMonoPattern.{pattern_marks, coupled}
 use Rattle.grouping_colour.proofs.LengthLaws.{length-streak_marks, length-pattern_marks, length-coupled}
@@ -41,16 +41,9 @@ seconds_whole lengths marks marks' old now l e f =
     ∙ ap (λ (m : List ℕ). over (second_lengths lengths m) old) e
     ∙ over_whole (second_lengths lengths marks') old (length-second_lengths lengths marks' ∙ sym l)
 
--- ---- the firsts, by way of the spare slice
-
-module _ (marks items : List ℕ) (groups : ℕ) (g : groups ≡ group_count marks) (l : length items ≡ length marks) where
-  firsts_long : length (group_firsts marks items) ≡ groups
-  firsts_long = length-firsts marks items (omega arith) ∙ sym g
-
-  pub firsts_kept : (spare now copied : List ℕ) → now ≡ over (group_firsts marks items) spare → copied ≡ take groups now
-      → copied ++ drop groups items ≡ over (group_firsts marks items) items
-  firsts_kept spare now copied e f =
-      rw (f, e, front (group_firsts marks items) spare groups firsts_long) (over_pieces (group_firsts marks items) items groups firsts_long)
+-- marks that are copied over all of a region
+pub copied : (marks old now : List ℕ) → length marks ≡ length old → now ≡ over marks old → now ≡ marks
+copied marks old now l e = e ∙ over_whole marks old l
 
 -- ---- the intervals
 
@@ -62,17 +55,9 @@ module _ (limit : ℕ) (lengths counts types marks found₀ : List ℕ) (h : ℕ
   firsts_front : (xs now : List ℕ) → length xs ≡ length marks → now ≡ over (group_firsts marks xs) xs → take h now ≡ group_firsts marks xs
   firsts_front xs now e f = rw f (front (group_firsts marks xs) xs h (length-firsts marks xs (omega arith) ∙ sym g))
 
-  pub intervals_whole : (counts' lengths' types' found₁ found₂ found : List ℕ) → counts' ≡ over (group_sizes marks) counts
-      → lengths' ≡ over (group_firsts marks lengths) lengths → found₁ ≡ over (group_firsts marks lengths) found₀
-      → types' ≡ over (group_firsts marks types) types → found₂ ≡ over (group_firsts marks types) found₁
-      → found ≡ over (intervals limit (take h counts') (take h lengths') (take h types')) found₂
+  pub intervals_whole : (counts' lengths' types' found : List ℕ) → counts' ≡ over (group_sizes marks) counts
+      → lengths' ≡ over (group_firsts marks lengths) lengths → types' ≡ over (group_firsts marks types) types
+      → found ≡ over (intervals limit (take h counts') (take h lengths') (take h types')) found₀
       → found ≡ over (intervals limit (group_sizes marks) (group_firsts marks lengths) (group_firsts marks types)) found₀
-  intervals_whole counts' lengths' types' found₁ found₂ found e₁ e₂ e₃ e₄ e₅ e₆ =
-      let v : List ℕ = intervals limit (group_sizes marks) (group_firsts marks lengths) (group_firsts marks types) in
-      let long : length v ≡ h =
-      length-intervals limit (group_sizes marks) (group_firsts marks lengths) (group_firsts marks types) ∙ length-sizes marks ∙ sym g in
-      let past₁ : drop h found₁ ≡ drop h found₀ =
-      rw e₃ (drop-over (group_firsts marks lengths) found₀ h (omega (arith, length-firsts marks lengths (omega arith)))) in
-      let past₂ : drop h found₂ ≡ drop h found₁ =
-      rw e₅ (drop-over (group_firsts marks types) found₁ h (omega (arith, length-firsts marks types (omega arith)))) in
-      rw (sizes_front counts' e₁, firsts_front lengths lengths' l e₂, firsts_front types types' t e₄) at e₆ ∙ over-agree v found₂ found₀ h long (past₂ ∙ past₁)
+  intervals_whole counts' lengths' types' found e₁ e₂ e₃ e₄ =
+      rw (sizes_front counts' e₁, firsts_front lengths lengths' l e₂, firsts_front types types' t e₃) at e₄

@@ -14,7 +14,7 @@ use grouping_colour::{alternating_mono_pattern, mono_streak};
 use grouping_hits::limit::SearchLimit;
 use grouping_marks::alike::Features;
 use grouping_marks::ends::group_ends;
-use grouping_marks::{group_firsts, group_numbers, group_places, group_sizes};
+use grouping_marks::{group_firsts, group_numbers, group_places, group_sizes, keep_firsts};
 use lent::fill;
 
 pub mod tables;
@@ -58,22 +58,9 @@ fn find_streaks(
     mono_streak::mark_streaks(kind, marks);
     widen(kind, streak);
     group_firsts(marks, streak, types);
-    streak.copy_from_slice(marks);
+    fill::copy(marks, streak);
     group_numbers(streak);
     group_sizes(marks, lengths)
-}
-
-// Puts what stands at each group's first item over the front of the items, by way of a spare slice. The groups' count
-// comes beside the marks: counted here it would be counted twice.
-#[tactic(auto, using(crate::proofs::StepLaws::fronts))]
-fn keep_firsts(marks: &[u16], groups: usize, items: &mut [u16], spare: &mut [u16])
-    requires groups { groups ≡ group_count marks.now }
-    requires regions { AsLong (length marks.now) (items.old ∷ spare.old ∷ []) }
-    ensures items { items.new ≡ over (group_firsts marks.now items.old) items.old }
-    ensures spare { spare.new ≡ over (group_firsts marks.now items.old) spare.old }
-{
-    group_firsts(marks, items, spare);
-    items[..groups].copy_from_slice(&spare[..groups]);
 }
 
 // From the streaks' lengths and types to alternating patterns: each streak's pattern and its place there, each
@@ -100,11 +87,11 @@ fn find_patterns(
 {
     alternating_mono_pattern::mark_patterns(lengths, marks);
     let patterns = group_sizes(marks, counts);
-    keep_firsts(marks, patterns, lengths, numbers);
-    keep_firsts(marks, patterns, types, numbers);
-    numbers.copy_from_slice(marks);
+    keep_firsts(marks, lengths);
+    keep_firsts(marks, types);
+    fill::copy(marks, numbers);
     group_numbers(numbers);
-    places.copy_from_slice(marks);
+    fill::copy(marks, places);
     group_places(places);
     patterns
 }
@@ -151,17 +138,17 @@ fn find_hits(
 {
     find_hit_marks(lengths, counts, types, marks);
     let hits = group_sizes(marks, counts);
-    keep_firsts(marks, hits, lengths, found);
-    keep_firsts(marks, hits, types, found);
+    keep_firsts(marks, lengths);
+    keep_firsts(marks, types);
     let patterns = Features {
         first: &counts[..hits],
         second: &lengths[..hits],
         third: &types[..hits],
     };
     grouping_hits::repetition_intervals(&patterns, limit, found);
-    lengths.copy_from_slice(marks);
+    fill::copy(marks, lengths);
     group_numbers(lengths);
-    types.copy_from_slice(marks);
+    fill::copy(marks, types);
     group_places(types);
     hits
 }

@@ -6,12 +6,14 @@ ghost use Rattle.lent.specs.passes.Bounds.{AllBelow};
 
 use crate::narrow::Narrow;
 
+// A loop, since the library's `copy_from_slice` calls `memmove`, which a host would have to bring.
 pub fn copy<T: Copy>(src: &[T], out: &mut [T])
     requires { length src.now ≤ length out.old }
     ensures { out.new ≡ over src.now out.old }
 {
-    let n = src.len();
-    out[..n].copy_from_slice(src);
+    for i in 0..src.len() {
+        out[i] = src[i];
+    }
 }
 
 // Sets each of the first n places to what f gives for it: the one loop that fills by the place. `iter_mut` with

@@ -6,7 +6,7 @@ use Prim.Native.Nat.{ℕ}
 use Rattle.lent.specs.Over.{over}
 use Rattle.grouping_marks.specs.Marks.{group_count, group_numbers, group_places, group_sizes, group_firsts}
 use Rattle.grouping_marks.proofs.MarksLaws.{count_le}
-use Rattle.grouping_preprocessor.proofs.StepLaws.{patterns_marked}
+use Rattle.grouping_preprocessor.proofs.StepLaws.{patterns_marked, copied}
 use Rattle.grouping_preprocessor.proofs.find_patterns.Goals as goal
 
 pub returns : goal.returns
@@ -17,10 +17,10 @@ returns c =
     record {
       count = c.group_sizes-patterns.ensures.count ∙ ap group_count m;
       few = omega (arith, c.group_sizes-patterns.ensures.count, count_le c.mark_patterns.new.marks);
-      lengths = c.keep_firsts.ensures.items ∙ ap (λ (l : List ℕ). over (group_firsts l x) x) m;
-      types = c.keep_firsts-2.ensures.items ∙ ap (λ (l : List ℕ). over (group_firsts l t) t) m;
+      lengths = c.keep_firsts.ensures ∙ ap (λ (l : List ℕ). over (group_firsts l x) x) m;
+      types = c.keep_firsts-2.ensures ∙ ap (λ (l : List ℕ). over (group_firsts l t) t) m;
       marks = m;
-      numbers = c.group_numbers.ensures ∙ ap group_numbers (c.copy_from_slice.ensures.after ∙ m);
-      places = c.group_places.ensures ∙ ap group_places (c.copy_from_slice-2.ensures.after ∙ m);
+      numbers = c.group_numbers.ensures ∙ ap group_numbers (copied _ _ _ (omega arith) c.copy.ensures ∙ m);
+      places = c.group_places.ensures ∙ ap group_places (copied _ _ _ (omega arith) c.copy-2.ensures ∙ m);
       counts = c.group_sizes-patterns.ensures.sizes ∙ ap (λ (l : List ℕ). over (group_sizes l) c.args.counts.now) m;
     }

@@ -7,7 +7,7 @@ use Rattle.lent.specs.Over.{over}
 use Rattle.grouping_marks.specs.Marks.{group_count, group_numbers, group_sizes, group_firsts}
 use Rattle.grouping_marks.proofs.MarksLaws.{count_le}
 use Rattle.grouping_colour.proofs.StreakListLaws.{streak_of_made, streak_lengths_made, streak_types_made}
-use Rattle.grouping_preprocessor.proofs.StepLaws.{streaks_marked}
+use Rattle.grouping_preprocessor.proofs.StepLaws.{streaks_marked, copied}
 use Rattle.grouping_preprocessor.proofs.find_streaks.Goals as goal
 
 pub returns : goal.returns
@@ -18,7 +18,7 @@ returns c =
       count = c.group_sizes.ensures.count ∙ ap group_count m;
       few = omega (arith, c.group_sizes.ensures.count, count_le c.mark_streaks.new.marks);
       marks = m;
-      streak = c.group_numbers.ensures ∙ ap group_numbers (c.copy_from_slice.ensures.after ∙ m) ∙ sym (streak_of_made k);
+      streak = c.group_numbers.ensures ∙ ap group_numbers (copied _ _ _ (omega arith) c.copy.ensures ∙ m) ∙ sym (streak_of_made k);
       types =
           c.group_firsts.ensures
           ∙ (λ i. over (group_firsts (m i) (c.widen.ensures i)) c.args.types.now)

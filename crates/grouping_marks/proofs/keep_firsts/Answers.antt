@@ -1,0 +1,13 @@
+-- A turn goes on with the open group or opens the next, whose first item was not stored over yet.
+use mathlib.Core.Path.{refl, ap, ◌∙◌}
+use mathlib.Core.Bool.{cond}
+use Prim.Native.Nat.{ℕ}
+use lib.Dec.{eqb}
+use lib.ListN.{get_or}
+use Rattle.grouping_marks.proofs.PassLaws.{firsts_turn, firsts_unread}
+use Rattle.grouping_marks.proofs.keep_firsts.Goals as goal
+
+pub loop-i-preserved : goal.loop-i-preserved
+loop-i-preserved c =
+    let read = ap (λ (item : ℕ). cond (eqb (get_or c.args.marks.now c.loop-i.i 0) 0) c.loop-i.first item) (firsts_unread c.loop-i.invariant refl) in
+    firsts_turn c.loop-i.invariant _ _ c.loop-i-test.true (c.by_mark-first.ensures ∙ read) c.opens-groups.ensures
