@@ -2,6 +2,7 @@
 #![tactic(auto)]
 
 ghost use Rattle.std.specs.Prelude.{◌≡◌};
+ghost use Rattle.std.specs.List.Sorted.{IsPermutation};
 ghost use Rattle.numeric_sort.specs.Ordered.{ordered, AllFinite};
 ghost use Rattle.numeric_sort.specs.passes.Sort.{comparison};
 
@@ -21,10 +22,31 @@ fn compare(a: &f64, b: &f64) -> Ordering
     }
 }
 
-// Puts the values in total order. That they are finite is a clause here and above: a type for it would hold a `&mut`.
-pub fn sort(values: &mut [f64])
+// Turns falling values round, so that they rise: up to 20 values the library puts in one by one, and each of falling
+// ones would go before all that are in. Of other values the first pairs mostly tell.
+fn turn_if_falling(values: &mut [f64])
+    ensures finite { AllFinite values.old → AllFinite values.new }
+    ensures turned { IsPermutation values.old values.new }
+{
+    if values.is_sorted_by(|a, b| !total_order(*a, *b)) {
+        values.reverse();
+    }
+}
+
+// The library's sort, by the total order.
+fn put_in_order(values: &mut [f64])
     requires { AllFinite values.old }
     ensures { values.new ≡ ordered values.old }
 {
     values.sort_unstable_by(compare);
+}
+
+// Puts the values in total order. That they are finite is a clause here and above: a type for it would hold a `&mut`.
+#[tactic(auto, using(crate::proofs::ShuffleLaws::finite_ordered))]
+pub fn sort(values: &mut [f64])
+    requires { AllFinite values.old }
+    ensures { values.new ≡ ordered values.old }
+{
+    turn_if_falling(values);
+    put_in_order(values);
 }

@@ -5,7 +5,7 @@ use Rattle.std.proofs.lemmas.List.Sorted.{answers_always}
 use Rattle.numeric_sort.specs.passes.Sort.{comparison}
 use Rattle.numeric_sort.proofs.OrderedLaws.{slice_numbers}
 use Rattle.numeric_sort.proofs.CompareLaws.{comparison_ranks, sorted_ordered}
-use Rattle.numeric_sort.proofs.sort.Goals as goal
+use Rattle.numeric_sort.proofs.put_in_order.Goals as goal
 
 pub returns : goal.returns
 returns c =
