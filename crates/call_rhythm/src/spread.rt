@@ -9,7 +9,7 @@ ghost use Rattle.call_rhythm.specs.passes.Tables.{TablesThere};
 ghost use Rattle.call_rhythm.specs.passes.Tables.{by_object, note_groups, note_patterns};
 
 use crate::tables::GroupCounts;
-use grouping_chart::object::{NoteIndex, is_note, note_after};
+use grouping_chart::object::{NoteIndex, ObjectIndex, is_note, note_after};
 
 // What a NonHit has in place of a number: C lends u16, which has no None.
 pub const NO_GROUP: u16 = u16::MAX;
@@ -26,7 +26,8 @@ pub fn spread<T: Copy, F: Fn(usize) -> T>(kind: &[u8], none: T, out: &mut [T], o
 {
     let mut next = NoteIndex(0);
     for (i, k) in kind.iter().enumerate() {
-        out[i] = if is_note(*k) { of_note(next.0) } else { none };
+        let object = ObjectIndex(i);
+        out[object.0] = if is_note(*k) { of_note(next.0) } else { none };
         next = note_after(*k, next);
     }
 }

@@ -8,7 +8,7 @@ ghost use Rattle.grouping_interval.specs.passes.Counting.{SumsFit, counted_first
 ghost use Rattle.grouping_interval.specs.passes.Counting.{counted_further, groups_counted};
 
 use crate::{last_taken, pair_class, rise};
-use grouping_chart::object::{NoteIndex, is_note};
+use grouping_chart::object::{NoteIndex, ObjectIndex, is_note};
 use numeric::near::near;
 
 // Puts each note's object number and delta in front. The result is how many notes there are. The loop goes by the
@@ -21,9 +21,10 @@ pub fn list_notes(kind: &[u8], delta: &[f64], objects: &mut [u16], values: &mut 
 {
     let mut note = NoteIndex(0);
     for (i, number) in kind.iter().enumerate() {
+        let object = ObjectIndex(i);
         if is_note(*number) {
-            objects[note.0] = i as u16;
-            values[note.0] = delta[i];
+            objects[note.0] = object.0 as u16;
+            values[note.0] = delta[object.0];
             note = NoteIndex(note.0 + 1);
         }
     }

@@ -4,7 +4,7 @@ ghost use Rattle.grouping_same_rhythm.specs.Own.{snapped};
 ghost use Rattle.grouping_same_rhythm.specs.passes.Owns.{none_yet, recent_with, GroupThere, ReachedIs};
 
 use crate::own::{modal_delta, snap};
-use grouping_interval::group_end;
+use grouping_interval::walk::IntervalWalk;
 
 // Own intervals of a group and the three before it, none where there is no group.
 #[derive(Clone, Copy)]
@@ -60,7 +60,7 @@ pub fn reach(deltas: &mut [f64], margin: f64, g: usize) -> Reached
     let mut end = 0;
     'groups: for _k in 0..=g {
         at = end;
-        end = group_end(deltas, margin, at);
+        end = IntervalWalk { values: deltas, at }.step(margin).at;
         let own = modal_delta(&mut deltas[at..end], margin);
         owns = owns.further(own, margin);
     }

@@ -2,7 +2,7 @@
 ghost use Rattle.std.specs.Prelude.{◌≡◌, ◌<◌, length};
 ghost use Rattle.grouping_same_rhythm.specs.SamePatterns.{pattern_interval, pattern_of};
 
-use grouping_interval::group_end;
+use grouping_interval::walk::IntervalWalk;
 
 // A group's pattern: its number, and its interval set against that of the pattern before.
 #[derive(Clone, Copy)]
@@ -32,11 +32,16 @@ pub fn pattern_at(intervals: &[f64], margin: f64, g: usize) -> Pattern
     let mut number = 0;
     let mut before = 0;
     let mut at = 0;
-    let mut end = group_end(intervals, margin, 0);
+    let mut end = IntervalWalk::new(intervals).step(margin).at;
     while end <= g {
         before = at;
         at = end;
-        end = group_end(intervals, margin, at);
+        end = IntervalWalk {
+            values: intervals,
+            at,
+        }
+        .step(margin)
+        .at;
         number += 1;
     }
     if number == 0 {
