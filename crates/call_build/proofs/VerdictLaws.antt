@@ -1,14 +1,15 @@
 -- The verdict on a call, case by case, in the order of the tests; it is never refused for a bad ratio, refusal 7.
 use mathlib.Core.Path.{◌≡◌, refl, sym, ◌∙◌}
 use mathlib.Core.Bool.{Bool, true, false, cond}
-use Prim.Native.Nat.{ℕ, ◌≤◌}
-use borrow.Author.Tests.{ltb-false, eqb-true}
+use Prim.Native.Nat.{ℕ, ◌≤◌, ◌<◌}
+use borrow.Author.Tests.{lt-ltb, le-ltb, ltb-false, eq-eqb, eqb-true}
 use lib.Dec.{eqb, ltb}
 use lib.ListN.{length}
 use lib.Ieee.{Float}
 use Rattle.std.specs.Prelude.{Err}
 use Rattle.lent.proofs.NeverLaws.{never}
 use Rattle.grouping_chart.specs.Refusal.{Check, passed, Verdict, accepted, refused, refused_or, in_order, objects_verdict}
+use Rattle.grouping_chart.specs.declared.refusal.Reason.{Reason}
 use Rattle.grouping_chart.specs.declared.refusal.Reason.TheVariants.{TooManyObjects, UnequalLengths, ShortSlice, BadRatio, BadRate}
 use Rattle.grouping_chart.specs.declared.refusal.Refusal.{Refusal}
 use Rattle.grouping_chart.proofs.RefusalLaws.{NotRatio, neither_ratio, objects_not_ratio, refused_before, passed_before}
@@ -37,6 +38,15 @@ module _ (rate : Float) (r : Raw) (short : Bool) where
       chart.all_passed (ltb 16386 (length r.kinds)) (eqb (length r.times) (length r.kinds)) (beside_refusal short rate)
       (objects_verdict (built_chart rate r)) h in
       record { few = ltb-false _ _ p.few; times = eqb-true _ _ p.same; long = long_enough short rate p.none; objects = p.good }
+
+  pub refused_1 : 16386 < length r.kinds → refused TooManyObjects ≡ verdict_of rate r short
+  unfolding verdict_of
+  refused_1 h = rw (lt-ltb _ _ h) refl
+
+  pub refused_beside : {reason : Reason} → length r.kinds ≤ 16386 → length r.times ≡ length r.kinds → Err reason ≡ beside_refusal short rate
+      → refused reason ≡ verdict_of rate r short
+  unfolding verdict_of
+  refused_beside few same told = rw (le-ltb _ _ few, eq-eqb _ _ same, ← told) refl
 
   -- by the tests before the objects, as they were answered
   module _ {equal : Bool} {beside : Check} {v : Verdict} (same : equal ≡ eqb (length r.times) (length r.kinds)) (asked : beside ≡ beside_refusal short rate)

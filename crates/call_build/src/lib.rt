@@ -51,8 +51,8 @@ fn fill_chart(
 {
     let n = timed.raw.size();
     fill::copy(timed.kinds(), built_kind);
-    fill::by_place(n, start, |i| timed.start(i));
-    fill::by_place(n, delta, |i| timed.delta(i));
+    objects::fill_starts(timed.raw.time, timed.rate, n, start);
+    objects::fill_deltas(timed.raw.time, timed.rate, n, delta);
     objects::fill_ratios(&delta[..n], ratio);
 }
 

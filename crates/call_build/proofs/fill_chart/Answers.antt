@@ -1,10 +1,8 @@
--- The four lists that the passes leave are those of the built chart; each place takes the start and the delta of its object.
+-- The four lists that the passes leave are those of the built chart.
 use mathlib.Core.Path.{sym, ap, ◌∙◌}
 use mathlib.Core.List.{List}
 use Prim.Native.Nat.{ℕ}
-use Rattle.std.proofs.Common.{rules}
 use Rattle.lent.specs.Over.{over}
-use Rattle.call_build.specs.Build.{start_at, delta_at}
 use Rattle.call_build.specs.Call.{memory}
 use Rattle.call_build.specs.Lent.{raw_seen}
 use Rattle.call_build.proofs.CallLaws.{chart-filled}
@@ -16,6 +14,6 @@ returns c =
     let m = memory c.args.built_kind.now c.args.start.now c.args.delta.now c.args.ratio.now in
     chart-filled _ r m (sym c.size-n.ensures)
     (c.copy.ensures ∙ ap (λ (l : List ℕ). over l c.args.built_kind.now) c.kinds.ensures)
-    (c.by_place.ensures (start_at c.args.timed.rate r.times) (λ i given h e. search rules))
-    (c.by_place-2.ensures (delta_at c.args.timed.rate r.times) (λ i given h e. search rules))
+    c.fill_starts.ensures
+    c.fill_deltas.ensures
     c.fill_ratios.ensures
