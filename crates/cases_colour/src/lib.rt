@@ -171,8 +171,8 @@ fn call_holds(asked: Asked, room: Room) -> bool
     let places = room.places();
     let mut ratios = [0.0; MOST_OBJECTS];
     read_ratios(room, &mut ratios);
-    let ones = [1.0; MOST_OBJECTS];
-    let chart = chart_with(room, &ones[..n], &ratios[..n]);
+    let ones = &[1.0; MOST_OBJECTS][..n];
+    let chart = chart_with(room, ones, &ratios[..n]);
     lent_holds(
         asked,
         room,

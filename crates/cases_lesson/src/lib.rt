@@ -128,8 +128,8 @@ fn call_holds(room: Room, part: &[u8]) -> bool
     let n = room.case.head.objects;
     let mut ratios = [0.0; MOST_OBJECTS];
     cases_colour::read_ratios(room, &mut ratios);
-    let ones = [1.0; MOST_OBJECTS];
-    let chart = cases_colour::chart_with(room, &ones[..n], &ratios[..n]);
+    let ones = &[1.0; MOST_OBJECTS][..n];
+    let chart = cases_colour::chart_with(room, ones, &ratios[..n]);
     let pairs = pair_count(part);
     let mut offset = [0; MOST_PAIRS];
     Column::numbers(part, 2, 2, pairs).read(&mut offset);

@@ -105,12 +105,12 @@ fn call_holds(room: Room, part: &[u8]) -> bool
     let mut starts = [0.0; MOST_OBJECTS];
     let mut deltas = [0.0; MOST_OBJECTS];
     cases_rhythm::read_times(n, body, &mut starts, &mut deltas);
-    let ones = [1.0; MOST_OBJECTS];
+    let ones = &[1.0; MOST_OBJECTS][..n];
     let chart = Chart {
         kind: &body[4..4 + n],
         start: &starts[..n],
         delta: &deltas[..n],
-        ratio: &ones[..n],
+        ratio: ones,
     };
     lent_holds(
         room,
