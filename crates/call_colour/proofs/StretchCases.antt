@@ -25,6 +25,9 @@ pub record StretchLies (kinds : List ℕ) (a b : ℕ) : Type 0 where
 pub from_to-sum : {A : Type 0} (a n : ℕ) (xs : List A) → from_to a (a + n) xs ≡ part a n xs
 from_to-sum a n xs = let e : a + n - a ≡ n = omega arith in ap (λ (k : ℕ). part a k xs) e
 
+-- for `stretch_refusal`, which has a stretch by its first object and how many it has
+pub ruleset stretch_parts = (from_to-sum)
+
 module _ (kinds : List ℕ) (a b : ℕ) where
   pub none_refused : b ≤ a → Err OutOfRange ≡ stretch_refusal kinds a b
   unfolding stretch_refusal

@@ -27,6 +27,7 @@ fn objects_of<T>(items: &[T], offset: usize, n: usize) -> &[T]
 }
 
 // Whether a stretch is good. One that is empty or ends past the chart is refused, then one that has no note.
+#[tactic(auto, unfolding(crate::specs::Stretch::stretch_refusal), using(crate::proofs::StretchCases::stretch_parts))]
 pub fn stretch_refusal(kind: &[u8], offset: usize, length: usize) -> Result<(), Reason>
     ensures { result ≡ stretch_refusal kind.now offset (offset + length) }
 {

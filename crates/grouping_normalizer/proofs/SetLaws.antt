@@ -2,15 +2,16 @@
 use mathlib.Core.Path.{◌≡◌, refl, ap, ◌∙◌}
 use mathlib.Core.Bool.{Bool, true, false, cond, ◌||◌}
 use mathlib.Core.List.{List, [], ◌∷◌, ◌++◌, append-nil}
-use Prim.Native.Nat.{ℕ, suc, ◌+◌, ◌-◌, ◌/◌, ◌%◌, ◌<◌}
+use Prim.Native.Nat.{ℕ, zero, suc, ◌+◌, ◌-◌, ◌/◌, ◌%◌, ◌<◌}
+use native.Mathlib.Numerals.{add-one}
 use native.Mathlib.Omega.{arith}
 use lib.IntN.{pos}
-use lib.ListN.{length, take, drop, get_or, length-drop}
-use lib.Seq.{append_snoc}
+use lib.ListN.{length, take, drop, get_or, drop_of_length-le}
+use lib.Seq.{drop-cons, append_snoc}
 use lib.Ieee.{Float, nan, fin, binary64, add, div}
 use borrow.Author.Tests.{eq-eqb, ne_eqb}
-use Rattle.std.specs.List.{list_any, prefix_len}
-use Rattle.std.proofs.lemmas.List.{take_all}
+use Rattle.std.specs.List.{list_any, prefix_len, range_with_len}
+use Rattle.std.proofs.lemmas.List.FromFn.{length-range_with_len}
 use Rattle.std.proofs.lemmas.List.Folds.{length-prefix_len}
 use Rattle.std.proofs.lemmas.List.Sums.{prefix_len-le-length}
 use Rattle.numeric.specs.Near.{is_near}
@@ -31,28 +32,36 @@ module _ (set : List Float) where
 
 -- ---- the end of a set
 
-running-prefix : (margin first : Float) (values : List Float) → prefix_len (λ v. is_near margin v first) values ≡ running margin first values
+-- from place k on: how many places without a break hold values that are near the first
+near_places : (margin first : Float) (values : List Float) (k n : ℕ) → k + n ≡ length values
+    → prefix_len (λ i. is_near margin (get_or values i nan) first) (range_with_len k n) ≡ running margin first (drop k values)
 unfolding running
-running-prefix margin first [] = refl
-running-prefix margin first (v ∷ values) = by (is_near margin v first) (running-prefix margin first values)
+near_places margin first values k zero e = rw (drop_of_length-le values {i = k} (omega (arith, e)))
+near_places margin first values k (suc n) e =
+    let behind : drop k values ≡ get_or values k nan ∷ drop (k + 1) values = rw (drop-cons values k nan (omega (arith, e)), add-one) in
+    rw behind (by (is_near margin (get_or values k nan) first) (near_places margin first values (k + 1) n (omega (arith, e))))
   where
-    by : (t : Bool) → prefix_len (λ v. is_near margin v first) values ≡ running margin first values
-        → cond t (1 + prefix_len (λ v. is_near margin v first) values) 0 ≡ cond t (suc (running margin first values)) 0
-    by true e = omega arith
-    by false e = refl
+    by : (t : Bool)
+        → prefix_len (λ i. is_near margin (get_or values i nan) first) (range_with_len (k + 1) n) ≡ running margin first (drop (k + 1) values)
+        → cond t (1 + prefix_len (λ i. is_near margin (get_or values i nan) first) (range_with_len (k + 1) n)) 0
+        ≡ cond t (suc (running margin first (drop (k + 1) values))) 0
+    by true h = omega arith
+    by false h = refl
 
--- the values behind the first that are near it without a break, counted, and the first one
-pub set_counted : (margin : Float) (values others : List Float) (r : ℕ) → 0 < length values → others ≡ take (length values - 1) (drop 1 values)
-    → r ≡ length (take (prefix_len (λ v. is_near margin v (get_or values 0 nan)) others) others) → SetLen margin values (1 + r)
+-- the places behind the first whose values are near it without a break, counted, and the first one
+pub set_counted : (margin : Float) (values : List Float) (r : ℕ) → 0 < length values
+    → r ≡ length (take (prefix_len (λ i. is_near margin (get_or values i nan) (get_or values 0 nan)) (range_with_len 1 (length values - 1)))
+    (range_with_len 1 (length values - 1)))
+    → SetLen margin values (1 + r)
 unfolding set_len
-set_counted margin values others r h o e =
-    let first = get_or values 0 nan in
-    let all : others ≡ drop 1 values = o ∙ take_all (length values - 1) (drop 1 values) (omega (arith, length-drop 1 values)) in
-    let count : r ≡ prefix_len (λ v. is_near margin v first) others = e ∙ length-prefix_len (λ v. is_near margin v first) others in
+set_counted margin values r h e =
+    let near : ℕ → Bool = λ i. is_near margin (get_or values i nan) (get_or values 0 nan) in
+    let places = range_with_len 1 (length values - 1) in
+    let count : r ≡ prefix_len near places = e ∙ length-prefix_len near places in
     record {
-      number = omega (arith, count, running-prefix margin first others, ap (running margin first) all);
+      number = omega (arith, count, near_places margin (get_or values 0 nan) values 1 (length values - 1) (omega arith));
       some = omega arith;
-      upto = omega (arith, count, prefix_len-le-length (λ v. is_near margin v first) others, ap length all, length-drop 1 values);
+      upto = omega (arith, count, prefix_len-le-length near places, length-range_with_len 1 (length values - 1));
     }
 
 -- ---- what is held

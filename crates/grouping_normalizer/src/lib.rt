@@ -37,15 +37,15 @@ fn distinct_values(values: &mut [f64]) -> usize
     k + 1
 }
 
-// How many values the set in front has: those before the first that is not near the first one of all.
+// How many values the set in front has: those before the first that is not near the first one of all. By
+// place, so that a must-fail edit can turn one.
 fn set_len(values: &[f64], margin: f64) -> usize
     requires { 0 < length values.now }
     ensures { SetLen margin values.now result }
 {
     let first = values[0];
-    1 + values[1..]
-        .iter()
-        .take_while(|v| near(**v, first, margin))
+    1 + (1..values.len())
+        .take_while(|i| near(values[*i], first, margin))
         .count()
 }
 
