@@ -12,7 +12,7 @@ ghost use Rattle.call_turns.specs.passes.Rooms.{note_indices, EndsRoom, TurnsRoo
 
 use grouping_chart::chart::Chart;
 use grouping_chart::object;
-use grouping_chart::object::NoteIndex;
+use grouping_chart::object::{NoteIndex, ObjectIndex};
 use grouping_chart::refusal::Refusal;
 use grouping_chart::room::judge;
 use grouping_chart::settings::Settings;
@@ -34,7 +34,8 @@ fn number_notes(kind: &[u8], numbers: &mut [u16]) -> u16
 {
     let mut next = NoteIndex(0);
     for (i, &k) in kind.iter().enumerate() {
-        numbers[i] = object::note_index(k, next).0 as u16;
+        let object = ObjectIndex(i);
+        numbers[object.0] = object::note_index(k, next).0 as u16;
         next = object::note_after(k, next);
     }
     next.0 as u16
