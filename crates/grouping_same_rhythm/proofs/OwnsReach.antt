@@ -81,11 +81,11 @@ module _ {margin : Float} {deltas₀ deltas : List Float} {g : ℕ} {recent : Re
       let z : k ≡ k + 0 = omega arith in
       rw (z, x.left 0, as_they_are margin deltas₀ end, ← x.same) (take-append-drop end deltas)
 
-  -- while k is at most g a group opens at `end`
-  pub reaching_open : {new : ℕ} → k ≤ g → new ≡ group_end margin deltas end → Opened margin deltas₀ deltas end new
-  reaching_open {new} h e =
+  -- while k is at most g a group opens at `end`, whatever the walk calls this place
+  pub reaching_open : {from new : ℕ} → k ≤ g → new ≡ group_end margin deltas from → from ≡ end → Opened margin deltas₀ deltas end new
+  reaching_open {new} h e here =
       let o : end < length deltas₀ = walk_open x.walk (omega (arith, x.asked.there)) in
-      let s : new ≡ group_end margin deltas₀ end = e ∙ end_same margin deltas deltas₀ end x.long x.same in
+      let s : new ≡ group_end margin deltas₀ end = e ∙ ap (group_end margin deltas) here ∙ end_same margin deltas deltas₀ end x.long x.same in
       let a : end < new = rw s (end_after_lem margin deltas₀ end o) in
       let w : new ≤ length deltas₀ = rw s (end-within margin deltas₀ end o) in
       let n : take (new - end) (drop end deltas) ≡ part end (new - end) deltas₀ = ap (take (new - end)) x.same ∙ part_pieces end (new - end) deltas₀ in
@@ -98,13 +98,13 @@ module _ {margin : Float} {deltas₀ deltas : List Float} {g : ℕ} {recent : Re
       }
 
   -- it is put in order
-  pub reaching_turn : {new : ℕ} {group : List Float} {own : Option Float} {newest : Recent} → k ≤ g → new ≡ group_end margin deltas end
+  pub reaching_turn : {from new : ℕ} {group : List Float} {own : Option Float} {newest : Recent} → k ≤ g → new ≡ group_end margin deltas from → from ≡ end
       → Modal margin (take (new - end) (drop end deltas)) group own → newest ≡ recent_with (snapped margin own recent.newest) recent
       → length group ≡ length (take (new - end) (drop end deltas))
       → Reaching margin deltas₀ (put_mid end (new - end) deltas group) g newest end new (suc k)
   unfolding settled_up_to
-  reaching_turn {new} {group} {own} {newest} h e m r l =
-      let o : Opened margin deltas₀ deltas end new = reaching_open h e in
+  reaching_turn {new} {group} {own} {newest} h e here m r l =
+      let o : Opened margin deltas₀ deltas end new = reaching_open h e here in
       let rest : List (List Float) = groups_from margin deltas₀ deltas₀ new in
       let first : List Float = part end (new - end) deltas₀ in
       let b : end < length deltas₀ = omega (arith, x.long) in
