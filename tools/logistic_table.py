@@ -54,7 +54,7 @@ def bits(value):
 def source(table):
     """repr gives the shortest decimal that reads back as the same f64."""
     rows = [f"    {value!r}," for value in table]
-    return "\n".join([f"const T: [f64; {STEPS}] = [", *rows, "];"])
+    return "\n".join([f"static T: [f64; {STEPS}] = [", *rows, "];"])
 
 
 def spec(table):

@@ -8,7 +8,7 @@ cd "$(dirname "$0")/../.."
 # what an earlier build left may be of other files
 (cd crates/grouping_normalizer && rt lib)
 
-# so that an array would be seen: the table of numeric is one, and the library's stable sort has some
+# so that an array would be seen: the table of numeric is one, which is borrowed, and the library's stable sort has some of its own
 if ! grep -q '^"numeric::logistic::LogisticTable::new" array' <<< "$(tests/grouping/functions.py numeric)"; then
     echo "functions.py does not show the array of numeric's table" >&2
     exit 1

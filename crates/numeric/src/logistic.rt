@@ -2,7 +2,7 @@
 ghost use Rattle.std.specs.Prelude.{◌≡◌};
 ghost use Rattle.numeric.specs.Logistic.{logistic_table, logistic_at};
 
-const T: [f64; 264] = [
+static T: [f64; 264] = [
     0.9956644579002999,
     0.9380968325850064,
     0.5,
@@ -269,19 +269,19 @@ const T: [f64; 264] = [
     7.593073934298546e-309,
 ];
 
-// T's values, in the caller's memory: who looks steps up makes it once, as `T[n]` would build T anew each time.
+// T, where who looks steps up finds it: it lies in the program once, and nothing is built of it.
 #[derive(Clone, Copy)]
 pub struct LogisticTable {
-    pub values: [f64; 264],
-    ghost is_table: { values ≡ logistic_table },
+    pub values: &'static [f64; 264],
+    ghost is_table: { values.now ≡ logistic_table },
 }
 
 impl LogisticTable {
     #[tactic(auto, unfolding(crate::specs::Logistic::logistic_table))]
     pub fn new() -> LogisticTable
-        ensures { result.values ≡ logistic_table }
+        ensures { result.values.now ≡ logistic_table }
     {
-        LogisticTable { values: T }
+        LogisticTable { values: &T }
     }
 
     // T(n) for a step below 264, and +0.0 from there on. By a match with ranges, as the scope asks, and not by `get`.
