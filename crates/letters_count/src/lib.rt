@@ -6,6 +6,8 @@ ghost use Rattle.letters_grammar.specs.Reading.{repeated};
 ghost use Rattle.letters_count.specs.passes.Counts.{Room, CountRead, digit_at, count_at, Repeating};
 ghost use Rattle.letters_count.specs.Numbers.{number_of};
 
+use lent::fill;
+
 // The most objects of a text.
 pub const MOST_OBJECTS: usize = 1024;
 
@@ -125,6 +127,7 @@ fn repeat(kinds: &mut [u8], start: usize, end: usize, n: usize)
     for k in 1..n {
         // the last of them, which ends at `to`
         let to = start + k * size;
-        kinds.copy_within(to - size..to, to);
+        let (stored, free) = kinds.split_at_mut(to);
+        fill::copy(&stored[to - size..], free);
     }
 }

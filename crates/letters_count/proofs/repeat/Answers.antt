@@ -8,4 +8,6 @@ loop-k-init c = blocks_start _ c.requires
 
 pub loop-k-preserved : goal.loop-k-preserved
 loop-k-preserved c =
-    blocks_turn _ c.requires _ c.loop-k.k (omega arith) (omega arith) c.loop-k-test.true c.copy_within.ensures.after c.loop-k.invariant
+    let cut = c.split_at_mut-stored in
+    blocks_turn _ c.requires _ cut.result.0.now cut.result.1.now c.loop-k.k (omega arith) c.loop-k-test.true cut.ensures.front c.copy.ensures
+    c.loop-k.invariant
