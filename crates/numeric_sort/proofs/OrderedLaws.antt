@@ -47,6 +47,9 @@ ordered-few [] h = refl
 ordered-few (x ∷ []) h = refl
 ordered-few (x ∷ y ∷ xs) h = absurd (omega arith)
 
+-- the same, by a name that an attribute can have: for a `sort` that leaves such values be
+pub ruleset few = (ordered-few)
+
 pub length-ordered : (xs : List Float) → length (ordered xs) ≡ length xs
 unfolding ordered
 length-ordered [] = refl

@@ -23,10 +23,12 @@ fn compare(a: &f64, b: &f64) -> Ordering
 }
 
 // Turns falling values round, so that they rise: up to 20 values the library puts in one by one, and each of falling
-// ones would go before all that are in. Of other values the first pairs mostly tell.
+// ones would go before all that are in. Of other values the first pairs mostly tell. Either way their order stays.
+#[tactic(auto, using(crate::proofs::ShuffleLaws::finite_ordered))]
 fn turn_if_falling(values: &mut [f64])
     ensures finite { AllFinite values.old → AllFinite values.new }
     ensures turned { IsPermutation values.old values.new }
+    ensures order { AllFinite values.old → ordered values.new ≡ ordered values.old }
 {
     if values.is_sorted_by(|a, b| !total_order(*a, *b)) {
         values.reverse();
@@ -42,7 +44,7 @@ fn put_in_order(values: &mut [f64])
 }
 
 // Puts the values in total order. That they are finite is a clause here and above: a type for it would hold a `&mut`.
-#[tactic(auto, using(crate::proofs::ShuffleLaws::finite_ordered))]
+#[tactic(auto, using(crate::proofs::OrderedLaws::few))]
 pub fn sort(values: &mut [f64])
     requires { AllFinite values.old }
     ensures { values.new ≡ ordered values.old }
