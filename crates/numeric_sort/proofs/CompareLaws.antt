@@ -8,6 +8,7 @@ use lib.Ieee.{Float, nan, inf, fin, is_nan}
 use Rattle.std.specs.Cmp.{IsStrictWeakOrder, bool_cmp_total}
 use Rattle.std.specs.Ordering.{is_lt, bool_cmp, nan_last_cmp, then_cmp, on}
 use Rattle.std.specs.declared.cmp.Ordering.{Ordering}
+use Rattle.std.specs.declared.cmp.Ordering.TheVariants.{Less}
 use Rattle.std.proofs.lemmas.Float.{nan_last}
 use Rattle.std.proofs.lemmas.List.Sorted.{ranks_by, sorted_far}
 use Rattle.std.specs.List.Sorted.{IsPermutation, IsSortedBy}
@@ -19,7 +20,7 @@ use Rattle.numeric_sort.proofs.OrderedLaws.{number_at, ordered_same}
 use Rattle.numeric_sort.proofs.ShuffleLaws.{numbers-shuffled, ordered-shuffled}
 use Rattle.std.proofs.lemmas.Cmp.{then_total, on_total}
 use Rattle.numeric.specs.TotalOrder.{total_order}
-use Rattle.numeric.proofs.order.Keys.{plus, compared_by_keys}
+use Rattle.numeric.proofs.order.Keys.{plus, compared_by_keys, other_before}
 use Rattle.numeric.proofs.Values.{Number, number_no_nan}
 use Rattle.numeric.proofs.order.Laws.{total}
 use Rattle.numeric_sort.specs.passes.Sort.{comparison}
@@ -39,6 +40,17 @@ comparison_by_keys (inf s) (fin t n d) = compared_by_keys (inf s) (fin t n d) tt
 comparison_by_keys (fin s m e) nan = refl
 comparison_by_keys (fin s m e) (inf t) = compared_by_keys (fin s m e) (inf t) tt tt
 comparison_by_keys (fin s m e) (fin t n d) = compared_by_keys (fin s m e) (fin t n d) tt tt
+
+-- of two numbers, where the second does not stand at or before the first
+pub comparison-less : (x y : Float) → is_nan x ≡ false → is_nan y ≡ false → total_order y x ≡ false → Less ≡ comparison x y
+unfolding is_nan
+comparison-less nan y p q h = absurd (true≢false p)
+comparison-less (inf s) nan p q h = absurd (true≢false q)
+comparison-less (inf s) (inf t) p q h = rw (h, other_before (inf s) (inf t) tt tt h) refl
+comparison-less (inf s) (fin t n d) p q h = rw (h, other_before (inf s) (fin t n d) tt tt h) refl
+comparison-less (fin s m e) nan p q h = absurd (true≢false q)
+comparison-less (fin s m e) (inf t) p q h = rw (h, other_before (fin s m e) (inf t) tt tt h) refl
+comparison-less (fin s m e) (fin t n d) p q h = rw (h, other_before (fin s m e) (fin t n d) tt tt h) refl
 
 pub comparison_ranks : IsStrictWeakOrder (λ x y. is_lt (comparison x y))
 comparison_ranks =

@@ -10,20 +10,26 @@ use numeric::order::total_order;
 use std::cmp::Ordering;
 
 // How two values stand in the total order. It has no place for a NaN, which stands last here: `sort_unstable_by` asks
-// that any two values can be compared. `total_cmp` behind the test would be no plainer, as it is a second order, which
-// a law would have to tie to `total_order`; `OrderedFloat` takes the two zeros for equal.
+// that any two values can be compared. A sort asks whether the first is less, and that one test of the order tells.
+// `total_cmp` behind the first test would be no plainer, as it is a second order, which a law would have to tie to
+// `total_order`; `OrderedFloat` takes the two zeros for equal.
 fn compare(a: &f64, b: &f64) -> Ordering
     ensures { result ≡ comparison a.now b.now }
 {
     if a.is_nan() || b.is_nan() {
-        a.is_nan().cmp(&b.is_nan())
-    } else {
-        total_order(*b, *a).cmp(&total_order(*a, *b))
+        return a.is_nan().cmp(&b.is_nan());
     }
+    if !total_order(*b, *a) {
+        return Ordering::Less;
+    }
+    if !total_order(*a, *b) {
+        return Ordering::Greater;
+    }
+    Ordering::Equal
 }
 
 // Turns falling values round, so that they rise: up to 20 values the library puts in one by one, and each of falling
-// ones would go before all that are in. Of other values the first pairs mostly tell. Either way their order stays.
+// ones would go before all that are in. Of other values the first pairs mostly tell. In order they are the same list.
 #[tactic(auto, using(crate::proofs::ShuffleLaws::finite_ordered))]
 fn turn_if_falling(values: &mut [f64])
     ensures finite { AllFinite values.old → AllFinite values.new }

@@ -1,7 +1,7 @@
 -- The total order of two numbers, asked both ways, is the order by value and then by sign.
 use Rattle.std.proofs.Common.{◌≡◌, refl, ap, ◌∙◌, Bool, true, false}
 use mathlib.Core.Logic.{⊎_elim}
-use mathlib.Core.Bool.{not, ◌&&◌, ◌||◌, cond}
+use mathlib.Core.Bool.{not, ◌&&◌, ◌||◌, cond, true≢false}
 use lib.Dec.{T}
 use lib.Ieee.{Float, lt, eq}
 use Rattle.std.specs.Float.{NotNan}
@@ -38,6 +38,26 @@ compared_by_keys x y p q =
     ∙ keys (lt x y) (lt y x) (eq x y) (λ h k. lt_irrefl x (lt_trans x y x h k)) (eq-not_lt x y) (λ e. eq-not_lt y x (eq_flip x y e))
     (λ h k. ⊎_elim (λ a. absurd (both (lt y x) a k)) (λ e. eq_flip y x e) (lt-or-eq y x (le_of_not-lt x y p q h)))
     (negative x) (negative y)
+  where
+    both : (b : Bool) → T b → T (not b) → ⊥
+    both true h k = k
+    both false h k = h
+
+-- where one of two numbers does not stand at or before the other, the other stands at or before it
+other : (l g e s t : Bool) → (T (not l) → T (not g) → T e) → (g || (e && (t || not s))) ≡ false → (l || (e && (s || not t))) ≡ true
+other true g e s t d h = refl
+other false true e s t d h = absurd (true≢false h)
+other false false false s t d h = absurd (d tt tt)
+other false false true true t d h = refl
+other false false true false true d h = absurd (true≢false h)
+other false false true false false d h = refl
+
+pub other_before : (x y : Float) → NotNan x → NotNan y → total_order y x ≡ false → total_order x y ≡ true
+unfolding total_order
+other_before x y p q h =
+    other (lt x y) (lt y x) (eq x y) (negative x) (negative y)
+    (λ l g. ⊎_elim (λ a. absurd (both (lt y x) a g)) (λ e. eq_flip y x e) (lt-or-eq y x (le_of_not-lt x y p q l)))
+    (ap (λ e. lt y x || (e && (negative y || not (negative x)))) (floats_per.symm x y) ∙ h)
   where
     both : (b : Bool) → T b → T (not b) → ⊥
     both true h k = k
